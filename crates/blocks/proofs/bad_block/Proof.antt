@@ -1,0 +1,92 @@
+-- `blocks::bad_block` meets its contract. Assumes nothing.
+use Rattle.form.specs.Block.{kindOf, blocksBelow, stray, badBlock}
+use Prim.Native.Nat.{ℕ}
+use mathlib.Core.Path.{_≡_, ap, _∙_}
+use denote.Ref.{now}
+use lib.Dec.{ltb, leb, eqb}
+use Rattle.form.proofs.Tests.{or-of, and-of}
+use native.Mathlib.Omega.{arith}
+use borrow.Author.Needs.{needs}
+use Rattle.blocks.proofs.bad_block.Statement.{statement}
+use Rattle.blocks.proofs.bad_block.Tie as tie
+
+mul-byte-at : tie.Need-mul-byte-at
+mul-byte-at c = search needs
+
+byte-at-requires : tie.Need-byte-at-requires
+byte-at-requires c κs = search needs
+
+blocks-below-requires : tie.Need-blocks-below-requires
+blocks-below-requires c κs = search needs
+
+mul-byte-at-2 : tie.Need-mul-byte-at-2
+mul-byte-at-2 c = search needs
+
+add-byte-at : tie.Need-add-byte-at
+add-byte-at c = search needs
+
+byte-at-requires-2 : tie.Need-byte-at-requires-2
+byte-at-requires-2 c κs = search needs
+
+kind-falls-requires : tie.Need-kind-falls-requires
+kind-falls-requires c κs = search needs
+
+wrong-end-requires : tie.Need-wrong-end-requires
+wrong-end-requires c κs = search needs
+
+bad-count-requires : tie.Need-bad-count-requires
+bad-count-requires c κs = search needs
+
+not-filled-requires : tie.Need-not-filled-requires
+not-filled-requires c κs = search needs
+
+stray-records-requires : tie.Need-stray-records-requires
+stray-records-requires c κs = search needs
+
+mul-stray-in : tie.Need-mul-stray-in
+mul-stray-in c = search needs
+
+add-stray-in : tie.Need-add-stray-in
+add-stray-in c = search needs
+
+stray-in-requires : tie.Need-stray-in-requires
+stray-in-requires c κs = search needs
+
+returns : tie.Need-returns
+unfolding badBlock stray
+returns c =
+    let x = c .before .before .before .before .before .before in
+    let a = x .before .before .before .before .args in
+    let e : x .before .blocks-below .result ≡ blocksBelow (kindOf (now (a .bytes)) (a .b)) (now (a .bytes)) (a .b) =
+    x .before .blocks-below .ensures ∙ ap (λ (k : ℕ). blocksBelow k (now (a .bytes)) (a .b)) (x .before .before .byte-at .ensures .0) in
+    or-of
+    (or-of
+    (or-of
+    (or-of
+    (or-of
+    (or-of (c .before .before .before .before .before .kind-falls .ensures) (c .before .before .before .before .wrong-end .ensures))
+    (ap (λ (n : ℕ). leb 3 n) e))
+    (c .before .before .before .bad-count .ensures))
+    (c .before .before .not-filled .ensures))
+    (and-of (ap (λ (n : ℕ). eqb n 2) e) (ap (λ (n : ℕ). ltb 8 n) (x .byte-at2 .ensures .0))))
+    (or-of (c .before .stray-records .ensures) (c .stray-in .ensures))
+
+pub bad-block-spec : {M : Type 1} → statement M
+bad-block-spec =
+    tie.close
+    (tie.spec
+    mul-byte-at
+    byte-at-requires
+    blocks-below-requires
+    mul-byte-at-2
+    add-byte-at
+    byte-at-requires-2
+    kind-falls-requires
+    wrong-end-requires
+    bad-count-requires
+    not-filled-requires
+    stray-records-requires
+    mul-stray-in
+    add-stray-in
+    stray-in-requires
+    returns)

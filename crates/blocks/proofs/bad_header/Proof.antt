@@ -1,0 +1,68 @@
+-- `blocks::bad_header` meets its contract. Assumes nothing.
+use Rattle.form.specs.Block.{badHeader}
+use native.Mathlib.Omega.{arith}
+use borrow.Author.Needs.{needs}
+use Rattle.blocks.proofs.bad_header.Statement.{statement}
+use Rattle.blocks.proofs.bad_header.Tie as tie
+
+mul-byte-at : tie.Need-mul-byte-at
+mul-byte-at c = search needs
+
+byte-at-requires : tie.Need-byte-at-requires
+byte-at-requires c κs = search needs
+
+mul-two-at : tie.Need-mul-two-at
+mul-two-at c = search needs
+
+add-two-at : tie.Need-add-two-at
+add-two-at c = search needs
+
+two-at-requires : tie.Need-two-at-requires
+two-at-requires c κs = search needs
+
+cast-result : tie.Need-cast-result
+cast-result c = search needs
+
+mul-two-at-2 : tie.Need-mul-two-at-2
+mul-two-at-2 c = search needs
+
+add-two-at-2 : tie.Need-add-two-at-2
+add-two-at-2 c = search needs
+
+two-at-requires-2 : tie.Need-two-at-requires-2
+two-at-requires-2 c κs = search needs
+
+cast-result-2 : tie.Need-cast-result-2
+cast-result-2 c = search needs
+
+mul-two-at-3 : tie.Need-mul-two-at-3
+mul-two-at-3 c = search needs
+
+add-two-at-3 : tie.Need-add-two-at-3
+add-two-at-3 c = search needs
+
+two-at-requires-3 : tie.Need-two-at-requires-3
+two-at-requires-3 c κs = search needs
+
+returns : tie.Need-returns
+unfolding badHeader
+returns c = cc
+
+pub bad-header-spec : {M : Type 1} → statement M
+bad-header-spec =
+    tie.close
+    (tie.spec
+    mul-byte-at
+    byte-at-requires
+    mul-two-at
+    add-two-at
+    two-at-requires
+    cast-result
+    mul-two-at-2
+    add-two-at-2
+    two-at-requires-2
+    cast-result-2
+    mul-two-at-3
+    add-two-at-3
+    two-at-requires-3
+    returns)

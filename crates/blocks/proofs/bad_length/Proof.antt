@@ -1,0 +1,14 @@
+-- `blocks::bad_length` meets its contract. Assumes nothing.
+use mathlib.Core.Path.{refl}
+use Rattle.form.specs.Block.{badLength}
+use borrow.Author.Needs.{needs}
+use native.Mathlib.Omega.{arith}
+use Rattle.blocks.proofs.bad_length.Statement.{statement}
+use Rattle.blocks.proofs.bad_length.Tie as tie
+
+returns : tie.Need-returns
+unfolding badLength
+returns c = refl
+
+pub bad-length-spec : {M : Type 1} → statement M
+bad-length-spec = tie.close (tie.spec returns)

@@ -1,0 +1,22 @@
+-- `blocks::wrong_end` meets its contract. Assumes nothing.
+use Rattle.form.specs.Block.{wrongEnd}
+use native.Mathlib.Omega.{arith}
+use borrow.Author.Needs.{needs}
+use Rattle.blocks.proofs.wrong_end.Statement.{statement}
+use Rattle.blocks.proofs.wrong_end.Tie as tie
+
+mul-byte-at : tie.Need-mul-byte-at
+mul-byte-at c = search needs
+
+byte-at-requires : tie.Need-byte-at-requires
+byte-at-requires c κs = search needs
+
+add-last : tie.Need-add-last
+add-last c = search needs
+
+returns : tie.Need-returns
+unfolding wrongEnd
+returns c = cc
+
+pub wrong-end-spec : {M : Type 1} → statement M
+wrong-end-spec = tie.close (tie.spec mul-byte-at byte-at-requires add-last returns)

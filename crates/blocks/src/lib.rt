@@ -1,0 +1,219 @@
+// Rules 1 to 4: the length, and each block's check, header, kind, count and zero bytes.
+ghost use mathlib.Core.Path.{_≡_};
+ghost use Prim.Native.Nat.{_+_, _*_, _≤_, _<_};
+ghost use lib.ListN.{length};
+ghost use Rattle.form.specs.First.{first, any};
+ghost use Rattle.form.specs.Layout.{layout, strayAt};
+ghost use Rattle.form.specs.Block.{blocks, badLength, checkDue, badCheck, badHeader, kindFalls, wrongEnd, blocksBelow, badCount, notFilled, strayRecord, stray, badBlock};
+use form::Spot;
+use form::byte_at;
+use form::four_at;
+use form::stray_in;
+use form::two_at;
+use form::where_same;
+
+pub fn bad_length(bytes: &[u8]) -> bool
+    ensures { λ r. ⌜ r ≡ badLength (now (bytes .entry)) ⌝ }
+{
+    let n = bytes.len();
+    (n == 0) | (5120 < n) | (n % 512 != 0)
+}
+
+// Four columns, each with a running sum from the last row of four bytes to the first: no product, and four sums side by side.
+fn check_due(bytes: &[u8], b: usize) -> u32
+    requires { ⌜ 512 * b + 512 ≤ length (now bytes) ⌝ }
+    ensures { λ r. ⌜ r ≡ checkDue (now (bytes .entry)) b ⌝ }
+{
+    let mut w: u32 = 0;
+    let mut x: u32 = 0;
+    let mut y: u32 = 0;
+    let mut z: u32 = 0;
+    let mut ws: u32 = 0;
+    let mut xs: u32 = 0;
+    let mut ys: u32 = 0;
+    let mut zs: u32 = 0;
+    let mut rows: usize = 127;
+    while 0 < rows {
+        rows -= 1;
+        let at = 512 * b + 4 * rows;
+        w += byte_at(bytes, at);
+        x += byte_at(bytes, at + 1);
+        y += byte_at(bytes, at + 2);
+        z += byte_at(bytes, at + 3);
+        ws += w;
+        xs += x;
+        ys += y;
+        zs += z;
+    }
+    4 * (ws + xs + ys + zs) - (3 * w + 2 * x + y)
+}
+
+fn bad_check(bytes: &[u8], b: usize) -> bool
+    requires { ⌜ b < blocks (now bytes) ⌝ }
+    ensures { λ r. ⌜ r ≡ badCheck (now (bytes .entry)) b ⌝ }
+{
+    four_at(bytes, 512 * b + 508) != check_due(bytes, b)
+}
+
+pub fn first_bad_check(bytes: &[u8]) -> Spot
+    requires { ⌜ length (now bytes) ≤ 5120 ⌝ }
+    ensures { λ r. ⌜ r ≡ first (badCheck (now (bytes .entry))) (blocks (now (bytes .entry))) ⌝ }
+{
+    let n = bytes.len() / 512;
+    let mut b: usize = 0;
+    while b < n {
+        if bad_check(bytes, b) {
+            return Spot::At(b as u32);
+        }
+        b += 1;
+    }
+    Spot::Nowhere
+}
+
+fn bad_header(bytes: &[u8], b: usize) -> bool
+    requires { ⌜ b < blocks (now bytes) ⌝ }
+    ensures { λ r. ⌜ r ≡ badHeader (now (bytes .entry)) b ⌝ }
+{
+    let kind = byte_at(bytes, 512 * b);
+    (kind < 1)
+        | (4 < kind)
+        | (two_at(bytes, 512 * b + 2) as usize != b)
+        | (two_at(bytes, 512 * b + 4) as usize != bytes.len() / 512)
+        | (two_at(bytes, 512 * b + 6) != 1)
+}
+
+pub fn first_bad_header(bytes: &[u8]) -> Spot
+    requires { ⌜ length (now bytes) ≤ 5120 ⌝ }
+    ensures { λ r. ⌜ r ≡ first (badHeader (now (bytes .entry))) (blocks (now (bytes .entry))) ⌝ }
+{
+    let n = bytes.len() / 512;
+    let mut b: usize = 0;
+    while b < n {
+        if bad_header(bytes, b) {
+            return Spot::At(b as u32);
+        }
+        b += 1;
+    }
+    Spot::Nowhere
+}
+
+fn kind_falls(bytes: &[u8], b: usize) -> bool
+    requires { ⌜ b < blocks (now bytes) ⌝ }
+    ensures { λ r. ⌜ r ≡ kindFalls (now (bytes .entry)) b ⌝ }
+{
+    if 0 < b {
+        return byte_at(bytes, 512 * b) < byte_at(bytes, 512 * (b - 1));
+    }
+    false
+}
+
+fn wrong_end(bytes: &[u8], b: usize) -> bool
+    requires { ⌜ b < blocks (now bytes) ⌝ }
+    ensures { λ r. ⌜ r ≡ wrongEnd (now (bytes .entry)) b ⌝ }
+{
+    let four = byte_at(bytes, 512 * b) == 4;
+    let last = b + 1 == bytes.len() / 512;
+    (four & !last) | (last & !four)
+}
+
+fn blocks_below(bytes: &[u8], kind: u32, b: usize) -> u32
+    requires { ⌜ (b < blocks (now bytes)) × (length (now bytes) ≤ 5120) ⌝ }
+    ensures { λ r. ⌜ r ≡ blocksBelow kind (now (bytes .entry)) b ⌝ }
+{
+    let mut n: u32 = 0;
+    let mut a: usize = 0;
+    while a < b {
+        n += where_same(byte_at(bytes, 512 * a), kind, 1);
+        a += 1;
+    }
+    n
+}
+
+fn bad_count(bytes: &[u8], b: usize) -> bool
+    requires { ⌜ b < blocks (now bytes) ⌝ }
+    ensures { λ r. ⌜ r ≡ badCount (now (bytes .entry)) b ⌝ }
+{
+    let count = byte_at(bytes, 512 * b + 1);
+    let kind = byte_at(bytes, 512 * b);
+    (count < 1) | (12 < count) | ((kind == 4) & (count != 1))
+}
+
+fn not_filled(bytes: &[u8], b: usize) -> bool
+    requires { ⌜ b < blocks (now bytes) ⌝ }
+    ensures { λ r. ⌜ r ≡ notFilled (now (bytes .entry)) b ⌝ }
+{
+    if b + 1 < bytes.len() / 512 {
+        let next = byte_at(bytes, 512 * (b + 1));
+        return (next == byte_at(bytes, 512 * b)) & (byte_at(bytes, 512 * b + 1) != 12);
+    }
+    false
+}
+
+// In a used record: before a field and after the last.
+fn stray_at(bytes: &[u8], kind: u32, at: usize) -> bool
+    requires { ⌜ at + 40 ≤ length (now bytes) ⌝ }
+    ensures { λ r. ⌜ r ≡ strayAt (layout kind) (now (bytes .entry)) at ⌝ }
+{
+    match kind {
+        1 => stray_in(bytes, at + 36, 4),
+        2 => stray_in(bytes, at + 5, 1) | stray_in(bytes, at + 14, 26),
+        3 => stray_in(bytes, at + 10, 2) | stray_in(bytes, at + 20, 20),
+        4 => stray_in(bytes, at, 4) | stray_in(bytes, at + 16, 24),
+        _ => stray_in(bytes, at, 40),
+    }
+}
+
+fn stray_record(bytes: &[u8], b: usize, r: usize) -> bool
+    requires { ⌜ (b < blocks (now bytes)) × (r < 12) ⌝ }
+    ensures { λ x. ⌜ x ≡ strayRecord (now (bytes .entry)) b r ⌝ }
+{
+    if r < byte_at(bytes, 512 * b + 1) as usize {
+        stray_at(bytes, byte_at(bytes, 512 * b), 512 * b + 8 + 40 * r)
+    } else {
+        stray_in(bytes, 512 * b + 8 + 40 * r, 40)
+    }
+}
+
+fn stray_records(bytes: &[u8], b: usize) -> bool
+    requires { ⌜ b < blocks (now bytes) ⌝ }
+    ensures { λ r. ⌜ r ≡ any (strayRecord (now (bytes .entry)) b) 12 ⌝ }
+{
+    let mut r: usize = 0;
+    while r < 12 {
+        if stray_record(bytes, b, r) {
+            return true;
+        }
+        r += 1;
+    }
+    false
+}
+
+fn bad_block(bytes: &[u8], b: usize) -> bool
+    requires { ⌜ (b < blocks (now bytes)) × (length (now bytes) ≤ 5120) ⌝ }
+    ensures { λ r. ⌜ r ≡ badBlock (now (bytes .entry)) b ⌝ }
+{
+    let earlier = blocks_below(bytes, byte_at(bytes, 512 * b), b);
+    let count = byte_at(bytes, 512 * b + 1);
+    kind_falls(bytes, b)
+        | wrong_end(bytes, b)
+        | (3 <= earlier)
+        | bad_count(bytes, b)
+        | not_filled(bytes, b)
+        | ((earlier == 2) & (8 < count))
+        | (stray_records(bytes, b) | stray_in(bytes, 512 * b + 488, 20))
+}
+
+pub fn first_bad_block(bytes: &[u8]) -> Spot
+    requires { ⌜ length (now bytes) ≤ 5120 ⌝ }
+    ensures { λ r. ⌜ r ≡ first (badBlock (now (bytes .entry))) (blocks (now (bytes .entry))) ⌝ }
+{
+    let n = bytes.len() / 512;
+    let mut b: usize = 0;
+    while b < n {
+        if bad_block(bytes, b) {
+            return Spot::At(b as u32);
+        }
+        b += 1;
+    }
+    Spot::Nowhere
+}

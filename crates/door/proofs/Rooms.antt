@@ -1,0 +1,43 @@
+-- Stores at the front of a room, and the last rule, the room itself. Assumes nothing.
+use Prim.Native.Nat.{ℕ, _+_, _*_, _≤_, _<_}
+use mathlib.Core.Path.{_≡_, refl, sym, ap, _∙_}
+use mathlib.Core.List.{List, [], _∷_, _++_}
+use native.Mathlib.Omega.{arith}
+use borrow.Author.Tests.{lt-ltb, le-ltb}
+use lib.ListN.{length, set, drop}
+use Rattle.form.specs.Ruling.{ruling}
+use Rattle.form.specs.Verdict.{rules, countsOf, verdictOf}
+use Rattle.form.specs.declared.Counts.{Counts}
+use Rattle.form.specs.declared.Ruling.{Ruling}
+use Rattle.form.specs.declared.Ruling.the-variants.{Clean, Broken}
+use Rattle.form.specs.declared.Verdict.the-variants.{Accepted, Refused}
+use Rattle.form.proofs.Order.{ruled-before, kept-before, one-broken, one-kept}
+use Rattle.form.proofs.Meaning.{refused-ruling}
+use Rattle.form.proofs.Accepted.{accepted-ruling, accepted-counts}
+use Rattle.door.specs.Door.{codeOf, tooShort, judgeRules, four, countsAfter}
+
+pub four-stores : (l : List ℕ) (a b c d : ℕ) → 4 ≤ length l → set (set (set (set l 0 a) 1 b) 2 c) 3 d ≡ (a ∷ b ∷ c ∷ d ∷ []) ++ drop 4 l
+four-stores (_ ∷ _ ∷ _ ∷ _ ∷ l) a b c d h = refl
+four-stores [] a b c d h = absurd (omega arith)
+four-stores (_ ∷ []) a b c d h = absurd (omega arith)
+four-stores (_ ∷ _ ∷ []) a b c d h = absurd (omega arith)
+four-stores (_ ∷ _ ∷ _ ∷ []) a b c d h = absurd (omega arith)
+
+-- the three ways out of the judge for C
+module _ (s room : List ℕ) where
+  -- what the answer r and the room l are, for a ruling
+  abbrev Out : ℕ → List ℕ → Ruling → Type 0
+  Out r l v = (r ≡ codeOf v) × (l ≡ countsAfter s room v)
+
+  pub refused-out : (n p r : ℕ) → verdictOf s ≡ Refused n p → r ≡ 1000 * n + p → Out r room (ruling (judgeRules s room))
+  refused-out n p r e q = rw (ruled-before (rules s) (tooShort 4 room ∷ []) (refused-ruling s n p e)) (q, refl)
+
+  pub short-out : (c : Counts) (r : ℕ) → verdictOf s ≡ Accepted c → length room < 4 → r ≡ 1000 * 9 + 0 → Out r room (ruling (judgeRules s room))
+  short-out c r e l q =
+      rw (kept-before (rules s) (tooShort 4 room ∷ []) (accepted-ruling s c e), one-broken 9 _ [] (lt-ltb (length room) 4 l)) (q, refl)
+
+  pub done-out : (c : Counts) (l : List ℕ) → verdictOf s ≡ Accepted c → 4 ≤ length room → l ≡ four c ++ drop 4 room → Out 0 l (ruling (judgeRules s room))
+  unfolding ruling
+  done-out c l e h q =
+      rw (kept-before (rules s) (tooShort 4 room ∷ []) (accepted-ruling s c e), one-kept 9 _ [] (le-ltb (length room) 4 h))
+      (refl, q ∙ ap (λ (x : Counts). four x ++ drop 4 room) (accepted-counts s c e))

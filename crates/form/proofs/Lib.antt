@@ -1,0 +1,12 @@
+pub mod Search
+pub mod Order
+pub mod Numbers
+pub mod Tests
+pub mod Tables
+pub mod Counting
+pub mod Places
+pub mod Lengths
+pub mod Stand
+pub mod StandRows
+pub mod Accepted
+pub mod Meaning

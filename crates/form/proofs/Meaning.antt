@@ -1,0 +1,59 @@
+-- What a verdict says of the bytes, for all lists of bytes. Assumes nothing.
+--     refused     refused by number n at place p: rule n is broken there, at no lower place, and no earlier rule is broken anywhere; and only then
+--     accepted    no rule is broken anywhere; and only then
+--     small       a refusal's number and place are small
+use Prim.Native.Nat.{ℕ, zero, _*_, _<_, _≤_}
+use mathlib.Core.Path.{_≡_, refl, sym, ap, _∙_}
+use mathlib.Core.Logic.{_↔_}
+use mathlib.Core.List.{List, [], _∷_}
+use native.Mathlib.Omega.{arith}
+use Rattle.form.specs.Ruling.{Rule, ruling}
+use Rattle.form.specs.Block.{blocks, badLength}
+use Rattle.form.specs.Records.{filed, recordRules}
+use Rattle.form.specs.Verdict.{blockRules, rules, countsOf, verdictBy, verdictOf}
+use Rattle.form.specs.declared.Ruling.{Ruling}
+use Rattle.form.specs.declared.Ruling.the-variants.{Clean, Broken}
+use Rattle.form.specs.declared.Verdict.the-variants.{Accepted, Refused}
+use Rattle.form.proofs.Order.{Kept, Least, this, later, AllKept, ruling-least, ruling-clean, least-ruling, clean-ruling}
+use Rattle.form.proofs.Lengths.{few-blocks}
+
+broken-of : (s : List ℕ) (u : Ruling) (n p : ℕ) → verdictBy s u ≡ Refused n p → u ≡ Broken n p
+broken-of s Clean n p e = let z : _≡_ {A = ℕ} 0 1 = cc in absurd (omega arith)
+broken-of s (Broken m q) n p e =
+    let a : m ≡ n = cc in
+    let b : q ≡ p = cc in
+    cc
+
+clean-of : (s : List ℕ) (u : Ruling) → verdictBy s u ≡ Accepted (countsOf s) → u ≡ Clean
+clean-of s Clean e = refl
+clean-of s (Broken m q) e = let z : _≡_ {A = ℕ} 0 1 = cc in absurd (omega arith)
+
+pub refused-ruling : (s : List ℕ) (n p : ℕ) → verdictOf s ≡ Refused n p → ruling (rules s) ≡ Broken n p
+unfolding verdictOf
+refused-ruling s n p e = broken-of s (ruling (rules s)) n p e
+
+pub refused : (s : List ℕ) (n p : ℕ) → (verdictOf s ≡ Refused n p) ↔ Least (rules s) n p
+unfolding verdictOf
+refused s n p = (λ e. ruling-least (refused-ruling s n p e), λ l. ap (verdictBy s) (least-ruling l))
+
+pub accepted : (s : List ℕ) → (verdictOf s ≡ Accepted (countsOf s)) ↔ AllKept (rules s)
+unfolding verdictOf
+accepted s = (λ e. ruling-clean (clean-of s (ruling (rules s)) e), λ k. ap (verdictBy s) (clean-ruling k))
+
+-- every rule of a list has a small number and few places
+abbrev Small : List Rule → Type 0
+Small [] = Unit {0}
+Small (r ∷ rs) = ((r .number ≤ 8) × (r .places ≤ 120)) × Small rs
+
+least-in : {rs : List Rule} {n p : ℕ} → Small rs → Least rs n p → (n ≤ 8) × (p < 120)
+least-in h (this l e k) = (h .0 .0, omega arith)
+least-in h (later k m) = least-in (h .1) m
+
+-- a rule after the first is tried on at most ten blocks, so on at most 120 places
+least-small : (s : List ℕ) (n p : ℕ) → Least (rules s) n p → (n ≤ 8) × (p < 120)
+unfolding blockRules Kept
+least-small s n p (this l e h) = (omega arith, omega arith)
+least-small s n p (later k m) = let f = few-blocks s (k 0 (omega arith)) in least-in (omega arith) m
+
+pub small : (s : List ℕ) (n p : ℕ) → verdictOf s ≡ Refused n p → (n ≤ 8) × (p < 120)
+small s n p e = least-small s n p (refused s n p .0 e)

@@ -1,0 +1,101 @@
+-- Laws of `ruling`. Assumes nothing.
+--     ruled, kept       by which the code's proof goes from rule to rule
+--     ruling-append     one list of rules tried after another; ruled-before, kept-before, by what the first list says
+--     one-broken, one-kept    a rule of one place
+--     ruling-least      what it refuses is broken there, at no lower place, and no earlier rule is broken anywhere; least-ruling, the other way
+--     ruling-clean      where it is clean, no rule is broken anywhere; clean-ruling, the other way
+use Prim.Native.Nat.{ℕ, _<_}
+use mathlib.Core.Path.{_≡_, refl, sym, ap, subst, _∙_}
+use mathlib.Core.Bool.{Bool, true, false}
+use mathlib.Core.List.{List, [], _∷_, _++_}
+use native.Mathlib.Omega.{arith}
+use Rattle.form.specs.First.{first}
+use Rattle.form.specs.Ruling.{Rule, rule, refuse, ruling}
+use Rattle.form.proofs.Search.{first-zero, first-more, first-found, first-at, first-none, first-is, first-is-none}
+use Rattle.form.specs.declared.Spot.{Spot}
+use Rattle.form.specs.declared.Spot.the-variants.{At, Nowhere}
+use Rattle.form.specs.declared.Ruling.{Ruling}
+use Rattle.form.specs.declared.Ruling.the-variants.{Clean, Broken}
+
+pub ruled : (r : Rule) (rs : List Rule) {i : ℕ} → first (r .broken) (r .places) ≡ At i → Broken (r .number) i ≡ ruling (r ∷ rs)
+unfolding ruling
+ruled r rs e = sym (ap (λ (s : Spot). refuse (r .number) s (ruling rs)) e)
+
+pub kept : (r : Rule) (rs : List Rule) {v : Ruling} → first (r .broken) (r .places) ≡ Nowhere → v ≡ ruling rs → v ≡ ruling (r ∷ rs)
+unfolding ruling
+kept r rs e q = q ∙ sym (ap (λ (s : Spot). refuse (r .number) s (ruling rs)) e)
+
+-- the first ruling, or the second where the first is clean
+abbrev pub orRule : Ruling → Ruling → Ruling
+orRule Clean v = v
+orRule (Broken n i) v = Broken n i
+
+or-refuse : (n : ℕ) (s : Spot) (u v : Ruling) → refuse n s (orRule u v) ≡ orRule (refuse n s u) v
+or-refuse n (At i) u v = refl
+or-refuse n Nowhere u v = refl
+
+pub ruling-append : (rs qs : List Rule) → ruling (rs ++ qs) ≡ orRule (ruling rs) (ruling qs)
+unfolding ruling
+ruling-append [] qs = refl
+ruling-append (r ∷ rs) qs =
+    ap (λ (v : Ruling). refuse (r .number) (first (r .broken) (r .places)) v) (ruling-append rs qs)
+    ∙ or-refuse (r .number) (first (r .broken) (r .places)) (ruling rs) (ruling qs)
+
+-- rules behind a broken one are not tried
+pub ruled-before : (rs qs : List Rule) {n i : ℕ} → ruling rs ≡ Broken n i → ruling (rs ++ qs) ≡ Broken n i
+ruled-before rs qs e = ruling-append rs qs ∙ ap (λ (u : Ruling). orRule u (ruling qs)) e
+
+-- rules behind kept ones
+pub kept-before : (rs qs : List Rule) → ruling rs ≡ Clean → ruling (rs ++ qs) ≡ ruling qs
+kept-before rs qs e = ruling-append rs qs ∙ ap (λ (u : Ruling). orRule u (ruling qs)) e
+
+-- one rule of one place, tried first
+pub one-broken : (n : ℕ) (q : Bool) (rs : List Rule) → q ≡ true → ruling (rule n 1 (λ p. q) ∷ rs) ≡ Broken n 0
+one-broken n q rs e = sym (ruled (rule n 1 (λ p. q)) rs (first-found (λ p. q) 0 1 (first-zero _) e (omega arith)))
+
+pub one-kept : (n : ℕ) (q : Bool) (rs : List Rule) → q ≡ false → ruling (rule n 1 (λ p. q) ∷ rs) ≡ ruling rs
+one-kept n q rs e = sym (kept (rule n 1 (λ p. q)) rs (first-more (λ p. q) 0 (first-zero _) e) refl)
+
+unfoldable pub Kept : Rule → Type 0
+Kept r = (k : ℕ) → k < r .places → r .broken k ≡ false
+
+-- the first broken rule is number n, and i its lowest place
+pub data Least : List Rule → ℕ → ℕ → Type 0 where
+  this : {r : Rule} {rs : List Rule} {i : ℕ} → i < r .places → r .broken i ≡ true → ((k : ℕ) → k < i → r .broken k ≡ false) → Least (r ∷ rs) (r .number) i
+  later : {r : Rule} {rs : List Rule} {n i : ℕ} → Kept r → Least rs n i → Least (r ∷ rs) n i
+
+pub data AllKept : List Rule → Type 0 where
+  none : AllKept []
+  more : {r : Rule} {rs : List Rule} → Kept r → AllKept rs → AllKept (r ∷ rs)
+
+-- what a ruling says of the rules
+abbrev pub Means : List Rule → Ruling → Type 0
+Means rs Clean = AllKept rs
+Means rs (Broken n i) = Least rs n i
+
+step : (r : Rule) (rs : List Rule) (s : Spot) (v : Ruling) → first (r .broken) (r .places) ≡ s → Means rs v → Means (r ∷ rs) (refuse (r .number) s v)
+unfolding Kept
+step r rs (At i) v e m = let h = first-at (r .broken) e in this (h .0) (h .1) (h .2)
+step r rs Nowhere Clean e m = more (first-none (r .broken) e) m
+step r rs Nowhere (Broken n i) e m = later (first-none (r .broken) e) m
+
+pub ruling-means : (rs : List Rule) → Means rs (ruling rs)
+unfolding ruling
+ruling-means [] = none
+ruling-means (r ∷ rs) = step r rs (first (r .broken) (r .places)) (ruling rs) refl (ruling-means rs)
+
+pub ruling-least : {rs : List Rule} {n i : ℕ} → ruling rs ≡ Broken n i → Least rs n i
+ruling-least {rs} e = subst (Means rs) e (ruling-means rs)
+
+pub ruling-clean : {rs : List Rule} → ruling rs ≡ Clean → AllKept rs
+ruling-clean {rs} e = subst (Means rs) e (ruling-means rs)
+
+pub least-ruling : {rs : List Rule} {n i : ℕ} → Least rs n i → ruling rs ≡ Broken n i
+unfolding Kept
+least-ruling (this {r} {rs} l e h) = sym (ruled r rs (first-is (r .broken) _ _ l e h))
+least-ruling (later {r} {rs} h m) = sym (kept r rs (first-is-none (r .broken) _ h) (sym (least-ruling m)))
+
+pub clean-ruling : {rs : List Rule} → AllKept rs → ruling rs ≡ Clean
+unfolding Kept ruling
+clean-ruling none = refl
+clean-ruling (more {r} {rs} h m) = sym (kept r rs (first-is-none (r .broken) _ h) (sym (clean-ruling m)))

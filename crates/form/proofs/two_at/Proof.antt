@@ -1,0 +1,30 @@
+-- `form::two_at` meets its contract. Assumes nothing.
+use denote.Ref.{now}
+use Rattle.form.proofs.Numbers.{number-2}
+use native.Mathlib.Omega.{arith}
+use borrow.Author.Needs.{needs}
+use Rattle.form.proofs.two_at.Statement.{statement}
+use Rattle.form.proofs.two_at.Tie as tie
+
+byte-at-requires : tie.Need-byte-at-requires
+byte-at-requires c κs = search needs
+
+add-byte-at : tie.Need-add-byte-at
+add-byte-at c = search needs
+
+byte-at-requires-2 : tie.Need-byte-at-requires-2
+byte-at-requires-2 c κs = search needs
+
+mul-result : tie.Need-mul-result
+mul-result c = search needs
+
+add-result : tie.Need-add-result
+add-result c = search needs
+
+returns : tie.Need-returns
+returns c = let a = c .before .before .before .args in omega (arith, number-2 (now (a .bytes)) (a .at))
+
+pub two-at-spec : {M : Type 1} → statement M
+two-at-spec =
+    tie.close
+    (tie.spec byte-at-requires add-byte-at byte-at-requires-2 mul-result add-result returns)

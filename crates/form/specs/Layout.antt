@@ -1,0 +1,86 @@
+-- "Records, in field order": each kind's fields as one table. Rows, zero bytes, limits and the numbers of a row all come from it.
+use Prim.Native.Nat.{ℕ, _+_, _-_}
+use mathlib.Core.Bool.{Bool, false, _||_}
+use mathlib.Core.List.{List, [], _∷_}
+use lib.ListN.{length, getD, drop}
+use lib.Dec.{ltb}
+use Rattle.form.specs.Bytes.{number, strayIn}
+
+-- a field: the zero bytes before it, its width in bytes, and its limit
+pub record Field : Type 0 where
+  pub zeros : ℕ
+  pub width : ℕ
+  pub limit : ℕ
+
+abbrev pub field : ℕ → ℕ → ℕ → Field
+field z w l = record { zeros = z; width = w; limit = l }
+
+abbrev pub Layout : Type 0
+Layout = List Field
+
+-- "An id is any 32-bit number, zero included."
+abbrev pub id : Field
+id = field 0 4 4294967295
+
+-- "0 to 1,000,000; 0.01 kha"
+abbrev pub area : Field
+area = field 0 4 1000000
+
+-- "0 to 10,000; 0.1 t/ha"
+abbrev pub density : Field
+density = field 0 2 10000
+
+-- "all fractions 0 to 1,000; 0.001"
+abbrev pub fraction : Field
+fraction = field 0 2 1000
+
+-- "id 4, area 4, before 2, after 2, on-site fraction 2, its oxidised fraction 2, its carbon fraction 2, the same three for off-site
+-- (2 each), ten-year area 4, ten-year before 2, ten-year after 2, decay fraction 2, its carbon fraction 2"
+abbrev pub conversion : Layout
+conversion =
+    id ∷ area ∷ density ∷ density
+    ∷ fraction ∷ fraction ∷ fraction
+    ∷ fraction ∷ fraction ∷ fraction
+    ∷ area ∷ density ∷ density ∷ fraction ∷ fraction
+    ∷ []
+
+-- "id 4, unit code 1, zero 1, rate 2, amount 4, carbon fraction 2": unit code 0 or 1, rate 0 to 10,000, amount 0 to 10,000,000
+abbrev pub stock : Layout
+stock = id ∷ field 0 1 1 ∷ field 1 2 10000 ∷ field 0 4 10000000 ∷ fraction ∷ []
+
+-- "id 4, F 4, G 2, zero 2, I 4, J 4": F, I and J 0 to 10,000,000, G 0 to 10,000
+abbrev pub harvest : Layout
+harvest = id ∷ field 0 4 10000000 ∷ field 0 2 10000 ∷ field 2 4 10000000 ∷ field 0 4 10000000 ∷ []
+
+-- "zero 4, then the six in the table's order, 2 each": N, CH4, CO, N/C, N2O, NOx, each 0 to 1,000
+abbrev pub parameters : Layout
+parameters = field 4 2 1000 ∷ fraction ∷ fraction ∷ fraction ∷ fraction ∷ fraction ∷ []
+
+-- "1 conversion, 2 stock, 3 harvest, 4 parameters"; another number is no kind and has no fields
+abbrev pub layout : ℕ → Layout
+layout kind = getD ([] ∷ conversion ∷ stock ∷ harvest ∷ parameters ∷ []) kind []
+
+-- "15, 5, 5 and 6 numbers of 32 bits"
+abbrev pub numbersOf : ℕ → ℕ
+numbersOf kind = length (layout kind)
+
+-- "a row is its fields in this order, zeros left out": the row of the record at a place, whose first k bytes are behind us
+unfoldable pub rowFrom : ℕ → Layout → List ℕ → ℕ → List ℕ
+rowFrom k [] s at = []
+rowFrom k (f ∷ l) s at = number (f .width) s (at + (k + f .zeros)) ∷ rowFrom (k + f .zeros + f .width) l s at
+
+abbrev pub rowAt : Layout → List ℕ → ℕ → List ℕ
+rowAt l s at = rowFrom 0 l s at
+
+-- "a non-zero byte where zero is due" in the record at a place: before a field, or after the last up to 40 bytes
+unfoldable pub strayFrom : ℕ → Layout → List ℕ → ℕ → Bool
+strayFrom k [] s at = strayIn s (at + k) (40 - k)
+strayFrom k (f ∷ l) s at = strayIn s (at + k) (f .zeros) || strayFrom (k + f .zeros + f .width) l s at
+
+abbrev pub strayAt : Layout → List ℕ → ℕ → Bool
+strayAt l s at = strayFrom 0 l s at
+
+-- "a field above its limit", in a row
+unfoldable pub aboveLimit : Layout → List ℕ → Bool
+aboveLimit [] r = false
+aboveLimit (f ∷ l) r = ltb (f .limit) (getD r 0 0) || aboveLimit l (drop 1 r)

@@ -1,0 +1,10 @@
+-- What a return is. Read in this order.
+pub mod First
+pub mod Ruling
+pub mod Bytes
+pub mod Layout
+pub mod Block
+pub mod Records
+pub mod Verdict
+pub mod Standing
+pub mod Examples

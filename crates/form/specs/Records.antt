@@ -1,0 +1,115 @@
+-- Rules 5 to 8, stated once over records at places. "A record's place is 12 times its block plus its position."
+use Prim.Native.Nat.{ℕ, zero, suc, _+_, _-_, _*_, _/_, _%_}
+use mathlib.Core.Bool.{Bool, cond, _&&_, _||_}
+use mathlib.Core.List.{List, [], _∷_, _++_}
+use lib.ListN.{getD}
+use lib.Dec.{ltb, leb, eqb}
+use Rattle.form.specs.Ruling.{Rule, rule}
+use Rattle.form.specs.Layout.{layout, rowAt, aboveLimit}
+use Rattle.form.specs.Block.{blocks, kindOf, countOf, recordAt}
+
+-- records at places: how many places there are, which hold a record, of which kind, and its row
+pub record Filed : Type 0 where
+  pub places : ℕ
+  pub used : ℕ → Bool
+  pub kind : ℕ → ℕ
+  pub row : ℕ → List ℕ
+
+-- the records of a list of bytes
+abbrev pub filed : List ℕ → Filed
+filed s = record {
+  places = 12 * blocks s;
+  used = λ j. ltb (j % 12) (countOf s (j / 12));
+  kind = λ j. kindOf s (j / 12);
+  row = λ j. rowAt (layout (kindOf s (j / 12))) s (recordAt (j / 12) (j % 12));
+}
+
+-- conversion, stock and harvest rows have an id, parameters have none
+abbrev pub hasId : ℕ → Bool
+hasId k = ltb 0 k && ltb k 4
+
+-- the numbers of a row by their names: of every row with an id, and of a conversion row
+abbrev pub idOf : List ℕ → ℕ
+idOf r = getD r 0 0
+
+abbrev pub areaOf : List ℕ → ℕ
+areaOf r = getD r 1 0
+
+abbrev pub before : List ℕ → ℕ
+before r = getD r 2 0
+
+abbrev pub after : List ℕ → ℕ
+after r = getD r 3 0
+
+abbrev pub onsite : List ℕ → ℕ
+onsite r = getD r 4 0
+
+abbrev pub onsiteOxidised : List ℕ → ℕ
+onsiteOxidised r = getD r 5 0
+
+abbrev pub onsiteCarbon : List ℕ → ℕ
+onsiteCarbon r = getD r 6 0
+
+abbrev pub offsite : List ℕ → ℕ
+offsite r = getD r 7 0
+
+abbrev pub offsiteOxidised : List ℕ → ℕ
+offsiteOxidised r = getD r 8 0
+
+abbrev pub offsiteCarbon : List ℕ → ℕ
+offsiteCarbon r = getD r 9 0
+
+abbrev pub tenYearArea : List ℕ → ℕ
+tenYearArea r = getD r 10 0
+
+abbrev pub tenYearBefore : List ℕ → ℕ
+tenYearBefore r = getD r 11 0
+
+abbrev pub tenYearAfter : List ℕ → ℕ
+tenYearAfter r = getD r 12 0
+
+abbrev pub decay : List ℕ → ℕ
+decay r = getD r 13 0
+
+abbrev pub decayCarbon : List ℕ → ℕ
+decayCarbon r = getD r 14 0
+
+-- 7: "on-site + off-site + decay above 1,000", of a conversion row
+abbrev pub overspent : List ℕ → Bool
+overspent r = ltb 1000 (onsite r + offsite r + decay r)
+
+-- 8: "after above before, either period", of a conversion row
+abbrev pub grown : List ℕ → Bool
+grown r = ltb (before r) (after r) || ltb (tenYearBefore r) (tenYearAfter r)
+
+module _ (f : Filed) where
+  -- 5: "an id not above the id before it, same kind". A kind's blocks are full but its last (4), so the record before stands one place lower
+  unfoldable pub badId : ℕ → Bool
+  badId j =
+      f .used j
+      && (hasId (f .kind j) && (ltb 0 j && (eqb (f .kind (j - 1)) (f .kind j) && leb (idOf (f .row j)) (idOf (f .row (j - 1))))))
+
+  -- 6: "a field above its limit"
+  unfoldable pub badField : ℕ → Bool
+  badField j = f .used j && aboveLimit (layout (f .kind j)) (f .row j)
+
+  -- 7, at a place
+  unfoldable pub badFractions : ℕ → Bool
+  badFractions j = f .used j && (eqb (f .kind j) 1 && overspent (f .row j))
+
+  -- 8, at a place
+  unfoldable pub badDensities : ℕ → Bool
+  badDensities j = f .used j && (eqb (f .kind j) 1 && grown (f .row j))
+
+  abbrev pub recordRules : List Rule
+  recordRules =
+      rule 5 (f .places) badId
+      ∷ rule 6 (f .places) badField
+      ∷ rule 7 (f .places) badFractions
+      ∷ rule 8 (f .places) badDensities
+      ∷ []
+
+  -- the rows of a kind among the first n places, in order
+  unfoldable pub rowsBelow : ℕ → ℕ → List (List ℕ)
+  rowsBelow k zero = []
+  rowsBelow k (suc n) = rowsBelow k n ++ cond (f .used n && eqb (f .kind n) k) (f .row n ∷ []) []

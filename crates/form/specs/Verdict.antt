@@ -1,0 +1,49 @@
+-- "Reading: 1 to 9. Sheets and doubles: 1 to 8": the rules of the bytes alone in the paper's order, the row counts, and the verdict.
+use Prim.Native.Nat.{ℕ, zero, suc, _+_}
+use mathlib.Core.Bool.{cond}
+use mathlib.Core.List.{List, [], _∷_, _++_}
+use lib.Dec.{eqb}
+use Rattle.form.specs.Ruling.{Rule, rule, ruling}
+use Rattle.form.specs.Block.{blocks, kindOf, countOf, badLength, badCheck, badHeader, badBlock}
+use Rattle.form.specs.Records.{filed, recordRules, rowsBelow}
+use Rattle.form.specs.declared.Counts.{Counts}
+use Rattle.form.specs.declared.Ruling.{Ruling}
+use Rattle.form.specs.declared.Ruling.the-variants.{Clean, Broken}
+use Rattle.form.specs.declared.Verdict.{Verdict}
+use Rattle.form.specs.declared.Verdict.the-variants.{Accepted, Refused}
+
+unfoldable pub blockRules : List ℕ → List Rule
+blockRules s =
+    rule 1 1 (λ p. badLength s)
+    ∷ rule 2 (blocks s) (badCheck s)
+    ∷ rule 3 (blocks s) (badHeader s)
+    ∷ rule 4 (blocks s) (badBlock s)
+    ∷ []
+
+abbrev pub rules : List ℕ → List Rule
+rules s = blockRules s ++ recordRules (filed s)
+
+-- the sum of the counts of a kind's blocks, among the first n
+unfoldable pub countBelow : ℕ → List ℕ → ℕ → ℕ
+countBelow k s zero = 0
+countBelow k s (suc n) = countBelow k s n + cond (eqb (kindOf s n) k) (countOf s n) 0
+
+-- how many rows of a kind a return has: "n is the sum of the kind-1 counts"
+abbrev pub rowCount : ℕ → List ℕ → ℕ
+rowCount k s = countBelow k s (blocks s)
+
+-- "the four row counts"
+abbrev pub countsOf : List ℕ → Counts
+countsOf s = record { conversion = rowCount 1 s; stock = rowCount 2 s; harvest = rowCount 3 s; parameters = rowCount 4 s }
+
+-- the rows of a kind, in order
+abbrev pub rows : ℕ → List ℕ → List (List ℕ)
+rows k s = rowsBelow (filed s) k (filed s .places)
+
+-- "its answer, or one refusal number with its place"
+abbrev pub verdictBy : List ℕ → Ruling → Verdict
+verdictBy s Clean = Accepted (countsOf s)
+verdictBy s (Broken n p) = Refused n p
+
+unfoldable pub verdictOf : List ℕ → Verdict
+verdictOf s = verdictBy s (ruling (rules s))

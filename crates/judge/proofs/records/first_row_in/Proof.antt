@@ -1,0 +1,116 @@
+-- `judge::records::first_row_in` meets its contract. Assumes nothing.
+use Prim.Native.Nat.{ℕ, _+_, _-_, _*_, _≤_}
+use mathlib.Core.Path.{_≡_, sym, ap, _∙_}
+use denote.Ref.{now}
+use Rattle.form.specs.declared.Spot.the-variants.{Nowhere}
+use borrow.Author.Tests.{not-true}
+use Rattle.form.specs.First.{first}
+use Rattle.form.specs.Layout.{layout, rowAt}
+use Rattle.form.specs.Block.{recordAt}
+use Rattle.form.specs.Records.{filed}
+use Rattle.judge.specs.Steps.{testOf, rowBreaks}
+use Rattle.form.proofs.Search.{first-zero, first-more, first-found, first-rest}
+use Rattle.form.proofs.Tests.{and-true}
+use Rattle.judge.proofs.Rows.{tried, unused, skipped}
+use mathlib.Core.Bool.{Bool}
+use lib.Dec.{eqb}
+use borrow.Author.Needs.{needs}
+use native.Mathlib.Omega.{arith}
+use Rattle.judge.proofs.records.first_row_in.Statement.{statement}
+use Rattle.judge.proofs.records.first_row_in.Tie as tie
+
+abbrev Inv-loop : tie.InvT-loop
+Inv-loop bytes number b kind used r₀ r = (r ≤ used) × (first (λ i. testOf number (filed bytes) (12 * b + i)) r ≡ Nowhere)
+
+abbrev μ-loop : tie.MeasureT-loop
+μ-loop bytes number b kind used r₀ r = used - r
+
+-- what `breaks` said in a turn is what the rule says of that record
+said : (c : tie.After-breaks Inv-loop μ-loop)
+    → testOf (c .before .before .before .before .before .before .before .args .number) (filed (now (c .before .before .before .before .before .before .before .args .bytes)))
+    (12 * c .before .before .before .before .before .before .before .args .b + c .before .before .loop .r) ≡ c .breaks .result
+said c =
+    let u = c .before .before .before in
+    let a = u .before .before .before .before .args in
+    let r = c .before .before .loop .r in
+    tried (now (a .bytes)) (a .b) (a .number) (u .before .before .before .before .pre .1) r (omega arith) (omega (arith, u .used-in .ensures))
+    (c .breaks .ensures ∙ ap (λ (k : ℕ). rowBreaks (a .number) k (rowAt (layout k) (now (a .bytes)) (recordAt (a .b) r))) (u .before .before .byte-at .ensures .0))
+
+mul-byte-at : tie.Need-mul-byte-at Inv-loop μ-loop
+mul-byte-at c = search needs
+
+byte-at-requires : tie.Need-byte-at-requires Inv-loop μ-loop
+byte-at-requires c κs = search needs
+
+returns : tie.Need-returns Inv-loop μ-loop
+returns c =
+    let a = c .before .before .before .args in
+    let f = and-true _ _ (c .if1 .taken) in
+    sym (skipped (now (a .bytes)) (a .b) (a .number) (c .before .before .before .pre .1)
+    (not-true (eqb (a .number) 6) (f .0))
+    (ap (λ (k : ℕ). eqb k 1) (sym (c .before .byte-at .ensures .0)) ∙ not-true (eqb (c .before .byte-at .result) 1) (f .1)))
+
+used-in-requires : tie.Need-used-in-requires Inv-loop μ-loop
+used-in-requires c κs = search needs
+
+loop-holds : tie.Need-loop-holds Inv-loop μ-loop
+loop-holds c = (search needs, first-zero _)
+
+mul-breaks : tie.Need-mul-breaks Inv-loop μ-loop
+mul-breaks c = search needs
+
+add-breaks : tie.Need-add-breaks Inv-loop μ-loop
+add-breaks c = search needs
+
+mul-breaks-2 : tie.Need-mul-breaks-2 Inv-loop μ-loop
+mul-breaks-2 c = search needs
+
+add-breaks-2 : tie.Need-add-breaks-2 Inv-loop μ-loop
+add-breaks-2 c = search needs
+
+breaks-requires : tie.Need-breaks-requires Inv-loop μ-loop
+breaks-requires c κs = search needs
+
+cast-t17 : tie.Need-cast-t17 Inv-loop μ-loop
+cast-t17 c = search needs
+
+returns-2 : tie.Need-returns-2 Inv-loop μ-loop
+returns-2 c = sym (first-found _ _ 12 (c .before .before .before .loop .inv .1) (said (c .before) ∙ c .if2 .taken) (omega arith))
+
+add-r : tie.Need-add-r Inv-loop μ-loop
+add-r c = search needs
+
+loop-less : tie.Need-loop-less Inv-loop μ-loop
+loop-less c = search needs
+
+loop-again : tie.Need-loop-again Inv-loop μ-loop
+loop-again c = (search needs, first-more _ _ (c .before .before .before .loop .inv .1) (said (c .before) ∙ c .if2 .left))
+
+returns-3 : tie.Need-returns-3 Inv-loop μ-loop
+returns-3 c =
+    let a = c .before .before .before .before .before .before .args in
+    let p = c .before .before .before .before .before .before .pre .1 in
+    sym (first-rest _ _ 12 (c .before .loop .inv .1) (λ k m l. unused (now (a .bytes)) (a .b) (a .number) p k l (omega (arith, c .before .before .used-in .ensures))))
+
+pub first-row-in-spec : {M : Type 1} → statement M
+first-row-in-spec =
+    tie.close
+    (tie.spec
+    Inv-loop
+    μ-loop
+    mul-byte-at
+    byte-at-requires
+    returns
+    used-in-requires
+    loop-holds
+    mul-breaks
+    add-breaks
+    mul-breaks-2
+    add-breaks-2
+    breaks-requires
+    cast-t17
+    returns-2
+    add-r
+    loop-less
+    loop-again
+    returns-3)

@@ -1,0 +1,118 @@
+// The judge: any bytes of any length are accepted, with the row counts, or refused, with one number and one place.
+mod records;
+
+ghost use mathlib.Core.Path.{_≡_};
+ghost use Prim.Native.Nat.{_+_, _*_, _≤_, _<_};
+ghost use lib.ListN.{length};
+ghost use Rattle.form.specs.Ruling.{ruling};
+ghost use Rattle.form.specs.Records.{filed, recordRules};
+ghost use Rattle.form.specs.Verdict.{blockRules, rules, countsOf, verdictOf};
+ghost use Rattle.judge.specs.Steps.{counted};
+use form::Counts;
+use form::Ruling;
+use form::Spot;
+use form::Verdict;
+use form::byte_at;
+use form::where_same;
+
+// Rules 1 to 4.
+fn rule_blocks(bytes: &[u8]) -> Ruling
+    ensures { λ r. ⌜ r ≡ ruling (blockRules (now (bytes .entry))) ⌝ }
+{
+    if blocks::bad_length(bytes) {
+        return Ruling::Broken {
+            number: 1,
+            place: 0,
+        };
+    }
+    let check = blocks::first_bad_check(bytes);
+    if let Spot::At(place) = check {
+        return Ruling::Broken { number: 2, place };
+    }
+    let header = blocks::first_bad_header(bytes);
+    if let Spot::At(place) = header {
+        return Ruling::Broken { number: 3, place };
+    }
+    let block = blocks::first_bad_block(bytes);
+    if let Spot::At(place) = block {
+        return Ruling::Broken { number: 4, place };
+    }
+    Ruling::Clean
+}
+
+// Rules 5 to 8, of at most ten blocks.
+fn rule_records(bytes: &[u8]) -> Ruling
+    requires { ⌜ length (now bytes) ≤ 5120 ⌝ }
+    ensures { λ r. ⌜ r ≡ ruling (recordRules (filed (now (bytes .entry)))) ⌝ }
+{
+    let id = records::first_broken(bytes, 5);
+    if let Spot::At(place) = id {
+        return Ruling::Broken { number: 5, place };
+    }
+    let field = records::first_broken(bytes, 6);
+    if let Spot::At(place) = field {
+        return Ruling::Broken { number: 6, place };
+    }
+    let fractions = records::first_broken(bytes, 7);
+    if let Spot::At(place) = fractions {
+        return Ruling::Broken { number: 7, place };
+    }
+    let densities = records::first_broken(bytes, 8);
+    if let Spot::At(place) = densities {
+        return Ruling::Broken { number: 8, place };
+    }
+    Ruling::Clean
+}
+
+// The paper's order: the blocks whole before the records.
+fn rule_all(bytes: &[u8]) -> Ruling
+    ensures { λ r. ⌜ r ≡ ruling (rules (now (bytes .entry))) ⌝ }
+{
+    let blocks = rule_blocks(bytes);
+    if let Ruling::Broken { number, place } = blocks {
+        return Ruling::Broken { number, place };
+    }
+    rule_records(bytes)
+}
+
+// One block more: its count goes to its kind.
+fn add_count(c: Counts, kind: u32, count: u32) -> Counts
+    requires { ⌜ (c .conversion + count < 65536) × (c .stock + count < 65536) × (c .harvest + count < 65536) × (c .parameters + count < 65536) ⌝ }
+    ensures { λ r. ⌜ r ≡ counted c kind count ⌝ }
+{
+    Counts {
+        conversion: c.conversion + where_same(kind, 1, count),
+        stock: c.stock + where_same(kind, 2, count),
+        harvest: c.harvest + where_same(kind, 3, count),
+        parameters: c.parameters + where_same(kind, 4, count),
+    }
+}
+
+fn count_rows(bytes: &[u8]) -> Counts
+    requires { ⌜ length (now bytes) ≤ 5120 ⌝ }
+    ensures { λ r. ⌜ r ≡ countsOf (now (bytes .entry)) ⌝ }
+{
+    let n = bytes.len() / 512;
+    let mut c = Counts {
+        conversion: 0,
+        stock: 0,
+        harvest: 0,
+        parameters: 0,
+    };
+    let mut b: usize = 0;
+    while b < n {
+        c = add_count(c, byte_at(bytes, 512 * b), byte_at(bytes, 512 * b + 1));
+        b += 1;
+    }
+    c
+}
+
+// Any bytes of any length, read in place.
+pub fn judge(bytes: &[u8]) -> Verdict
+    ensures { λ r. ⌜ r ≡ verdictOf (now (bytes .entry)) ⌝ }
+{
+    match rule_all(bytes) {
+        Ruling::Broken { number, place } => Verdict::Refused { number, place },
+        Ruling::Clean => Verdict::Accepted(count_rows(bytes)),
+    }
+}

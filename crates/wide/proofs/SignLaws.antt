@@ -1,0 +1,102 @@
+-- Laws of numbers with a sign. Assumes nothing.
+use mathlib.Core.Path.{_≡_, refl, sym, ap, _∙_}
+use mathlib.Core.Bool.{Bool, true, false, not}
+use Prim.Native.Nat.{ℕ, zero, suc, _+_, _-_, _*_, _^_, _<_, _≤_}
+use native.Mathlib.Omega.{arith}
+use native.Mathlib.Decide.{decLt}
+use native.Mathlib.Nat.{zero-div, zero-mod, zero-mul}
+use lib.IntN.{ℤ, pos, negsuc, negℤ, negℤ-negℤ, natAbs, _-ℤ_, _*ℤ_}
+use borrow.Author.Tests.{lt-ltb, le-ltb}
+use Rattle.wide.specs.Numbers.{value}
+use Rattle.wide.specs.Rounding.{settled, nearest}
+use Rattle.wide.specs.Signs.{sized, amount, Holds, nearestZ}
+use Rattle.wide.specs.declared.signed.Signed.{Signed}
+use Rattle.wide.proofs.Laws.{value-one}
+
+-- what holds an integer holds its equal
+pub holds-as : {s : Signed} {z w : ℤ} → Holds s z → z ≡ w → Holds s w
+holds-as h e = record { number = h .number ∙ e; form = h .form }
+
+-- zero has no sign
+pub sized-zero : (t : Bool) (n : ℕ) → n ≡ 0 → pos n ≡ sized t n
+sized-zero true n e = rw e
+sized-zero false n e = refl
+
+-- the sign through a negation, a product and a rounding
+pub sized-not : (t : Bool) (n : ℕ) → sized (not t) n ≡ negℤ (sized t n)
+sized-not true n = sym (negℤ-negℤ (pos n))
+sized-not false n = refl
+
+pub sized-times : (t : Bool) (n k : ℕ) → sized t (n * k) ≡ sized t n *ℤ pos k
+sized-times false n k = refl
+sized-times true zero k = rw zero-mul
+sized-times true (suc n) k = refl
+
+nearest-zero : (d : ℕ) → 0 < d → nearest 0 d ≡ 0
+unfolding settled
+nearest-zero d h = simp (zero-div, zero-mod, lt-ltb 0 d h)
+
+pub sized-nearest : (t : Bool) (n d : ℕ) → 0 < d → sized t (nearest n d) ≡ nearestZ (sized t n) d
+sized-nearest false n d h = refl
+sized-nearest true zero d h = rw (nearest-zero d h)
+sized-nearest true (suc n) d h = refl
+
+-- a difference, by which is the larger
+pub minus-below : (a b : ℕ) → a < b → sized true (b - a) ≡ pos a -ℤ pos b
+minus-below a zero h = let z : ⊥ = omega arith in elim z [ ]
+minus-below a (suc b) h =
+    let e : suc b - a ≡ suc (suc b - suc a) = omega arith in
+    simp (lt-ltb a (suc b) h, e)
+
+pub minus-above : (a b : ℕ) → b ≤ a → sized false (a - b) ≡ pos a -ℤ pos b
+minus-above a zero h = let e : a - 0 ≡ a + 0 = omega arith in ap pos e
+minus-above a (suc b) h = simp (le-ltb a (suc b) h)
+
+pub minus-sized : (a n : ℕ) → sized false (a + n) ≡ pos a -ℤ sized true n
+minus-sized a zero = refl
+minus-sized a (suc n) = refl
+
+-- what holds an integer has its sign and its size
+abbrev pub sign : ℤ → Bool
+sign (pos n) = false
+sign (negsuc n) = true
+
+sign-sized : (t : Bool) (n : ℕ) → (t ≡ true → 0 < n) → t ≡ sign (sized t n)
+sign-sized false n h = refl
+sign-sized true zero h = let z : ⊥ = omega (arith, h refl) in elim z [ ]
+sign-sized true (suc n) h = refl
+
+size-sized : (t : Bool) (n : ℕ) → n ≡ natAbs (sized t n)
+size-sized false n = refl
+size-sized true zero = refl
+size-sized true (suc n) = refl
+
+pub sign-is : (s : Signed) (z : ℤ) → Holds s z → s .below ≡ sign z
+sign-is s z h = sign-sized (s .below) (value (s .size)) (h .form) ∙ ap sign (h .number)
+
+pub size-amount : (s : Signed) → value (s .size) ≡ natAbs (amount s)
+size-amount s = size-sized (s .below) (value (s .size))
+
+pub size-is : (s : Signed) (z : ℤ) → Holds s z → value (s .size) ≡ natAbs z
+size-is s z h = size-amount s ∙ ap natAbs (h .number)
+
+-- so a contract with `Holds` admits one answer
+pub holds-one : (s t : Signed) (z : ℤ) → s .size .lo < 2 ^ 64 → t .size .lo < 2 ^ 64 → Holds s z → Holds t z → s ≡ t
+holds-one s t z fs ft hs ht =
+    let p = sign-is s z hs ∙ sym (sign-is t z ht) in
+    let q = value-one (s .size) (t .size) fs ft (size-is s z hs ∙ sym (size-is t z ht)) in
+    λ i. record { below = p i; size = q i }
+
+-- sizes, for the room that a difference or a product asks
+pub size-minus : (a : ℕ) (z : ℤ) → natAbs (pos a -ℤ z) ≤ a + natAbs z
+size-minus a (pos zero) = omega arith
+size-minus a (pos (suc n)) = by (decLt a (suc n))
+  where
+    by : Dec (a < suc n) → natAbs (pos a -ℤ pos (suc n)) ≤ a + suc n
+    by (yes h) = simp (lt-ltb a (suc n) h) (omega arith)
+    by (no h) = simp (le-ltb a (suc n) (omega arith)) (omega arith)
+size-minus a (negsuc n) = omega arith
+
+pub size-times : (z : ℤ) (k : ℕ) → natAbs (z *ℤ pos k) ≡ natAbs z * k
+size-times (pos n) k = refl
+size-times (negsuc n) k = sym (size-sized true (suc n * k))

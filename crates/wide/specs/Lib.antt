@@ -1,0 +1,5 @@
+pub mod Numbers
+pub mod Rounding
+pub mod Signs
+pub mod Digits
+mod Examples

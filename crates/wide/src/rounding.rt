@@ -1,0 +1,54 @@
+// Division by a constant beyond one word, and the rule of rounding.
+ghost use mathlib.Core.Path.{_≡_};
+ghost use Prim.Native.Nat.{_+_, _*_, _/_, _%_, _^_, _<_};
+ghost use Rattle.wide.specs.Numbers.{value};
+ghost use Rattle.wide.specs.Rounding.{settled, nearest};
+use crate::Wide;
+use crate::add;
+use crate::add_word;
+use crate::divide;
+use crate::less;
+use crate::of;
+use crate::times;
+
+// A quotient and what is left of a divisor that may be wider than a word.
+pub struct Share {
+    pub quotient: Wide,
+    pub rest: Wide,
+}
+
+// x over a * b * c, by one factor after the other: 7 * 10 ^ 19 is 70 * 10 ^ 9 * 10 ^ 9.
+pub fn divide_by(x: Wide, a: u32, b: u32, c: u32) -> Share
+    requires { ⌜ 0 < a * b * c ⌝ }
+    ensures { λ r. ⌜ (value (r .quotient) ≡ value x / (a * b * c)) × (value (r .rest) ≡ value x % (a * b * c)) ⌝ }
+{
+    let one = divide(x, a);
+    let two = divide(one.quotient, b);
+    let three = divide(two.quotient, c);
+    let upper = of(three.rest * (b as u64) + two.rest);
+    let quotient = three.quotient;
+    let rest = add_word(times(upper, a), one.rest);
+    Share { quotient, rest }
+}
+
+// THE rule of rounding, and the only place in the code that knows it.
+pub fn settle(q: Wide, r: Wide, d: Wide) -> Wide
+    requires { ⌜ (value q + 1 < 2 ^ 120) × (value r + value r < 2 ^ 120) ⌝ }
+    ensures { λ s. ⌜ value s ≡ settled (value q) (value r) (value d) ⌝ }
+{
+    if less(add(r, r), d) {
+        q
+    } else {
+        add_word(q, 1)
+    }
+}
+
+// x over a * b * c, rounded.
+pub fn rounded(x: Wide, a: u32, b: u32, c: u32) -> Wide
+    requires { ⌜ (0 < a * b * c) × (value x + 1 < 2 ^ 120) ⌝ }
+    ensures { λ r. ⌜ value r ≡ nearest (value x) (a * b * c) ⌝ }
+{
+    let s = divide_by(x, a, b, c);
+    let d = times(of((a as u64) * (b as u64)), c);
+    settle(s.quotient, s.rest, d)
+}

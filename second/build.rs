@@ -1,0 +1,35 @@
+//! Finds the first program's static archive `libdoor.a`.
+//!
+//! It is looked for in the folder named by NILOFERQ_LIB, or else in
+//! `../target/staticlib` beside this package. Without it the library and its
+//! unit tests still build; the two programs stop with a message.
+
+use std::env;
+use std::path::PathBuf;
+
+fn main() {
+    println!("cargo:rerun-if-env-changed=NILOFERQ_LIB");
+    println!("cargo:rerun-if-changed=build.rs");
+    println!("cargo:rustc-check-cfg=cfg(door_missing)");
+
+    let package =
+        PathBuf::from(env::var_os("CARGO_MANIFEST_DIR").expect("cargo names the package"));
+    // `join` keeps an absolute NILOFERQ_LIB as it is.
+    let folder = match env::var_os("NILOFERQ_LIB") {
+        Some(named) => package.join(named),
+        None => package.join("../target/staticlib"),
+    };
+    let archive = folder.join("libdoor.a");
+    println!("cargo:rerun-if-changed={}", archive.display());
+
+    if archive.is_file() {
+        println!("cargo:rustc-link-search=native={}", folder.display());
+        println!("cargo:rustc-link-lib=static:-bundle=door");
+    } else {
+        println!("cargo:rustc-cfg=door_missing");
+        println!(
+            "cargo:warning=no libdoor.a at {}: build it first, or name its folder in NILOFERQ_LIB",
+            archive.display()
+        );
+    }
+}

@@ -1,0 +1,32 @@
+# Builds the second program beside the proved library. To be read by a shell in the repository's folder:
+#     . second/build.sh; second_run compare
+# The proved library is x86-64 code, so on another processor the second program is built for x86-64 too (tools/machine.sh).
+comparisons="compare"
+
+. tools/machine.sh
+
+second_build() {
+    local door=$PWD/target/staticlib target=x86_64-unknown-linux-gnu
+    mkdir -p target
+    rt staticlib door >target/door.log 2>&1 || { cat target/door.log >&2; return 1; }
+    if [ "$(uname -m)" = x86_64 ]; then
+        command -v cargo >/dev/null || machine_install cargo rustc
+        (cd second && NILOFERQ_LIB=$door cargo build --release --quiet)
+        second_folder=second/target/release
+        return
+    fi
+    # Debian's rustc has a standard library for x86-64 beside its own
+    [ -d "/usr/lib/rustlib/$target" ] || machine_install rustc-web libstd-rust-web-dev:amd64
+    command -v cargo >/dev/null || machine_install cargo-web
+    (cd second && NILOFERQ_LIB=$door RUSTC=/usr/bin/rustc CARGO_TARGET_X86_64_UNKNOWN_LINUX_GNU_LINKER=$machine_cc \
+        cargo build --release --quiet --target "$target")
+    second_folder=second/target/$target/release
+}
+
+second_run() { # PROGRAM [ARGUMENT..]
+    local program=$1
+    shift
+    $machine_runner "$second_folder/$program" "$@"
+}
+
+second_build

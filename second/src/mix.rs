@@ -1,0 +1,175 @@
+//! Inputs drawn at random: good returns, each number broken alone, in pairs
+//! and several times, and random blocks.
+
+use crate::damage::{block, block_count, break_number, random_blocks};
+use crate::make::{repair_checks, seal, Rows, BLOCK};
+use crate::rng::Rng;
+use crate::spoil::spoil;
+use crate::sweep::Case;
+
+type Weighted = (usize, fn(&mut Rng) -> Case);
+
+/// How often each way is taken, out of the sum of all.
+const WEIGHTS: [Weighted; 7] = [
+    (18, good),
+    (36, alone),
+    (20, two_numbers),
+    (12, one_number_often),
+    (6, random),
+    (5, changed_bytes),
+    (3, reordered),
+];
+
+/// A random input.
+pub fn case(rng: &mut Rng) -> Case {
+    let mut drawn = rng.below(WEIGHTS.iter().map(|(weight, _)| weight).sum());
+    for (weight, make) in WEIGHTS {
+        if drawn < weight {
+            return make(rng);
+        }
+        drawn -= weight;
+    }
+    unreachable!("the number drawn is below the sum of the weights")
+}
+
+fn good(rng: &mut Rng) -> Case {
+    let rows = Rows::any_good(rng);
+    let how = format!("good, {:?} rows", [1, 2, 3].map(|kind| rows.len(kind)));
+    Case {
+        how,
+        bytes: rows.to_bytes(),
+    }
+}
+
+/// Breaks these numbers, the ones of the rows first, so that no later damage
+/// is made good again by the repair after an earlier one.
+fn broken(rng: &mut Rng, mut numbers: Vec<u32>) -> Case {
+    numbers.sort_unstable();
+    let mut rows = Rows::good_from(rng, 2);
+    let mut how = String::from("broken");
+    for &number in numbers.iter().filter(|&&number| number >= 5) {
+        how += &format!(", {}", spoil(rng, &mut rows, number));
+    }
+    let mut bytes = rows.to_bytes();
+    for &number in numbers.iter().rev().filter(|&&number| number < 5) {
+        how += &format!(", {}", break_number(rng, &mut bytes, number));
+    }
+    Case { how, bytes }
+}
+
+fn alone(rng: &mut Rng) -> Case {
+    let number = rng.pick(&[1, 2, 2, 3, 3, 4, 4, 4, 5, 5, 6, 6, 7, 7, 7, 8, 8, 8]);
+    if number == 4 && rng.one_in(3) {
+        // Small returns, where a block more or less has room.
+        let counts = [0; 3].map(|_| rng.pick(&[0, 1, 5, 12, 13]));
+        let mut bytes = Rows::good(rng, counts).to_bytes();
+        let how = break_number(rng, &mut bytes, 4);
+        return Case {
+            how: format!("small, {how}"),
+            bytes,
+        };
+    }
+    broken(rng, vec![number])
+}
+
+/// Two different numbers at places of their own: the lower number shows, from
+/// the lower place or from the higher.
+fn two_numbers(rng: &mut Rng) -> Case {
+    let low = if rng.one_in(20) { 1 } else { rng.from_to(2, 7) };
+    let high = rng.from_to(low + 1, 8);
+    broken(rng, vec![low, high])
+}
+
+/// One number at several places, so that the lowest shows.
+fn one_number_often(rng: &mut Rng) -> Case {
+    let number = rng.from_to(2, 8);
+    let times = 2 + rng.below(4);
+    broken(rng, vec![number; times])
+}
+
+fn random(rng: &mut Rng) -> Case {
+    let depth = rng.below(6);
+    Case {
+        how: format!("random blocks, depth {depth}"),
+        bytes: random_blocks(rng, depth),
+    }
+}
+
+fn changed_bytes(rng: &mut Rng) -> Case {
+    let mut bytes = Rows::any_good(rng).to_bytes();
+    let changes = 1 + rng.below(3);
+    for _ in 0..changes {
+        let at = rng.below(bytes.len());
+        bytes[at] ^= rng.nonzero_byte();
+    }
+    let repaired = !rng.one_in(8);
+    if repaired {
+        repair_checks(&mut bytes);
+    }
+    Case {
+        how: format!("{changes} bytes changed, repaired {repaired}"),
+        bytes,
+    }
+}
+
+/// Blocks of a good return dropped, doubled and put in another order. Numbers
+/// and checks made right, or as they were.
+fn reordered(rng: &mut Rng) -> Case {
+    let mut from = Rows::any_good(rng).to_bytes();
+    let blocks = block_count(&from);
+    let mut order: Vec<usize> = (0..blocks).collect();
+    match rng.below(3) {
+        0 => drop(order.remove(rng.below(blocks))),
+        1 => order.insert(rng.below(blocks), rng.below(blocks)),
+        _ => order.swap(rng.below(blocks), rng.below(blocks)),
+    }
+    let mut bytes = Vec::with_capacity(BLOCK * order.len());
+    for &b in &order {
+        bytes.extend_from_slice(block(&mut from, b));
+    }
+    let sealed = !rng.one_in(4);
+    if sealed {
+        seal(&mut bytes);
+    }
+    Case {
+        how: format!("blocks {order:?} of {blocks}, made right {sealed}"),
+        bytes,
+    }
+}
+
+#[cfg(test)]
+mod tests {
+    use super::*;
+    use crate::judge::{judge, Refusal, Verdict};
+
+    /// With two numbers broken the lower one is given, and often enough from
+    /// a higher place than a judge that tries the other first would say.
+    #[test]
+    fn the_lower_number_shows() {
+        let mut rng = Rng::new(31);
+        for low in 5..8 {
+            for high in low + 1..=8 {
+                let mut own = 0;
+                for _ in 0..300 {
+                    let bytes = broken(&mut rng, vec![low, high]).bytes;
+                    if let Verdict::Refused(Refusal { number, .. }) = judge(&bytes) {
+                        own += u32::from(number == low);
+                    }
+                }
+                assert!(own > 250, "{low} and {high}: {own}");
+            }
+        }
+    }
+
+    #[test]
+    fn every_answer_comes_often() {
+        let mut given = [0; 9];
+        for index in 0..20_000 {
+            match judge(&case(&mut Rng::for_input(32, index)).bytes) {
+                Verdict::Accepted(_) => given[0] += 1,
+                Verdict::Refused(refusal) => given[refusal.number as usize] += 1,
+            }
+        }
+        assert!(given.iter().all(|&times| times > 400), "{given:?}");
+    }
+}

@@ -1,0 +1,186 @@
+//! Rows that are bad in one chosen way: numbers 5 to 8 of the paper.
+
+use crate::make::{fields, Rows, AFTER, BEFORE, SUMMED};
+use crate::rng::Rng;
+
+/// How an id fails to be above the one before it.
+#[derive(Clone, Copy, Debug)]
+pub enum BadId {
+    Equal,
+    OneBelow,
+    Zero,
+    /// The id before is raised to 2^32 - 1.
+    BeforeAtTop,
+    /// Wrong only for a reader that takes ids as signed.
+    OverTheMiddle,
+    /// Wrong only for a reader that takes the bytes in the other order.
+    OverAByte,
+}
+
+pub const BAD_IDS: [BadId; 6] = [
+    BadId::Equal,
+    BadId::OneBelow,
+    BadId::Zero,
+    BadId::BeforeAtTop,
+    BadId::OverTheMiddle,
+    BadId::OverAByte,
+];
+
+/// How a field is above its limit.
+#[derive(Clone, Copy, Debug)]
+pub enum Above {
+    ByOne,
+    /// The largest its width holds.
+    Largest,
+    /// The highest bit alone: below zero to a signed reader.
+    HighBit,
+    /// Only the highest byte, so that a reader who drops it sees zero.
+    HighByte,
+    Random,
+}
+
+pub const ABOVES: [Above; 5] = [
+    Above::ByOne,
+    Above::Largest,
+    Above::HighBit,
+    Above::HighByte,
+    Above::Random,
+];
+
+/// Breaks number 5 at a row that has one before it.
+pub fn spoil_id(rows: &mut Rows, kind: u8, row: usize, way: BadId) {
+    let before = rows.row(kind, row - 1)[0];
+    let id = match way {
+        BadId::Equal => before,
+        BadId::OneBelow => before.saturating_sub(1),
+        BadId::Zero => 0,
+        BadId::BeforeAtTop => {
+            rows.row(kind, row - 1)[0] = u32::MAX;
+            return;
+        }
+        BadId::OverTheMiddle => {
+            rows.row(kind, row - 1)[0] = before.max(0x8000_0000);
+            0x7FFF_FFFF
+        }
+        BadId::OverAByte => {
+            rows.row(kind, row - 1)[0] = before.max(0x0001_0000);
+            0x0000_FFFF
+        }
+    };
+    rows.row(kind, row)[0] = id;
+}
+
+/// A value of this width above the limit.
+pub fn above(rng: &mut Rng, width: usize, limit: u32, way: Above) -> u32 {
+    let largest = u32::MAX >> (32 - 8 * width);
+    match way {
+        Above::ByOne => limit + 1,
+        Above::Largest => largest,
+        Above::HighBit => largest / 2 + 1,
+        // One-byte fields have no lower byte; the others need a high byte that
+        // alone is above the limit.
+        Above::HighByte => {
+            let low = 8 * (width as u32 - 1);
+            let least = limit / (1 << low) + 1;
+            rng.from_to(least, 255) << low
+        }
+        Above::Random => rng.from_to(limit + 1, largest),
+    }
+}
+
+/// Breaks number 6 at one field, counted in row order.
+pub fn spoil_limit(rng: &mut Rng, rows: &mut Rows, at: (u8, usize, usize), way: Above) {
+    let (kind, row, field) = at;
+    let (width, limit) = fields(kind).nth(field).expect("a field of this kind");
+    rows.row(kind, row)[field] = above(rng, width, limit, way);
+}
+
+/// Breaks number 7 and nothing else: every fraction keeps its limit.
+pub fn spoil_fractions(rng: &mut Rng, row: &mut [u32; 15]) {
+    let sum: u32 = rng.pick(&[1_001, 1_001, 1_002, 2_000, 2_001, 3_000]);
+    let mut left = sum;
+    let turn = rng.below(3);
+    for i in 0..3 {
+        // At least what the fractions still to come can't hold.
+        let rest = 1_000 * (2 - i as u32);
+        let part = rng.from_to(left.saturating_sub(rest), left.min(1_000));
+        row[SUMMED[(i + turn) % 3]] = part;
+        left -= part;
+    }
+}
+
+/// Breaks number 8 and nothing else, in one period or both.
+pub fn spoil_after(rng: &mut Rng, row: &mut [u32; 15]) {
+    let periods = rng.pick(&[0..1, 1..2, 0..2].map(|range| (range.start, range.end)));
+    for period in periods.0..periods.1 {
+        let before = row[BEFORE[period]].min(9_999);
+        row[BEFORE[period]] = before;
+        row[AFTER[period]] = match rng.below(4) {
+            0 => 10_000,
+            1 => rng.from_to(before + 1, 10_000),
+            _ => before + 1,
+        };
+    }
+}
+
+/// Breaks one of the numbers 5 to 8 at a random place. The rows must hold two
+/// or more of each of the first three kinds.
+pub fn spoil(rng: &mut Rng, rows: &mut Rows, number: u32) -> String {
+    match number {
+        5 => {
+            let kind = rng.pick(&[1, 2, 3]);
+            let length = rows.len(kind);
+            let mut row = 1 + rng.below(length - 1);
+            // The first row of a later block, often.
+            if length > 12 && rng.one_in(3) {
+                row = if length > 24 { rng.pick(&[12, 24]) } else { 12 };
+            }
+            let way = rng.pick(&BAD_IDS);
+            spoil_id(rows, kind, row, way);
+            format!("5: {way:?} at kind {kind} row {row}")
+        }
+        6 => {
+            let kind = rng.pick(&[1, 1, 2, 3, 4]);
+            let row = rng.below(rows.len(kind));
+            let first = usize::from(kind != 4);
+            let field = first + rng.below(fields(kind).count() - first);
+            let way = rng.pick(&ABOVES);
+            spoil_limit(rng, rows, (kind, row, field), way);
+            format!("6: {way:?} at kind {kind} row {row} field {field}")
+        }
+        7 => {
+            let row = rng.below(rows.conversion.len());
+            spoil_fractions(rng, &mut rows.conversion[row]);
+            format!("7: at row {row}")
+        }
+        8 => {
+            let row = rng.below(rows.conversion.len());
+            spoil_after(rng, &mut rows.conversion[row]);
+            format!("8: at row {row}")
+        }
+        _ => unreachable!("number {number} is not broken in rows"),
+    }
+}
+
+#[cfg(test)]
+mod tests {
+    use super::*;
+    use crate::judge::{judge, Refusal, Verdict};
+
+    #[test]
+    fn each_number_broken_alone_is_given() {
+        let mut rng = Rng::new(11);
+        for number in 5..=8 {
+            for _ in 0..2_000 {
+                let mut rows = Rows::good_from(&mut rng, 2);
+                let how = spoil(&mut rng, &mut rows, number);
+                match judge(&rows.to_bytes()) {
+                    Verdict::Refused(Refusal { number: given, .. }) => {
+                        assert_eq!(given, number, "{how}")
+                    }
+                    accepted => panic!("{how}: {accepted:?}"),
+                }
+            }
+        }
+    }
+}

@@ -1,0 +1,279 @@
+//! Inputs made one after the other, each place and each value in its turn.
+//! Only what a sweep doesn't name is left to the generator.
+
+use crate::damage::{block, block_count};
+use crate::make::{fields, repair_checks, seal, zero_areas, Rows};
+use crate::make::{AFTER, BEFORE, BLOCK, CHECK_AT, MOST_ROWS, SUMMED};
+use crate::rng::Rng;
+use crate::spoil::{spoil_id, spoil_limit, ABOVES, BAD_IDS};
+
+/// An input and a short word on how it was made.
+pub struct Case {
+    pub how: String,
+    pub bytes: Vec<u8>,
+}
+
+type Family = (usize, fn(usize, &mut Rng) -> Case);
+
+const LENGTHS: usize = 5_201;
+const FILLINGS: usize = 5;
+/// Kinds 1 to 3 with counts 1 to 12, and the parameters.
+const FORMS: usize = 3 * 12 + 1;
+/// The most zero areas a block can have, two for each used record and the
+/// twenty bytes; a form with fewer starts again.
+const AREAS: usize = 2 * 12 + 1;
+/// Ways above a limit, and at the limit.
+const WAYS: usize = ABOVES.len() + 1;
+
+const FAMILIES: [Family; 8] = [
+    (LENGTHS * FILLINGS, lengths),
+    (FORMS * CHECK_AT, every_byte),
+    (FORMS * AREAS * 2, zero_ends),
+    (8 * 256, header_bytes),
+    (4 * 256, check_bytes),
+    ((MOST_ROWS + 5) * 3 * 2, counts),
+    (MOST_ROWS * (14 + 4 + 4 + 6) * WAYS, limits),
+    ((MOST_ROWS - 1) * 3 * BAD_IDS.len(), ids),
+];
+
+/// How many inputs the sweeps have together.
+pub fn size() -> usize {
+    FAMILIES.iter().map(|(size, _)| size).sum()
+}
+
+/// The `index`-th input of the sweeps.
+pub fn case(mut index: usize, rng: &mut Rng) -> Case {
+    for (size, make) in FAMILIES {
+        if index < size {
+            return make(index, rng);
+        }
+        index -= size;
+    }
+    panic!("the sweeps have {} inputs", size())
+}
+
+/// Every length from 0 to 5,200.
+fn lengths(index: usize, rng: &mut Rng) -> Case {
+    let length = index / FILLINGS;
+    let full = |rng: &mut Rng| Rows::good(rng, [32; 3]).to_bytes();
+    let (how, bytes) = match index % FILLINGS {
+        0 => ("zeros", vec![0; length]),
+        1 => {
+            let mut bytes = vec![0; length];
+            rng.fill(&mut bytes);
+            ("random bytes", bytes)
+        }
+        2 => {
+            let mut bytes = full(rng);
+            bytes.resize(length, rng.byte());
+            ("front of a good return", bytes)
+        }
+        3 => {
+            // As many whole good blocks as fit, the last one parameters.
+            let blocks = (length / BLOCK).min(10);
+            let rows = blocks.saturating_sub(1) * 12;
+            let counts = [rows.min(32), rows.saturating_sub(36).min(32), 0];
+            let mut bytes = Rows::good(rng, counts).to_bytes();
+            let kept = bytes.len().min(length);
+            bytes.resize(length, 0);
+            rng.fill(&mut bytes[kept..]);
+            ("a good return and more", bytes)
+        }
+        _ => {
+            let mut bytes = full(rng);
+            bytes.resize(length, 0);
+            seal(&mut bytes);
+            (
+                "front of a good return, numbers and checks made right",
+                bytes,
+            )
+        }
+    };
+    Case {
+        how: format!("length {length}, {how}"),
+        bytes,
+    }
+}
+
+/// A good return that holds a block of one form, and where that block stands.
+fn formed(rng: &mut Rng, form: usize) -> (Vec<u8>, usize) {
+    let mut counts = [0; 3].map(|_| rng.pick(&[0, 0, 1, 2, 13]));
+    if form < 36 {
+        counts[form / 12] = 1 + form % 12;
+    }
+    let bytes = Rows::good(rng, counts).to_bytes();
+    let kind = 1 + (form / 12) as u8;
+    let place = (0..block_count(&bytes)).find(|&b| bytes[BLOCK * b] == kind);
+    (bytes, place.expect("a block of this kind"))
+}
+
+/// Every byte of every form of block changed, with the check made right.
+fn every_byte(index: usize, rng: &mut Rng) -> Case {
+    let (form, at) = (index / CHECK_AT, index % CHECK_AT);
+    let (mut bytes, b) = formed(rng, form);
+    block(&mut bytes, b)[at] ^= rng.nonzero_byte();
+    repair_checks(&mut bytes);
+    Case {
+        how: format!("form {form}, byte {at} of block {b} changed"),
+        bytes,
+    }
+}
+
+/// The first and the last byte of every zero area of every form of block.
+fn zero_ends(index: usize, rng: &mut Rng) -> Case {
+    let (form, area, last) = (index / 2 / AREAS, index / 2 % AREAS, index % 2 == 1);
+    let (mut bytes, b) = formed(rng, form);
+    let block = block(&mut bytes, b);
+    let areas = zero_areas(block[0], usize::from(block[1]));
+    let area = &areas[area % areas.len()];
+    let at = if last { area.end - 1 } else { area.start };
+    block[at] = rng.nonzero_byte();
+    repair_checks(&mut bytes);
+    Case {
+        how: format!("form {form}, zero at {at} of block {b}"),
+        bytes,
+    }
+}
+
+/// Every value of every header byte, in a block of a good return.
+fn header_bytes(index: usize, rng: &mut Rng) -> Case {
+    let (at, value) = (index / 256, (index % 256) as u8);
+    let mut bytes = Rows::any_good(rng).to_bytes();
+    let b = rng.below(block_count(&bytes));
+    block(&mut bytes, b)[at] = value;
+    repair_checks(&mut bytes);
+    Case {
+        how: format!("header byte {at} of block {b} set to {value}"),
+        bytes,
+    }
+}
+
+/// Every value of every byte of a check.
+fn check_bytes(index: usize, rng: &mut Rng) -> Case {
+    let (at, value) = (CHECK_AT + index / 256, (index % 256) as u8);
+    let mut bytes = Rows::any_good(rng).to_bytes();
+    let b = rng.below(block_count(&bytes));
+    block(&mut bytes, b)[at] = value;
+    Case {
+        how: format!("check byte {at} of block {b} set to {value}"),
+        bytes,
+    }
+}
+
+/// Every count of each kind, up to 36 rows: above 32 they are one block's
+/// fault, and good but for their number. The others none, or any.
+fn counts(index: usize, rng: &mut Rng) -> Case {
+    let (count, kind, alone) = (index / 6, index / 2 % 3, index.is_multiple_of(2));
+    let mut counts = [0; 3].map(|_| if alone { 0 } else { rng.below(MOST_ROWS + 1) });
+    counts[kind] = count;
+    let bytes = Rows::good(rng, counts).to_bytes();
+    Case {
+        how: format!("row counts {counts:?}"),
+        bytes,
+    }
+}
+
+/// Every field of every row above its limit in every way, and at its limit.
+fn limits(index: usize, rng: &mut Rng) -> Case {
+    let (way, rest) = (index % WAYS, index / WAYS);
+    let (row, field) = (rest % MOST_ROWS, rest / MOST_ROWS);
+    // Fields from 1: an id has no limit. Parameters have no id, and one row.
+    let (kind, field) = match field {
+        0..14 => (1, field + 1),
+        14..18 => (2, field - 13),
+        18..22 => (3, field - 17),
+        _ => (4, field - 22),
+    };
+    let row = if kind == 4 { 0 } else { row };
+    let mut counts = [0; 3].map(|_| rng.below(4));
+    if kind != 4 {
+        counts[usize::from(kind) - 1] = MOST_ROWS;
+    }
+    let mut rows = Rows::good(rng, counts);
+    if way < ABOVES.len() {
+        spoil_limit(rng, &mut rows, (kind, row, field), ABOVES[way]);
+    } else {
+        at_limit(&mut rows, kind, row, field);
+    }
+    let how = format!("kind {kind} row {row} field {field} limit way {way}");
+    Case {
+        how,
+        bytes: rows.to_bytes(),
+    }
+}
+
+/// Sets a field to its limit and keeps the row good.
+fn at_limit(rows: &mut Rows, kind: u8, row: usize, field: usize) {
+    let (_, limit) = fields(kind).nth(field).expect("a field of this kind");
+    let row = rows.row(kind, row);
+    if kind == 1 && SUMMED.contains(&field) {
+        SUMMED.into_iter().for_each(|summed| row[summed] = 0);
+    }
+    if let (1, Some(period)) = (kind, AFTER.iter().position(|&after| after == field)) {
+        row[BEFORE[period]] = limit;
+    }
+    row[field] = limit;
+}
+
+/// Every row with an id not above the one before, in every way; the rows at 12
+/// and 24 have it before them in another block.
+fn ids(index: usize, rng: &mut Rng) -> Case {
+    let (way, rest) = (BAD_IDS[index % BAD_IDS.len()], index / BAD_IDS.len());
+    let (kind, row) = (1 + (rest % 3) as u8, 1 + rest / 3);
+    let mut counts = [0; 3].map(|_| rng.below(4));
+    counts[usize::from(kind) - 1] = row + 1 + rng.below(MOST_ROWS - row);
+    let mut rows = Rows::good(rng, counts);
+    spoil_id(&mut rows, kind, row, way);
+    let bytes = rows.to_bytes();
+    Case {
+        how: format!("id {way:?} at kind {kind} row {row}"),
+        bytes,
+    }
+}
+
+#[cfg(test)]
+mod tests {
+    use super::*;
+    use crate::judge::{judge, Refusal, Verdict};
+
+    #[test]
+    fn every_index_makes_an_input() {
+        for index in 0..size() {
+            case(index, &mut Rng::for_input(1, index as u64));
+        }
+    }
+
+    #[test]
+    fn limits_are_met_and_broken() {
+        for index in 0..MOST_ROWS * 28 * WAYS {
+            let verdict = judge(&limits(index, &mut Rng::for_input(2, index as u64)).bytes);
+            if index % WAYS == ABOVES.len() {
+                assert!(
+                    matches!(verdict, Verdict::Accepted(_)),
+                    "{index}: {verdict:?}"
+                );
+            } else {
+                let refused = matches!(verdict, Verdict::Refused(Refusal { number: 6, .. }));
+                assert!(refused, "{index}: {verdict:?}");
+            }
+        }
+    }
+
+    #[test]
+    fn zero_ends_are_all_refused() {
+        for index in 0..FORMS * AREAS * 2 {
+            let verdict = judge(&zero_ends(index, &mut Rng::for_input(3, index as u64)).bytes);
+            let refused = matches!(verdict, Verdict::Refused(Refusal { number: 4, .. }));
+            assert!(refused, "{index}: {verdict:?}");
+        }
+    }
+
+    #[test]
+    fn ids_are_refused_at_their_row() {
+        for index in 0..(MOST_ROWS - 1) * 3 * BAD_IDS.len() {
+            let verdict = judge(&ids(index, &mut Rng::for_input(4, index as u64)).bytes);
+            let refused = matches!(verdict, Verdict::Refused(Refusal { number: 5, .. }));
+            assert!(refused, "{index}: {verdict:?}");
+        }
+    }
+}
