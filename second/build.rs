@@ -2,7 +2,7 @@
 //!
 //! It is looked for in the folder named by NILOFERQ_LIB, or else in
 //! `../target/staticlib` beside this package. Without it the library and its
-//! unit tests still build; the two programs stop with a message.
+//! unit tests still build; the programs that need it stop with a message.
 
 use std::env;
 use std::path::PathBuf;

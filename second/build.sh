@@ -1,7 +1,8 @@
 # Builds the second program beside the proved library. To be read by a shell in the repository's folder:
 #     . second/build.sh; second_run compare
 # The proved library is x86-64 code, so on another processor the second program is built for x86-64 too (tools/machine.sh).
-comparisons="compare"
+second_features="lines,doubles"
+comparisons="compare compare_lines compare_doubles compare_sheets"
 
 . tools/machine.sh
 
@@ -9,9 +10,11 @@ second_build() {
     local door=$PWD/target/staticlib target=x86_64-unknown-linux-gnu
     mkdir -p target
     rt staticlib door >target/door.log 2>&1 || { cat target/door.log >&2; return 1; }
+    # the program itself, for compare_sheets: rt links a proved program to target/bin
+    [ -x target/bin/sheets ] || rt check sheets >target/sheets.log 2>&1 || { cat target/sheets.log >&2; return 1; }
     if [ "$(uname -m)" = x86_64 ]; then
         command -v cargo >/dev/null || machine_install cargo rustc
-        (cd second && NILOFERQ_LIB=$door cargo build --release --quiet)
+        (cd second && NILOFERQ_LIB=$door cargo build --release --quiet --features "$second_features")
         second_folder=second/target/release
         return
     fi
@@ -19,14 +22,14 @@ second_build() {
     [ -d "/usr/lib/rustlib/$target" ] || machine_install rustc-web libstd-rust-web-dev:amd64
     command -v cargo >/dev/null || machine_install cargo-web
     (cd second && NILOFERQ_LIB=$door RUSTC=/usr/bin/rustc CARGO_TARGET_X86_64_UNKNOWN_LINUX_GNU_LINKER=$machine_cc \
-        cargo build --release --quiet --target "$target")
+        cargo build --release --quiet --features "$second_features" --target "$target")
     second_folder=second/target/$target/release
 }
 
 second_run() { # PROGRAM [ARGUMENT..]
     local program=$1
     shift
-    $machine_runner "$second_folder/$program" "$@"
+    NILOFERQ_SHEETS=$PWD/target/bin/sheets NILOFERQ_RUNNER=$machine_runner $machine_runner "$second_folder/$program" "$@"
 }
 
 second_build

@@ -33,17 +33,47 @@ const HARVEST: u8 = 3;
 const PARAMETERS: u8 = 4;
 
 type Block = [u8; BLOCK];
-type Record = [u8; RECORD];
+pub type Record = [u8; RECORD];
+
+/// A return that was accepted: the caller's own bytes and the row counts.
+#[derive(Clone, Copy)]
+pub struct Checked<'a> {
+    blocks: &'a [Block],
+    pub counts: [u32; 4],
+}
+
+impl<'a> Checked<'a> {
+    /// The used records of kind 1 to 4, in order.
+    pub fn records(self, kind: u8) -> impl Iterator<Item = &'a Record> {
+        self.blocks
+            .iter()
+            .filter(move |block| block[0] == kind)
+            .flat_map(|block| used_records(block, usize::from(block[1])))
+    }
+
+    /// The one record of kind 4, at the front of the last block.
+    pub fn parameters(self) -> &'a Record {
+        &used_records(&self.blocks[self.blocks.len() - 1], 1)[0]
+    }
+}
+
+impl Refusal {
+    /// As C gets it: "1,000 times the refusal number plus the place".
+    pub fn answer(self) -> u32 {
+        1000 * self.number + self.place
+    }
+}
 
 /// Judges a return: the four row counts, or the refusal the paper asks for.
 pub fn judge(bytes: &[u8]) -> Verdict {
-    match counts_of(bytes) {
-        Ok(counts) => Verdict::Accepted(counts),
+    match check(bytes) {
+        Ok(checked) => Verdict::Accepted(checked.counts),
         Err(refusal) => Verdict::Refused(refusal),
     }
 }
 
-fn counts_of(bytes: &[u8]) -> Result<[u32; 4], Refusal> {
+/// As [`judge`], with the records of an accepted return at hand.
+pub fn check(bytes: &[u8]) -> Result<Checked<'_>, Refusal> {
     let blocks = blocks_of(bytes)?;
     first_block(blocks, 2, check_holds)?;
     first_block(blocks, 3, header_holds)?;
@@ -54,7 +84,7 @@ fn counts_of(bytes: &[u8]) -> Result<[u32; 4], Refusal> {
     for block in blocks {
         counts[usize::from(block[0] - 1)] += u32::from(block[1]);
     }
-    Ok(counts)
+    Ok(Checked { blocks, counts })
 }
 
 /// Number 1: "length is 0, above 5,120 or no multiple of 512".
@@ -328,11 +358,11 @@ fn used_records(block: &Block, count: usize) -> &[Record] {
 }
 
 /// "Little-endian."
-fn two<const N: usize>(bytes: &[u8; N], at: usize) -> u16 {
+pub fn two<const N: usize>(bytes: &[u8; N], at: usize) -> u16 {
     u16::from_le_bytes([bytes[at], bytes[at + 1]])
 }
 
-fn four<const N: usize>(bytes: &[u8; N], at: usize) -> u32 {
+pub fn four<const N: usize>(bytes: &[u8; N], at: usize) -> u32 {
     u32::from_le_bytes([bytes[at], bytes[at + 1], bytes[at + 2], bytes[at + 3]])
 }
 

@@ -1,18 +1,34 @@
-//! The second program: a judge of returns written from the paper (01) alone,
-//! with makers of good and damaged returns to compare it with the first.
+//! The second program, written from the paper (01) alone: a judge, a reader and
+//! a writer of returns, the worksheets and the doubles, with makers of good and
+//! damaged inputs to compare all of it with the first program.
 //!
 //! It shares no code and no definition with the first program. The unit tests
-//! (`cargo test --lib`) need nothing else; the programs `compare` and `bench`
-//! are linked with the first program's archive (see `build.rs`).
+//! (`cargo test --lib`) need nothing else; the comparisons and the benchmark
+//! are linked with the first program's archive (see `build.rs`), each with the
+//! functions it uses and no others.
 
 #![deny(unsafe_code)]
 
+pub mod bound;
 pub mod damage;
+pub mod doubles;
+pub mod drive;
 #[cfg(not(door_missing))]
 pub mod ffi;
+pub mod figures;
+pub mod inputs;
 pub mod judge;
+pub mod land;
+pub mod lent;
 pub mod make;
 pub mod mix;
+pub mod reader;
 pub mod rng;
+pub mod rowlists;
+pub mod sheets;
 pub mod spoil;
 pub mod sweep;
+pub mod text;
+pub mod timing;
+pub mod worst;
+pub mod writer;

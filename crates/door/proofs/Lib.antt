@@ -1,1 +1,2 @@
 mod Rooms
+mod Bits

@@ -23,6 +23,15 @@ four-stores (_ ∷ []) a b c d h = absurd (omega arith)
 four-stores (_ ∷ _ ∷ []) a b c d h = absurd (omega arith)
 four-stores (_ ∷ _ ∷ _ ∷ []) a b c d h = absurd (omega arith)
 
+pub eight-stores : (l : List ℕ) (a b c d e f g h : ℕ) → 8 ≤ length l
+    → set (set (set (set (set (set (set (set l 0 a) 1 b) 2 c) 3 d) 4 e) 5 f) 6 g) 7 h ≡ (a ∷ b ∷ c ∷ d ∷ e ∷ f ∷ g ∷ h ∷ []) ++ drop 8 l
+eight-stores (_ ∷ _ ∷ _ ∷ _ ∷ l) a b c d e f g h le =
+    ap (λ (x : List ℕ). a ∷ b ∷ c ∷ d ∷ x) (four-stores l e f g h (omega arith))
+eight-stores [] a b c d e f g h le = absurd (omega arith)
+eight-stores (_ ∷ []) a b c d e f g h le = absurd (omega arith)
+eight-stores (_ ∷ _ ∷ []) a b c d e f g h le = absurd (omega arith)
+eight-stores (_ ∷ _ ∷ _ ∷ []) a b c d e f g h le = absurd (omega arith)
+
 -- the three ways out of the judge for C
 module _ (s room : List ℕ) where
   -- what the answer r and the room l are, for a ruling

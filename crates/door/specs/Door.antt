@@ -1,10 +1,17 @@
 -- What a program in C gets back. "1 to 8 (from C, then 11 and last 9)."
 use Prim.Native.Nat.{ℕ, _+_, _*_}
+use mathlib.Core.Bool.{cond}
 use mathlib.Core.List.{List, [], _∷_, _++_}
 use lib.ListN.{length, drop}
-use lib.Dec.{ltb}
+use lib.Dec.{ltb, eqb}
+use lib.Ieee.{Float, binary64, toBits}
 use Rattle.form.specs.Ruling.{Rule, rule, ruling}
-use Rattle.form.specs.Verdict.{rules, countsOf}
+use Rattle.form.specs.Bytes.{littleEndian}
+use Rattle.form.specs.Verdict.{rules, rows, countsOf}
+use Rattle.report.specs.declared.Put.{Put}
+use Rattle.report.specs.declared.Put.the-variants.{Done, Short}
+use Rattle.doubles.specs.Subtotals.{subtotalsOf}
+use Rattle.doubles.specs.declared.Doubles.{Doubles}
 use Rattle.form.specs.declared.Counts.{Counts}
 use Rattle.form.specs.declared.Ruling.{Ruling}
 use Rattle.form.specs.declared.Ruling.the-variants.{Clean, Broken}
@@ -29,3 +36,24 @@ four c = c .conversion ∷ c .stock ∷ c .harvest ∷ c .parameters ∷ []
 abbrev pub countsAfter : List ℕ → List ℕ → Ruling → List ℕ
 countsAfter s room Clean = four (countsOf s) ++ drop 4 room
 countsAfter s room (Broken n p) = room
+
+-- the charting program's subtotal: 11 for "a subtotal's code above 2", after the return's rules and before the room for eight bytes
+abbrev pub wrongCode : ℕ → Rule
+wrongCode code = rule 11 1 (λ p. ltb 2 code)
+
+abbrev pub subtotalRules : List ℕ → ℕ → List ℕ → List Rule
+subtotalRules s code room = rules s ++ (wrongCode code ∷ tooShort 8 room ∷ [])
+
+-- "a subtotal's code: 0 on-site, 1 off-site, 2 decay"
+abbrev pub byCode : ℕ → Doubles → Float
+byCode code d = cond (eqb code 0) (d .onsite) (cond (eqb code 1) (d .offsite) (d .decay))
+
+-- "the first eight bytes of that room then hold the double's bits, little-endian"
+abbrev pub bitsAfter : List ℕ → ℕ → List ℕ → Ruling → List ℕ
+bitsAfter s code room Clean = littleEndian 8 (toBits binary64 (byCode code (subtotalsOf (rows 1 s)))) ++ drop 8 room
+bitsAfter s code room (Broken n p) = room
+
+-- the lines from C: the text's length, which is never 0, or 0 for a room too short
+abbrev pub sizeOf : Put → ℕ
+sizeOf (Done n) = n
+sizeOf Short = 0

@@ -4,9 +4,15 @@ ghost use Prim.Native.Nat.{_+_, _*_, _≤_, _<_};
 ghost use mathlib.Core.List.{_++_};
 ghost use lib.ListN.{length, drop};
 ghost use Rattle.form.specs.Ruling.{ruling};
-ghost use Rattle.door.specs.Door.{codeOf, judgeRules, four, countsAfter};
+ghost use lib.Ieee.{binary64, toBits};
+ghost use Rattle.form.specs.Bytes.{littleEndian};
+ghost use Rattle.door.specs.Door.{codeOf, judgeRules, four, countsAfter, subtotalRules, byCode, bitsAfter, sizeOf};
+ghost use Rattle.report.specs.Lines.{printed, putOf, roomAfter};
+use doubles::Answer;
+use doubles::Doubles;
 use form::Counts;
 use form::Verdict;
+use report::Put;
 
 fn refusal(number: u8, place: u32) -> u32
     requires { ⌜ place < 1000 ⌝ }
@@ -40,5 +46,69 @@ pub extern "C" fn niloferq_judge(bytes: &[u8], counts: &mut [u32]) -> u32
             put_counts(c, counts);
             0
         }
+    }
+}
+
+fn by_code(d: Doubles, code: u32) -> f64
+    ensures { λ r. ⌜ r ≡ byCode code d ⌝ }
+{
+    if code == 0 {
+        return d.onsite;
+    }
+    if code == 1 { d.offsite } else { d.decay }
+}
+
+// The lowest byte first.
+fn put_bits(bits: u64, room: &mut [u8])
+    requires { ⌜ 8 ≤ length (now room) ⌝ }
+    ensures { λ _. ⌜ now (room .exit) ≡ littleEndian 8 bits ++ drop 8 (now (room .entry)) ⌝ }
+{
+    let b = bits / 256;
+    let c = b / 256;
+    let d = c / 256;
+    let e = d / 256;
+    let f = e / 256;
+    let g = f / 256;
+    let h = g / 256;
+    room[0] = (bits % 256) as u8;
+    room[1] = (b % 256) as u8;
+    room[2] = (c % 256) as u8;
+    room[3] = (d % 256) as u8;
+    room[4] = (e % 256) as u8;
+    room[5] = (f % 256) as u8;
+    room[6] = (g % 256) as u8;
+    room[7] = (h % 256) as u8;
+}
+
+// 0 and the subtotal's bits at the front of the room; or the refusal, and the room as it was.
+#[no_mangle]
+pub extern "C" fn niloferq_subtotal(bytes: &[u8], code: u32, room: &mut [u8]) -> u32
+    ensures { λ r. ⌜ r ≡ codeOf (ruling (subtotalRules (now (bytes .entry)) code (now (room .entry)))) ⌝ }
+    ensures { λ _. ⌜ now (room .exit) ≡ bitsAfter (now (bytes .entry)) code (now (room .entry)) (ruling (subtotalRules (now (bytes .entry)) code (now (room .entry)))) ⌝ }
+{
+    match doubles::subtotals(bytes) {
+        Answer::Refused { number, place } => refusal(number, place),
+        Answer::Figures(d) => {
+            if 2 < code {
+                return refusal(11, 0);
+            }
+            if room.len() < 8 {
+                return refusal(9, 0);
+            }
+            put_bits(f64::to_bits(by_code(d, code)), room);
+            0
+        }
+    }
+}
+
+// The text that `sheets` prints at the front of the room, and its length; or 0, and the room as it was, where it is too short.
+#[no_mangle]
+pub extern "C" fn niloferq_lines(bytes: &[u8], room: &mut [u8]) -> usize
+    ensures { λ r. ⌜ r ≡ sizeOf (putOf (printed (now (bytes .entry))) (now (room .entry))) ⌝ }
+    ensures { λ _. ⌜ now (room .exit) ≡ roomAfter (printed (now (bytes .entry))) (now (room .entry)) (putOf (printed (now (bytes .entry))) (now (room .entry))) ⌝ }
+{
+    match report::lines(bytes, room) {
+        Put::Done(n) => n,
+        Put::Short => 0,
     }
 }

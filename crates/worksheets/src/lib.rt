@@ -1,1 +1,47 @@
-// Worksheets 5-1, 5-2 and 5-3.
+// Worksheets 5-1, 5-2 and 5-3: the figures of a return, or its refusal.
+pub mod sheets;
+pub mod units;
+
+ghost use mathlib.Core.Path.{_≡_};
+ghost use Rattle.form.specs.Verdict.{verdictOf};
+ghost use Rattle.form.specs.declared.Verdict.the-variants.{Accepted};
+ghost use Rattle.worksheets.specs.Sheets.{figuresOf};
+ghost use Rattle.worksheets.specs.Answers.{Shows, said, outcomeOf, InForm};
+use crate::sheets::Answer;
+use crate::sheets::Figures;
+use crate::sheets::read_parameters;
+use crate::sheets::work_conversion;
+use crate::sheets::work_gases;
+use crate::sheets::work_stocks;
+use form::Counts;
+use form::Verdict;
+use totals::sum_conversion;
+use totals::sum_harvest;
+use totals::sum_uptake;
+
+// The figures of bytes that were judged before, with the counts that the judge gave.
+pub fn work_out(bytes: &[u8], c: Counts) -> Figures
+    requires { ⌜ verdictOf (now bytes) ≡ Accepted c ⌝ }
+    ensures { λ r. ⌜ Shows r (figuresOf (now (bytes .entry))) ⌝ }
+{
+    let p = read_parameters(bytes, c);
+    let t = sum_conversion(bytes, c);
+    let stocks = work_stocks(sum_uptake(bytes, c), sum_harvest(bytes, c), t.cleared, p.n);
+    let conversion = work_conversion(t.onsite, t.offsite, t.decay);
+    let gases = work_gases(t.onsite, p);
+    Figures {
+        stocks,
+        conversion,
+        gases,
+    }
+}
+
+// Any bytes of any length: they are judged once, and worked out where they are accepted.
+pub fn figures(bytes: &[u8]) -> Answer
+    ensures { λ r. ⌜ (said r ≡ outcomeOf (now (bytes .entry))) × InForm r ⌝ }
+{
+    match judge::judge(bytes) {
+        Verdict::Accepted(c) => Answer::Figures(work_out(bytes, c)),
+        Verdict::Refused { number, place } => Answer::Refused { number, place },
+    }
+}

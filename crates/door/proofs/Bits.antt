@@ -1,0 +1,102 @@
+-- The ways out of the charting program's subtotal, and that its doubles are numbers. Assumes nothing.
+use Prim.Native.Nat.{ℕ, _+_, _*_, _≤_, _<_}
+use mathlib.Core.Path.{_≡_, refl, sym, ap, subst, _∙_}
+use mathlib.Core.Bool.{Bool, true, false, not, cond}
+use mathlib.Core.List.{List, [], _∷_, _++_}
+use native.Mathlib.Omega.{arith}
+use borrow.Author.Tests.{lt-ltb, le-ltb}
+use lib.Dec.{T, eqb}
+use lib.Ieee.{Float, binary64, isNan, toBits}
+use lib.ListN.{length, drop}
+use Rattle.form.specs.Ruling.{ruling}
+use Rattle.form.specs.Bytes.{littleEndian}
+use Rattle.form.specs.Verdict.{rules, rows, verdictOf}
+use Rattle.form.specs.declared.Counts.{Counts}
+use Rattle.form.specs.declared.Ruling.{Ruling}
+use Rattle.form.specs.declared.Verdict.{Verdict}
+use Rattle.form.specs.declared.Verdict.the-variants as verdict
+use Rattle.form.proofs.Order.{ruled-before, kept-before, one-broken, one-kept}
+use Rattle.form.proofs.Meaning.{refused-ruling}
+use Rattle.form.proofs.Accepted.{accepted-ruling}
+use Rattle.doubles.specs.declared.Doubles.{Doubles}
+use Rattle.doubles.specs.declared.Answer.{Answer}
+use Rattle.doubles.specs.declared.Answer.the-variants.{Figures, Refused}
+use Rattle.doubles.specs.Subtotals.{subtotalsOf, answerBy, answerOf}
+use Rattle.doubles.proofs.Wholes.{no-nan}
+use Rattle.doubles.proofs.Demand.{onsite-demand, offsite-demand, decay-demand}
+use Rattle.door.specs.Door.{codeOf, wrongCode, tooShort, subtotalRules, byCode, bitsAfter}
+
+-- what the answer says of the verdict
+refused-by : (s : List ℕ) (v : Verdict) (n p : ℕ) → answerBy s v ≡ Refused n p → v ≡ verdict.Refused n p
+refused-by s (verdict.Accepted c) n p e = let z : _≡_ {A = ℕ} 0 1 = cc in absurd (omega arith)
+refused-by s (verdict.Refused m q) n p e =
+    let a : m ≡ n = cc in
+    let b : q ≡ p = cc in
+    cc
+
+pub record Figured (s : List ℕ) (d : Doubles) : Type 0 where
+  pub counts : Counts
+  pub accepted : verdictOf s ≡ verdict.Accepted counts
+  pub doubles : d ≡ subtotalsOf (rows 1 s)
+
+figured-by : (s : List ℕ) (v : Verdict) (d : Doubles) → verdictOf s ≡ v → answerBy s v ≡ Figures d → Figured s d
+figured-by s (verdict.Accepted c) d a e = record { counts = c; accepted = a; doubles = cc }
+figured-by s (verdict.Refused m q) d a e = let z : _≡_ {A = ℕ} 0 1 = cc in absurd (omega arith)
+
+pub refused-verdict : (s : List ℕ) (n p : ℕ) → answerOf s ≡ Refused n p → verdictOf s ≡ verdict.Refused n p
+refused-verdict s n p e = refused-by s (verdictOf s) n p e
+
+pub figured : (s : List ℕ) (d : Doubles) → answerOf s ≡ Figures d → Figured s d
+figured s d e = figured-by s (verdictOf s) d refl e
+
+-- one of three numbers is a number
+one-number : (a b : Bool) (x y z : Float) → T (not (isNan x)) → T (not (isNan y)) → T (not (isNan z)) → T (not (isNan (cond a x (cond b y z))))
+one-number true b x y z p q r = p
+one-number false true x y z p q r = q
+one-number false false x y z p q r = r
+
+module _ (s : List ℕ) (code : ℕ) where
+  pub number : (d : Doubles) → Figured s d → T (not (isNan (byCode code d)))
+  number d f =
+      let c = f .counts in
+      let a = f .accepted in
+      let t = subtotalsOf (rows 1 s) in
+      subst (λ (x : Doubles). T (not (isNan (byCode code x)))) (sym (f .doubles))
+      (one-number (eqb code 0) (eqb code 1) (t .onsite) (t .offsite) (t .decay)
+      (no-nan _ _ (onsite-demand s c a .whole))
+      (no-nan _ _ (offsite-demand s c a .whole))
+      (no-nan _ _ (decay-demand s c a .whole)))
+
+  module _ (room : List ℕ) where
+    abbrev Out : ℕ → List ℕ → Ruling → Type 0
+    Out r l v = (r ≡ codeOf v) × (l ≡ bitsAfter s code room v)
+
+    pub refused-out : (n p r : ℕ) → answerOf s ≡ Refused n p → r ≡ 1000 * n + p → Out r room (ruling (subtotalRules s code room))
+    refused-out n p r e q =
+        rw (ruled-before (rules s) (wrongCode code ∷ tooShort 8 room ∷ []) (refused-ruling s n p (refused-verdict s n p e))) (q, refl)
+
+    pub code-out : (d : Doubles) (r : ℕ) → Figured s d → 2 < code → r ≡ 1000 * 11 + 0 → Out r room (ruling (subtotalRules s code room))
+    code-out d r f h q =
+        rw (
+          kept-before (rules s) (wrongCode code ∷ tooShort 8 room ∷ []) (accepted-ruling s (f .counts) (f .accepted)),
+          one-broken 11 _ (tooShort 8 room ∷ []) (lt-ltb 2 code h),
+        ) (q, refl)
+
+    pub short-out : (d : Doubles) (r : ℕ) → Figured s d → code ≤ 2 → length room < 8 → r ≡ 1000 * 9 + 0 → Out r room (ruling (subtotalRules s code room))
+    short-out d r f h l q =
+        rw (
+          kept-before (rules s) (wrongCode code ∷ tooShort 8 room ∷ []) (accepted-ruling s (f .counts) (f .accepted)),
+          one-kept 11 _ (tooShort 8 room ∷ []) (le-ltb 2 code h),
+          one-broken 9 _ [] (lt-ltb (length room) 8 l),
+        ) (q, refl)
+
+    pub done-out : (d : Doubles) (x : Float) (l : List ℕ) → Figured s d → code ≤ 2 → 8 ≤ length room → x ≡ byCode code d
+        → l ≡ littleEndian 8 (toBits binary64 x) ++ drop 8 room → Out 0 l (ruling (subtotalRules s code room))
+    unfolding ruling
+    done-out d x l f h m e q =
+        rw (
+          kept-before (rules s) (wrongCode code ∷ tooShort 8 room ∷ []) (accepted-ruling s (f .counts) (f .accepted)),
+          one-kept 11 _ (tooShort 8 room ∷ []) (le-ltb 2 code h),
+          one-kept 9 _ [] (le-ltb (length room) 8 m),
+        )
+        (refl, q ∙ ap (λ (y : Float). littleEndian 8 (toBits binary64 y) ++ drop 8 room) (e ∙ ap (byCode code) (f .doubles)))

@@ -1,0 +1,64 @@
+-- `doubles::decay_at` meets its contract. Assumes nothing.
+use denote.Ref.{now}
+use Rattle.doubles.proofs.Fields.{falls, decay-at}
+use native.Mathlib.Omega.{arith}
+use borrow.Author.Needs.{needs}
+use Rattle.doubles.proofs.decay_at.Statement.{statement}
+use Rattle.doubles.proofs.decay_at.Tie as tie
+
+add-two-at : tie.Need-add-two-at
+add-two-at c = search needs
+
+two-at-requires : tie.Need-two-at-requires
+two-at-requires c κs = search needs
+
+add-two-at-2 : tie.Need-add-two-at-2
+add-two-at-2 c = search needs
+
+two-at-requires-2 : tie.Need-two-at-requires-2
+two-at-requires-2 c κs = search needs
+
+sub-difference : tie.Need-sub-difference
+sub-difference c = let g = c .before .before .before in omega (arith, falls (now (g .args .bytes)) (g .args .at) (g .pre .1) .1)
+
+add-four-at : tie.Need-add-four-at
+add-four-at c = search needs
+
+four-at-requires : tie.Need-four-at-requires
+four-at-requires c κs = search needs
+
+add-two-at-3 : tie.Need-add-two-at-3
+add-two-at-3 c = search needs
+
+two-at-requires-3 : tie.Need-two-at-requires-3
+two-at-requires-3 c κs = search needs
+
+add-two-at-4 : tie.Need-add-two-at-4
+add-two-at-4 c = search needs
+
+two-at-requires-4 : tie.Need-two-at-requires-4
+two-at-requires-4 c κs = search needs
+
+part-requires : tie.Need-part-requires
+part-requires c κs = search needs
+
+returns : tie.Need-returns
+returns c = let g = c .before .before .before .before .before .before .before .args in cc (decay-at (now (g .bytes)) (g .at))
+
+pub decay-at-spec : {M : Type 1} → statement M
+decay-at-spec =
+    tie.close
+    (tie.spec
+    add-two-at
+    two-at-requires
+    add-two-at-2
+    two-at-requires-2
+    sub-difference
+    add-four-at
+    four-at-requires
+    add-two-at-3
+    two-at-requires-3
+    add-two-at-4
+    two-at-requires-4
+    part-requires
+    returns)

@@ -1,0 +1,114 @@
+// The three carbon subtotals as doubles, from the caller's own bytes.
+ghost use mathlib.Core.Path.{_≡_};
+ghost use mathlib.Core.Bool.{false};
+ghost use Prim.Native.Nat.{_+_, _≤_};
+ghost use lib.ListN.{length};
+ghost use Rattle.form.specs.Bytes.{number};
+ghost use Rattle.form.specs.Layout.{conversion, rowAt};
+ghost use Rattle.form.specs.Records.{grown};
+ghost use Rattle.form.specs.Verdict.{rows, rowCount, countsOf, verdictOf};
+ghost use Rattle.form.specs.declared.Verdict.the-variants.{Accepted};
+ghost use Rattle.doubles.specs.Subtotals.{partOf, decayDouble, subtotalsOf, answerOf};
+ghost use Rattle.doubles.specs.Steps.{partsOf, plusOf};
+use form::Verdict;
+use form::four_at;
+use form::two_at;
+
+pub struct Doubles {
+    pub onsite: f64,
+    pub offsite: f64,
+    pub decay: f64,
+}
+
+pub enum Answer {
+    Figures(Doubles),
+    Refused { number: u8, place: u32 },
+}
+
+// Four products, each rounded to a double: another order may give other bits.
+fn part(area: u32, difference: u32, fraction: u32, oxidised: u32, carbon: u32) -> f64
+    ensures { λ r. ⌜ r ≡ partOf area difference fraction oxidised carbon ⌝ }
+{
+    (area as f64) * (difference as f64) * (fraction as f64) * (oxidised as f64) * (carbon as f64)
+}
+
+// The part whose fraction, oxidised and carbon fraction stand from `at` on.
+fn burnt_at(bytes: &[u8], at: usize, area: u32, difference: u32) -> f64
+    requires { ⌜ at + 6 ≤ length (now bytes) ⌝ }
+    ensures { λ r. ⌜ r ≡ partOf area difference (number 2 (now (bytes .entry)) at) (number 2 (now (bytes .entry)) (at + 2)) (number 2 (now (bytes .entry)) (at + 4)) ⌝ }
+{
+    part(
+        area,
+        difference,
+        two_at(bytes, at),
+        two_at(bytes, at + 2),
+        two_at(bytes, at + 4),
+    )
+}
+
+// The decay of the record at `at`, from its ten-year fields.
+fn decay_at(bytes: &[u8], at: usize) -> f64
+    requires { ⌜ (at + 40 ≤ length (now bytes)) × (grown (rowAt conversion (now bytes) at) ≡ false) ⌝ }
+    ensures { λ r. ⌜ r ≡ decayDouble (rowAt conversion (now (bytes .entry)) at) ⌝ }
+{
+    let difference = two_at(bytes, at + 28) - two_at(bytes, at + 30);
+    part(
+        four_at(bytes, at + 24),
+        difference,
+        two_at(bytes, at + 32),
+        1000,
+        two_at(bytes, at + 34),
+    )
+}
+
+// The three parts of the record at `at`, whose densities do not grow.
+fn parts_at(bytes: &[u8], at: usize) -> Doubles
+    requires { ⌜ (at + 40 ≤ length (now bytes)) × (grown (rowAt conversion (now bytes) at) ≡ false) ⌝ }
+    ensures { λ r. ⌜ r ≡ partsOf (rowAt conversion (now (bytes .entry)) at) ⌝ }
+{
+    let area = four_at(bytes, at + 4);
+    let difference = two_at(bytes, at + 8) - two_at(bytes, at + 10);
+    Doubles {
+        onsite: burnt_at(bytes, at + 12, area, difference),
+        offsite: burnt_at(bytes, at + 18, area, difference),
+        decay: decay_at(bytes, at),
+    }
+}
+
+fn plus(t: Doubles, p: Doubles) -> Doubles
+    ensures { λ r. ⌜ r ≡ plusOf t p ⌝ }
+{
+    Doubles {
+        onsite: t.onsite + p.onsite,
+        offsite: t.offsite + p.offsite,
+        decay: t.decay + p.decay,
+    }
+}
+
+// The subtotals of an accepted return with n conversion rows, which stand one after the other from the first record on.
+pub fn add_up(bytes: &[u8], n: u32) -> Doubles
+    requires { ⌜ (verdictOf (now bytes) ≡ Accepted (countsOf (now bytes))) × (n ≡ rowCount 1 (now bytes)) ⌝ }
+    ensures { λ r. ⌜ r ≡ subtotalsOf (rows 1 (now (bytes .entry))) ⌝ }
+{
+    let mut t = Doubles {
+        onsite: 0.0,
+        offsite: 0.0,
+        decay: 0.0,
+    };
+    let mut i: usize = 0;
+    while i < n as usize {
+        t = plus(t, parts_at(bytes, 512 * (i / 12) + 8 + 40 * (i % 12)));
+        i += 1;
+    }
+    t
+}
+
+// Any bytes of any length, judged once.
+pub fn subtotals(bytes: &[u8]) -> Answer
+    ensures { λ r. ⌜ r ≡ answerOf (now (bytes .entry)) ⌝ }
+{
+    match judge::judge(bytes) {
+        Verdict::Accepted(counts) => Answer::Figures(add_up(bytes, counts.conversion)),
+        Verdict::Refused { number, place } => Answer::Refused { number, place },
+    }
+}

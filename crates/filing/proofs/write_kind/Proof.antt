@@ -1,0 +1,89 @@
+-- `filing::write_kind` meets its contract. Assumes nothing.
+use Prim.Native.Nat.{ℕ, _+_, _-_, _*_, _/_, _≤_, _<_}
+use mathlib.Core.Path.{_≡_, ap}
+use native.Mathlib.Nat.{zero-add, div-le-self}
+use lib.ListN.{length}
+use Rattle.filing.specs.Lists.{rowsIn, filedList}
+use Rattle.filing.specs.Written.{blockOf}
+use Rattle.filing.proofs.Stores.{Filling, filling-none, filling-more, filling-all}
+use Rattle.filing.proofs.Parts.{length-block}
+use borrow.Author.Needs.{needs}
+use native.Mathlib.Omega.{arith}
+use Rattle.filing.proofs.write_kind.Statement.{statement}
+use Rattle.filing.proofs.write_kind.Tie as tie
+
+abbrev Inv-loop : tie.InvT-loop
+Inv-loop kind rows start n out₀ m blocks b₀ out b = Filling (blockOf (filedList kind rows) start n) 512 0 blocks out₀ (512 * start) out (512 * (start + b)) b
+
+abbrev μ-loop : tie.MeasureT-loop
+μ-loop kind rows start n out₀ m blocks b₀ out b = blocks - b
+
+-- in a turn: the block is one of the list's
+inside : (c : tie.In-loop Inv-loop μ-loop)
+    → let a = c .before .before .before .before .before .args in
+    let m = length (a .rows .now) / c .before .before .numbers .result in
+    (m ≡ rowsIn (a .kind) (a .rows .now)) × (12 * c .before .loop .b ≤ m) × (a .start + c .before .loop .b < a .n) × (512 * a .n ≤ length (c .before .loop .out))
+inside c =
+    let a = c .before .before .before .before .before .args in
+    let e = ap (λ (x : ℕ). length (a .rows .now) / x) (c .before .before .numbers .ensures .0) in
+    (e, omega arith, omega (arith, c .before .loop .inv .within), omega (arith, c .before .loop .inv .same))
+
+numbers-requires : tie.Need-numbers-requires Inv-loop μ-loop
+numbers-requires c κs = search needs
+
+div-m : tie.Need-div-m Inv-loop μ-loop
+div-m c = search needs
+
+add-blocks : tie.Need-add-blocks Inv-loop μ-loop
+add-blocks c = omega (arith, div-le-self (length (c .before .before .before .args .rows .now)) (c .numbers .result))
+
+loop-holds : tie.Need-loop-holds Inv-loop μ-loop
+loop-holds c =
+    let a = c .before .before .before .args in
+    let e : 512 * (a .start + 0) ≡ 512 * a .start = omega arith in
+    rw e filling-none
+
+write-block-requires : tie.Need-write-block-requires Inv-loop μ-loop
+write-block-requires c κs =
+    let i = inside (c .before) in
+    ((search needs, search needs, i .0, i .1), (i .2, search needs, i .3))
+
+add-b : tie.Need-add-b Inv-loop μ-loop
+add-b c = omega (arith, inside (c .before .before .before .before))
+
+loop-less : tie.Need-loop-less Inv-loop μ-loop
+loop-less c = search needs
+
+loop-again : tie.Need-loop-again Inv-loop μ-loop
+loop-again c =
+    let at-block = c .before .before in
+    let turn = at-block .before .before in
+    let a = turn .before .before .before .before .before .args in
+    let v = turn .before .loop in
+    filling-more (v .inv) (turn .loop-test .taken)
+    (length-block (filedList (a .kind) (a .rows .now)) (a .start) (a .n) (0 + v .b))
+    (rw (zero-add (v .b)) (at-block .write-block .ensures))
+    (omega arith)
+
+same-length : tie.Need-same-length Inv-loop μ-loop
+same-length c = search needs
+
+returns : tie.Need-returns Inv-loop μ-loop
+returns c = rw (← c .before .before .numbers .ensures .0) (filling-all (c .before .loop .inv) (c .loop-test .left))
+
+pub write-kind-spec : {M : Type 1} → statement M
+write-kind-spec =
+    tie.close
+    (tie.spec
+    Inv-loop
+    μ-loop
+    numbers-requires
+    div-m
+    add-blocks
+    loop-holds
+    write-block-requires
+    add-b
+    loop-less
+    loop-again
+    same-length
+    returns)

@@ -1,0 +1,14 @@
+-- The layouts by number, as the code's tables have them.
+use Prim.Native.Nat.{ℕ, _/_, _%_}
+use mathlib.Core.List.{List}
+use lib.ListN.{getD}
+use Rattle.form.specs.Layout.{Field, field, Layout, layout, rowAt}
+use Rattle.form.specs.Block.{recordAt}
+
+-- field i of a layout; past the last there is none
+abbrev pub fieldAt : Layout → ℕ → Field
+fieldAt l i = getD l i (field 0 0 0)
+
+-- the row of the record at a place, read as one of a kind
+unfoldable pub rowOn : ℕ → List ℕ → ℕ → List ℕ
+rowOn kind s j = rowAt (layout kind) s (recordAt (j / 12) (j % 12))

@@ -1,0 +1,3 @@
+-- The rules of rows that are to be written. Read in this order.
+pub mod Rules
+pub mod Examples

@@ -1,0 +1,85 @@
+-- Text put into room, byte by byte and part by part. Assumes nothing.
+use Prim.Native.Nat.{ℕ, zero, suc, _+_, _<_, _≤_}
+use mathlib.Core.Path.{_≡_, refl, sym, ap, subst, _∙_}
+use mathlib.Core.List.{List, [], _∷_, _++_, append-assoc}
+use native.Mathlib.Nat.{zero-add}
+use borrow.Author.Tests.{lt-ltb, le-ltb, ltb-false}
+use mathlib.Core.Bool.{Bool, true, false, cond}
+use lib.Dec.{ltb}
+use native.Mathlib.Numerals.{add-one}
+use native.Mathlib.Omega.{arith}
+use lib.ListN.{length, getD, take, drop, set}
+use lib.Seq.{sets, take-suc, take-length, take-at, length-take-le, sets-eq}
+use lib.IntN.{ℤ}
+use Rattle.wide.specs.Digits.{decimal, marked, Written}
+use Rattle.report.specs.Lines.{line, refusedLine, textOf, putOf, roomAfter}
+use Rattle.worksheets.specs.Answers.{Outcome}
+use Rattle.report.specs.declared.Put.the-variants.{Done, Short}
+use Rattle.form.proofs.Tests.{taken, left}
+use Rattle.wide.proofs.DigitLaws.{sets-append}
+
+-- one byte more of a text
+pub put-more : (d text : List ℕ) (at i : ℕ) → i < length text → set (sets d at (take i text)) (at + i) (getD text i 0) ≡ sets d at (take (i + 1) text)
+put-more d text at i l =
+    let n : length (take i text) ≡ i = length-take-le i text (omega arith) in
+    sym (ap (λ (x : List ℕ). sets d at x) (ap (λ (k : ℕ). take k text) (add-one i) ∙ take-suc text i 0 l)
+    ∙ sets-append d at (take i text) (getD text i 0 ∷ [])
+    ∙ ap (λ (k : ℕ). set (sets d at (take i text)) (at + k) (getD text i 0)) n)
+
+pub whole-length : (l : List ℕ) → length (take (length l) l) ≡ length l
+whole-length l = ap length (take-length l)
+
+-- a name, a space, a value and a line feed, one after the other, are a line
+pub as-line : (name : List ℕ) (z : ℤ) {d e : List ℕ} {i j : ℕ} → Written (take (length name) name ++ (32 ∷ []) ++ marked z ++ (10 ∷ [])) d e i j → Written (line name z) d e i j
+as-line name z {d} {e} {i} {j} w =
+    subst (λ (x : List ℕ). Written x d e i j)
+    (ap (λ (x : List ℕ). x ++ (32 ∷ []) ++ marked z ++ (10 ∷ [])) (take-length name) ∙ ap (λ (x : List ℕ). x ++ (10 ∷ [])) (append-assoc name (32 ∷ []) (marked z)))
+    w
+
+-- the same behind "refused", the number and a space
+pub as-refused : (n p : ℕ) {d e : List ℕ} {i j : ℕ}
+    → Written ((114 ∷ 101 ∷ 102 ∷ 117 ∷ 115 ∷ 101 ∷ 100 ∷ 32 ∷ []) ++ decimal n ++ (32 ∷ []) ++ decimal p ++ (10 ∷ [])) d e i j → Written (refusedLine n p) d e i j
+unfolding refusedLine
+as-refused n p {d} {e} {i} {j} w =
+    subst (λ (x : List ℕ). Written x d e i j)
+    (ap (λ (x : List ℕ). x ++ (10 ∷ [])) (append-assoc ((114 ∷ 101 ∷ 102 ∷ 117 ∷ 115 ∷ 101 ∷ 100 ∷ 32 ∷ []) ++ decimal n) (32 ∷ []) (decimal p)))
+    w
+
+-- a text at the front of room
+front : (d t : List ℕ) → length t ≤ length d → sets d 0 t ≡ t ++ drop (length t) d
+front d t l = sets-eq t d 0 (omega arith) ∙ ap (λ (k : ℕ). t ++ drop k d) (zero-add (length t))
+
+-- the two ways out of `lines`: the text stands in room of our own, and the lent room is long enough or not
+module _ (text own own′ room : List ℕ) (n : ℕ) (w : Written text own own′ 0 n) where
+  size : n ≡ length text
+  size = w .place ∙ zero-add (length text)
+
+  pub short-out : length room < n → (Short ≡ putOf text room) × (room ≡ roomAfter text room Short)
+  short-out l = (taken _ (lt-ltb (length room) (length text) (omega (arith, size))) refl, refl)
+
+  pub done-out : (room′ : List ℕ) (m : ℕ) → n ≤ length own → n ≤ length room → Written (take n own′) room room′ 0 m
+      → (Done n ≡ putOf text room) × (room′ ≡ roomAfter text room (Done n))
+  done-out room′ m h l p =
+      let e : take n own′ ≡ text =
+      ap (take n) (w .room ∙ front own text (omega (arith, size))) ∙ take-at text (drop (length text) own) n (sym size) in (
+        left _ (le-ltb (length room) (length text) (omega (arith, size))) (ap Done size),
+        p .room
+            ∙ ap (λ (x : List ℕ). sets room 0 x) e
+            ∙ front room text (omega (arith, size))
+            ∙ ap (λ (k : ℕ). text ++ drop k room) (sym size),
+      )
+
+-- the text of an outcome that another one equals
+pub as-text : {o p : Outcome} {d e : List ℕ} {i j : ℕ} → o ≡ p → Written (textOf o) d e i j → Written (textOf p) d e i j
+as-text {d = d} {e} {i} {j} q w = subst (λ (x : Outcome). Written (textOf x) d e i j) q w
+
+-- a text that was put fits the room
+fits-by : (b : Bool) (n k m : ℕ) → (b ≡ false → n ≤ m) → cond b Short (Done n) ≡ Done k → k ≤ m
+fits-by true n k m h e = let z : _≡_ {A = ℕ} 0 1 = cc in absurd (omega arith)
+fits-by false n k m h e =
+    let q : n ≡ k = cc in
+    omega (arith, h refl)
+
+pub put-fits : (text room : List ℕ) (k : ℕ) → putOf text room ≡ Done k → k ≤ length room
+put-fits text room k e =
+    fits-by (ltb (length room) (length text)) (length text) k (length room) (ltb-false (length room) (length text)) e

@@ -1,0 +1,55 @@
+-- `rows::write_whole` meets its contract. Assumes nothing.
+use mathlib.Core.Path.{refl, sym, _∙_}
+use denote.Ref.{now}
+use Rattle.filing.specs.Lists.{lists}
+use Rattle.rows.proofs.Return.{record-broken, records-kept}
+use borrow.Author.Needs.{needs}
+use Rattle.rows.proofs.write_whole.Statement.{statement}
+use Rattle.rows.proofs.write_whole.Tie as tie
+
+find-starts-requires : tie.Need-find-starts-requires
+find-starts-requires c κs = search needs
+
+records-ruling-requires : tie.Need-records-ruling-requires
+records-ruling-requires c κs = search needs
+
+enum-known-number : tie.Need-enum-known-number
+enum-known-number c = search needs
+
+enum-told : tie.Need-enum-told
+enum-told c = search needs
+
+write-sound-requires : tie.Need-write-sound-requires
+write-sound-requires c κs = search needs
+
+returns : tie.Need-returns
+returns c =
+    let at-ruling = c .before .before .before in
+    let a = at-ruling .before .before .before .before .before .before .before .args in
+    let l = lists (now (a .conversion)) (now (a .stock)) (now (a .harvest)) (now (a .parameters)) in
+    (record-broken l (a .room .now) (sym (at-ruling .records-ruling .ensures) ∙ c .before .number .given .1), refl)
+
+same-length : tie.Need-same-length
+same-length c = search needs
+
+returns-2 : tie.Need-returns-2
+returns-2 c =
+    let at-sound = c .before .before in
+    let told = at-sound .before .before in
+    let at-ruling = told .before .before in
+    let a = at-ruling .before .before .before .before .before .before .before .args in
+    let l = lists (now (a .conversion)) (now (a .stock)) (now (a .harvest)) (now (a .parameters)) in
+    (records-kept l (a .room .now) (sym (at-ruling .records-ruling .ensures) ∙ told .enum-told .given .1) (at-sound .write-sound .ensures .0), at-sound .write-sound .ensures .1)
+
+pub write-whole-spec : {M : Type 1} → statement M
+write-whole-spec =
+    tie.close
+    (tie.spec
+    find-starts-requires
+    records-ruling-requires
+    enum-known-number
+    enum-told
+    write-sound-requires
+    returns
+    same-length
+    returns-2)

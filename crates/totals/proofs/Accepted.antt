@@ -1,0 +1,131 @@
+-- Where row i of a kind stands in an accepted return, by the counts, and how large the sums are. Assumes nothing.
+--     conversion-row, ..    its bytes, from the kind's first block
+--     sound, uptake-small, .., room, columns-small    its limits, and how large the sums are
+--     next, turn            a turn of a loop over the rows
+use Prim.Native.Nat.{ℕ, _+_, _*_, _/_, _%_, _^_, _<_, _≤_}
+use mathlib.Core.Path.{_≡_, refl, sym, ap, subst, _∙_}
+use mathlib.Core.Bool.{false}
+use mathlib.Core.List.{List, []}
+use native.Mathlib.Nat.{le-refl, le-trans, mul-le-mul-left}
+use lib.Dec.{lit≤}
+use native.Mathlib.Omega.{arith}
+use lib.ListN.{length, take, getD}
+use Rattle.form.specs.Layout.{layout, conversion, rowAt, aboveLimit}
+use Rattle.form.specs.Block.{recordAt}
+use Rattle.form.specs.Verdict.{rowCount, rows, verdictOf}
+use Rattle.form.specs.Standing.{blocksFor, startBlock}
+use Rattle.form.specs.declared.Counts.{Counts}
+use Rattle.form.specs.declared.Verdict.the-variants.{Accepted}
+use Rattle.form.proofs.Accepted.{accepted-counts, few-rows, rows-length, one-row, row-is, inside, within, shrunk}
+use Rattle.totals.specs.Columns.{sumOf, uptakePart, harvestPart, clearedPart, onsitePart, offsitePart, decayPart, columnE, columnK, columnL, onsiteTotal, offsiteTotal, decayTotal}
+use Rattle.totals.specs.Sums.{Sound, partsOf, Added, Summed}
+use Rattle.wide.specs.Numbers.{value}
+use Rattle.totals.specs.declared.Parts.{Parts}
+use Rattle.totals.specs.declared.Totals.{Totals}
+use Rattle.totals.proofs.Limits.{cleared-below, onsite-below, offsite-below, decay-below, uptake-below, harvest-below}
+use Rattle.totals.proofs.Sums.{sum-next, sum-all, sum-below}
+
+-- row i of a kind starts at a byte, and all of it is there
+pub record Stands (s : List ℕ) (k i at : ℕ) : Type 0 where
+  pub there : i < length (rows k s)
+  pub row : getD (rows k s) i [] ≡ rowAt (layout k) s at
+  pub inside : at + 40 ≤ length s
+
+module _ (s : List ℕ) (c : Counts) (acc : verdictOf s ≡ Accepted c) where
+  counts : (c .conversion ≡ rowCount 1 s) × (c .stock ≡ rowCount 2 s) × (c .harvest ≡ rowCount 3 s)
+  counts = let e = accepted-counts s c acc in (ap (λ (x : Counts). x .conversion) e, ap (λ (x : Counts). x .stock) e, ap (λ (x : Counts). x .harvest) e)
+
+  pub lengths : (length (rows 1 s) ≡ c .conversion) × (length (rows 2 s) ≡ c .stock) × (length (rows 3 s) ≡ c .harvest)
+  lengths =
+      let l = rows-length s c acc in
+      (l 1 ∙ sym (counts .0), l 2 ∙ sym (counts .1), l 3 ∙ sym (counts .2))
+
+  stands : (k first i at : ℕ) → 1 ≤ k → k ≤ 4 → startBlock k s ≡ first → i < rowCount k s → at ≡ recordAt (first + i / 12) (i % 12) → Stands s k i at
+  stands k first i at lo hi e l q =
+      let p : recordAt (startBlock k s + i / 12) (i % 12) ≡ at = ap (λ (b : ℕ). recordAt (b + i / 12) (i % 12)) e ∙ sym q in
+      subst (Stands s k i) p
+      (record { there = omega (arith, rows-length s c acc k); row = row-is s c acc k i lo hi l; inside = inside s c acc k i lo hi l })
+
+  -- by the counts
+  pub conversion-row : (i at : ℕ) → i < c .conversion → at ≡ recordAt (0 + i / 12) (i % 12) → Stands s 1 i at
+  unfolding startBlock
+  conversion-row i at l = stands 1 0 i at (lit≤ tt) (lit≤ tt) refl (omega (arith, counts))
+
+  pub stock-row : (first i at : ℕ) → first ≡ blocksFor (c .conversion) → i < c .stock → at ≡ recordAt (first + i / 12) (i % 12) → Stands s 2 i at
+  unfolding startBlock
+  stock-row first i at e l = stands 2 first i at (lit≤ tt) (lit≤ tt) (omega (arith, counts)) (omega (arith, counts))
+
+  pub harvest-row : (first i at : ℕ) → first ≡ blocksFor (c .conversion) + blocksFor (c .stock) → i < c .harvest
+      → at ≡ recordAt (first + i / 12) (i % 12) → Stands s 3 i at
+  unfolding startBlock
+  harvest-row first i at e l = stands 3 first i at (lit≤ tt) (lit≤ tt) (omega (arith, counts)) (omega (arith, counts))
+
+  pub parameter-row : (first at : ℕ) → first ≡ blocksFor (c .conversion) + blocksFor (c .stock) + blocksFor (c .harvest)
+      → at ≡ recordAt (first + 0 / 12) (0 % 12) → Stands s 4 0 at
+  unfolding startBlock
+  parameter-row first at e = stands 4 first 0 at (lit≤ tt) (lit≤ tt) (omega (arith, counts)) (omega (arith, one-row s c acc))
+
+  -- each row keeps the rules, by its number
+  kept : (k i : ℕ) → 1 ≤ k → k ≤ 4 → i < length (rows k s) → aboveLimit (layout k) (getD (rows k s) i []) ≡ false
+  kept k i lo hi l = within s c acc k i lo hi (omega (arith, rows-length s c acc k))
+
+  pub sound : (i : ℕ) → i < length (rows 1 s) → Sound (getD (rows 1 s) i [])
+  sound i l = record { within = kept 1 i (lit≤ tt) (lit≤ tt) l; shrunk = shrunk s c acc i (omega (arith, rows-length s c acc 1)) }
+
+  -- what no row of a kind is above, no sum over its first rows is above 32 times
+  small : (k : ℕ) (f : List ℕ → ℕ) (b : ℕ) → 1 ≤ k → k ≤ 4 → ((r : List ℕ) → aboveLimit (layout k) r ≡ false → f r ≤ b)
+      → (i : ℕ) → i ≤ length (rows k s) → sumOf f (take i (rows k s)) ≤ b * 32
+  small k f b lo hi h i l =
+      le-trans (sum-below f b (rows k s) i (λ j m. h _ (kept k j lo hi m)) l)
+      (mul-le-mul-left b (omega (arith, few-rows s c acc k, rows-length s c acc k)))
+
+  pub uptake-small : (i : ℕ) → i ≤ length (rows 2 s) → sumOf uptakePart (take i (rows 2 s)) ≤ 10 ^ 14 * 32
+  uptake-small = small 2 uptakePart (10 ^ 14) (lit≤ tt) (lit≤ tt) uptake-below
+
+  pub harvest-small : (i : ℕ) → i ≤ length (rows 3 s) → sumOf harvestPart (take i (rows 3 s)) ≤ 10 ^ 12 * 32
+  harvest-small = small 3 harvestPart (10 ^ 12) (lit≤ tt) (lit≤ tt) harvest-below
+
+  pub cleared-small : (i : ℕ) → i ≤ length (rows 1 s) → sumOf clearedPart (take i (rows 1 s)) ≤ 10 ^ 13 * 32
+  cleared-small = small 1 clearedPart (10 ^ 13) (lit≤ tt) (lit≤ tt) cleared-below
+
+  pub onsite-small : (i : ℕ) → i ≤ length (rows 1 s) → sumOf onsitePart (take i (rows 1 s)) ≤ 10 ^ 19 * 32
+  onsite-small = small 1 onsitePart (10 ^ 19) (lit≤ tt) (lit≤ tt) onsite-below
+
+  pub offsite-small : (i : ℕ) → i ≤ length (rows 1 s) → sumOf offsitePart (take i (rows 1 s)) ≤ 10 ^ 19 * 32
+  offsite-small = small 1 offsitePart (10 ^ 19) (lit≤ tt) (lit≤ tt) offsite-below
+
+  pub decay-small : (i : ℕ) → i ≤ length (rows 1 s) → sumOf decayPart (take i (rows 1 s)) ≤ 10 ^ 19 * 32
+  decay-small = small 1 decayPart (10 ^ 19) (lit≤ tt) (lit≤ tt) decay-below
+
+  -- so there is room for one row more
+  pub room : (t : Totals) (i : ℕ) → i ≤ length (rows 1 s) → Summed t (take i (rows 1 s))
+      → (value (t .cleared .0) < 2 ^ 100) × (value (t .onsite .0) < 2 ^ 100) × (value (t .offsite .0) < 2 ^ 100) × (value (t .decay .0) < 2 ^ 100)
+  room t i l e = (omega (arith, cleared-small i l), omega (arith, onsite-small i l), omega (arith, offsite-small i l), omega (arith, decay-small i l))
+
+  -- how large the columns can be
+  pub columns-small : (columnE s < 2 ^ 64) × (columnK s < 2 ^ 64) × (columnL s < 2 ^ 64) × (onsiteTotal s < 2 ^ 80) × (offsiteTotal s < 2 ^ 80) × (decayTotal s < 2 ^ 80)
+  columns-small = (
+    omega (arith, whole uptakePart 2, uptake-small _ (le-refl _)),
+    omega (arith, whole harvestPart 3, harvest-small _ (le-refl _)),
+    omega (arith, whole clearedPart 1, cleared-small _ (le-refl _)),
+    omega (arith, whole onsitePart 1, onsite-small _ (le-refl _)),
+    omega (arith, whole offsitePart 1, offsite-small _ (le-refl _)),
+    omega (arith, whole decayPart 1, decay-small _ (le-refl _)),
+  )
+    where
+      whole : (f : List ℕ → ℕ) (k : ℕ) → sumOf f (take (length (rows k s)) (rows k s)) ≡ sumOf f (rows k s)
+      whole f k = sum-all f (rows k s) _ (le-refl _)
+
+-- a turn of a loop over the rows
+pub next : {s : List ℕ} {k i at : ℕ} (f : List ℕ → ℕ) {sum x : ℕ} → Stands s k i at
+    → sum ≡ sumOf f (take i (rows k s)) → x ≡ f (rowAt (layout k) s at) → sum + x ≡ sumOf f (take (i + 1) (rows k s))
+next {s} {k} {i} f h e q = omega (arith, sum-next f (rows k s) i (h .there), ap f (h .row))
+
+pub turn : {s : List ℕ} {i at : ℕ} {t u : Totals} {p : Parts} → Stands s 1 i at → p ≡ partsOf (rowAt conversion s at)
+    → Summed t (take i (rows 1 s)) → Added t p u → Summed u (take (i + 1) (rows 1 s))
+turn w q h a = record {
+  cleared = a .cleared ∙ next clearedPart w (h .cleared) (ap (λ (x : Parts). x .cleared) q);
+  onsite = a .onsite ∙ next onsitePart w (h .onsite) (ap (λ (x : Parts). x .onsite) q);
+  offsite = a .offsite ∙ next offsitePart w (h .offsite) (ap (λ (x : Parts). x .offsite) q);
+  decay = a .decay ∙ next decayPart w (h .decay) (ap (λ (x : Parts). x .decay) q);
+}

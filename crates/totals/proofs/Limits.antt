@@ -1,0 +1,92 @@
+-- A row that is not above its limits, number by number, and how large its parts are. Assumes nothing.
+--     shrunk, period, ten-years, onsites, offsites, decays, stocks, harvests    its numbers by name
+--     cleared-below, ..    its part in each sum
+use Prim.Native.Nat.{ℕ, _-_, _*_, _^_, _<_, _≤_}
+use mathlib.Core.Path.{_≡_}
+use mathlib.Core.Bool.{false}
+use mathlib.Core.List.{List}
+use native.Mathlib.Omega.{arith}
+use native.Mathlib.Nat.{le-pred-of-lt}
+use native.Mathlib.Numerals.{bound}
+use borrow.Author.Tests.{ltb-false}
+use lib.ListN.{getD}
+use lib.Dec.{ltb, lit<, lit≤}
+use Rattle.form.specs.Layout.{field, conversion, stock, harvest, aboveLimit}
+use Rattle.form.specs.Records.{areaOf, before, after, onsite, onsiteOxidised, onsiteCarbon, offsite, offsiteOxidised, offsiteCarbon, tenYearArea, tenYearBefore, tenYearAfter, decay, decayCarbon}
+use Rattle.form.proofs.Tests.{or-none}
+use Rattle.form.proofs.Accepted.{limit-of}
+use Rattle.totals.specs.Columns.{rate, amount, stockCarbon, commercial, tonnesPerM3, fuelwood, otherUse, uptakePart, harvestPart, clearedPart, onsitePart, offsitePart, decayPart}
+use Rattle.totals.specs.Sums.{Sound}
+
+-- a number of four bytes times one or two of two bytes
+pub four-two : (a b : ℕ) → a < 2 ^ 32 → b < 2 ^ 16 → a * b ≤ 2 ^ 48
+four-two a b ha hb = grw (bound, le-pred-of-lt ha, le-pred-of-lt hb) (lit≤ tt)
+
+pub four-two-two : (a b c : ℕ) → a < 2 ^ 32 → b < 2 ^ 16 → c < 2 ^ 16 → a * b * c < 2 ^ 64
+four-two-two a b c ha hb hc = grw (bound, le-pred-of-lt ha, le-pred-of-lt hb, le-pred-of-lt hc) (lit< tt)
+
+-- an area's biomass times a number of two bytes
+pub biomass-two : (a b : ℕ) → a ≤ 10 ^ 10 → b < 2 ^ 16 → a * b < 2 ^ 64
+biomass-two a b ha hb = grw (bound, ha, le-pred-of-lt hb) (lit< tt)
+
+-- what has not grown has shrunk, in both periods
+pub shrunk : {r : List ℕ} → Sound r → (after r ≤ before r) × (tenYearAfter r ≤ tenYearBefore r)
+shrunk {r} h =
+    let d = or-none (ltb (before r) (after r)) (ltb (tenYearBefore r) (tenYearAfter r)) (h .shrunk) in
+    (ltb-false (before r) (after r) (d .0), ltb-false (tenYearBefore r) (tenYearAfter r) (d .1))
+
+module _ (r : List ℕ) (h : aboveLimit conversion r ≡ false) where
+  fits : (i : ℕ) → i < 15 → getD r i 0 ≤ getD conversion i (field 0 0 0) .limit
+  fits i l = limit-of conversion r i (field 0 0 0) l h
+
+  pub period : (areaOf r ≤ 1000000) × (before r ≤ 10000)
+  period = (fits 1 (lit< tt), fits 2 (lit< tt))
+
+  pub ten-years : (tenYearArea r ≤ 1000000) × (tenYearBefore r ≤ 10000)
+  ten-years = (fits 10 (lit< tt), fits 11 (lit< tt))
+
+  pub onsites : (onsite r ≤ 1000) × (onsiteOxidised r ≤ 1000) × (onsiteCarbon r ≤ 1000)
+  onsites = (fits 4 (lit< tt), fits 5 (lit< tt), fits 6 (lit< tt))
+
+  pub offsites : (offsite r ≤ 1000) × (offsiteOxidised r ≤ 1000) × (offsiteCarbon r ≤ 1000)
+  offsites = (fits 7 (lit< tt), fits 8 (lit< tt), fits 9 (lit< tt))
+
+  pub decays : (decay r ≤ 1000) × (decayCarbon r ≤ 1000)
+  decays = (fits 13 (lit< tt), fits 14 (lit< tt))
+
+  -- a difference is no more than what it is taken from
+  five : (a b d f o c : ℕ) → a ≤ 1000000 → b ≤ 10000 → f ≤ 1000 → o ≤ 1000 → c ≤ 1000 → a * (b - d) * f * o * c ≤ 10 ^ 19
+  five a b d f o c ha hb hf ho hc = let m : b - d ≤ 10000 = omega arith in grw (bound, ha, m, hf, ho, hc) (lit≤ tt)
+
+  pub cleared-below : clearedPart r ≤ 10 ^ 13
+  unfolding clearedPart
+  cleared-below =
+      let m : before r - after r ≤ 10000 = omega (arith, period) in
+      grw (bound, period .0, m, offsites .0) (lit≤ tt)
+
+  pub onsite-below : onsitePart r ≤ 10 ^ 19
+  unfolding onsitePart
+  onsite-below = five _ _ (after r) _ _ _ (period .0) (period .1) (onsites .0) (onsites .1) (onsites .2)
+
+  pub offsite-below : offsitePart r ≤ 10 ^ 19
+  unfolding offsitePart
+  offsite-below = five _ _ (after r) _ _ _ (period .0) (period .1) (offsites .0) (offsites .1) (offsites .2)
+
+  pub decay-below : decayPart r ≤ 10 ^ 19
+  unfolding decayPart
+  decay-below = five _ _ (tenYearAfter r) _ _ _ (ten-years .0) (ten-years .1) (decays .0) (lit≤ tt) (decays .1)
+
+pub stocks : (r : List ℕ) → aboveLimit stock r ≡ false → (rate r ≤ 10000) × (amount r ≤ 10000000) × (stockCarbon r ≤ 1000)
+stocks r h = (limit-of stock r 2 (field 0 0 0) (lit< tt) h, limit-of stock r 3 (field 0 0 0) (lit< tt) h, limit-of stock r 4 (field 0 0 0) (lit< tt) h)
+
+pub uptake-below : (r : List ℕ) → aboveLimit stock r ≡ false → uptakePart r ≤ 10 ^ 14
+unfolding uptakePart
+uptake-below r h = let w = stocks r h in grw (bound, w .1, w .0, w .2) (lit≤ tt)
+
+pub harvests : (r : List ℕ) → aboveLimit harvest r ≡ false
+    → (commercial r ≤ 10000000) × (tonnesPerM3 r ≤ 10000) × (fuelwood r ≤ 10000000) × (otherUse r ≤ 10000000)
+harvests r h = (limit-of harvest r 1 (field 0 0 0) (lit< tt) h, limit-of harvest r 2 (field 0 0 0) (lit< tt) h, limit-of harvest r 3 (field 0 0 0) (lit< tt) h, limit-of harvest r 4 (field 0 0 0) (lit< tt) h)
+
+pub harvest-below : (r : List ℕ) → aboveLimit harvest r ≡ false → harvestPart r ≤ 10 ^ 12
+unfolding harvestPart
+harvest-below r h = let w = harvests r h in grw (bound, w .0, w .1, w .2, w .3) (lit≤ tt)

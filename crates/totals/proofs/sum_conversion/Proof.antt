@@ -1,0 +1,89 @@
+-- `totals::sum_conversion` meets its contract. Assumes nothing.
+use Rattle.totals.proofs.Accepted.{Stands, conversion-row, lengths, sound, room, turn}
+use Rattle.totals.proofs.Sums.{sum-all}
+use Rattle.totals.specs.Columns.{sumOf, clearedPart, onsitePart, offsitePart, decayPart}
+use Prim.Native.Nat.{ℕ, _-_, _≤_}
+use mathlib.Core.Path.{_≡_, subst, _∙_}
+use mathlib.Core.List.{List}
+use denote.Ref.{now}
+use lib.ListN.{take}
+use Rattle.form.specs.Verdict.{rows}
+use Rattle.totals.specs.Sums.{Sound, Summed}
+use borrow.Author.Needs.{needs}
+use native.Mathlib.Omega.{arith}
+use Rattle.totals.proofs.sum_conversion.Statement.{statement}
+use Rattle.totals.proofs.sum_conversion.Tie as tie
+
+abbrev Inv-loop : tie.InvT-loop
+Inv-loop bytes n t₀ i₀ t i = (i ≤ n) × Summed t (take i (rows 1 bytes))
+
+abbrev μ-loop : tie.MeasureT-loop
+μ-loop bytes n t₀ i₀ t i = n - i
+
+row : (c : tie.After-row-start Inv-loop μ-loop) → Stands (now (c .before .before .before .before .before .before .args .bytes)) 1 (c .before .before .loop .i) (c .row-start .result)
+row c = let s = c .before .before .before .before .before .before in conversion-row (now (s .args .bytes)) (s .args .c) (s .pre) _ _ (search needs) (c .row-start .ensures)
+
+cast-n : tie.Need-cast-n Inv-loop μ-loop
+cast-n c = search needs
+
+of-requires : tie.Need-of-requires Inv-loop μ-loop
+of-requires c κs = search needs
+
+loop-holds : tie.Need-loop-holds Inv-loop μ-loop
+unfolding sumOf
+loop-holds c =
+    (search needs, record { cleared = c .of .ensures; onsite = c .of .ensures; offsite = c .of .ensures; decay = c .of .ensures })
+
+row-start-requires : tie.Need-row-start-requires Inv-loop μ-loop
+row-start-requires c κs = search needs
+
+parts-at-requires : tie.Need-parts-at-requires Inv-loop μ-loop
+parts-at-requires c κs =
+    let s = c .before .before .before .before .before .before in
+    let w = row c in
+    (w .inside, subst Sound (w .row) (sound (now (s .args .bytes)) (s .args .c) (s .pre) (c .before .before .loop .i) (w .there)))
+
+add-row-requires : tie.Need-add-row-requires Inv-loop μ-loop
+add-row-requires c κs =
+    let s = c .before .before .before .before .before .before .before in
+    let w = row (c .before) in
+    room (now (s .args .bytes)) (s .args .c) (s .pre) (c .before .before .before .loop .t) (c .before .before .before .loop .i) (omega arith) (c .before .before .before .loop .inv .1)
+
+add-i : tie.Need-add-i Inv-loop μ-loop
+add-i c = search needs
+
+loop-less : tie.Need-loop-less Inv-loop μ-loop
+loop-less c = search needs
+
+loop-again : tie.Need-loop-again Inv-loop μ-loop
+loop-again c = (search needs, turn (row (c .before .before)) (c .before .parts-at .ensures) (c .before .before .before .before .loop .inv .1) (c .add-row .ensures))
+
+all : (c : tie.After-loop Inv-loop μ-loop) (f : List ℕ → ℕ) → sumOf f (take (c .before .loop .i) (rows 1 (now (c .before .before .before .before .before .args .bytes)))) ≡ sumOf f (rows 1 (now (c .before .before .before .before .before .args .bytes)))
+all c f = let s = c .before .before .before .before .before in let l = lengths (now (s .args .bytes)) (s .args .c) (s .pre) in sum-all f (rows 1 (now (s .args .bytes))) (c .before .loop .i) (omega arith)
+
+returns : tie.Need-returns Inv-loop μ-loop
+returns c =
+    let e = c .before .loop .inv .1 in
+    record {
+      cleared = e .cleared ∙ all c clearedPart;
+      onsite = e .onsite ∙ all c onsitePart;
+      offsite = e .offsite ∙ all c offsitePart;
+      decay = e .decay ∙ all c decayPart;
+    }
+
+pub sum-conversion-spec : {M : Type 1} → statement M
+sum-conversion-spec =
+    tie.close
+    (tie.spec
+    Inv-loop
+    μ-loop
+    cast-n
+    of-requires
+    loop-holds
+    row-start-requires
+    parts-at-requires
+    add-row-requires
+    add-i
+    loop-less
+    loop-again
+    returns)

@@ -1,0 +1,81 @@
+-- `totals::sum_uptake` meets its contract. Assumes nothing.
+use Rattle.totals.proofs.Accepted.{Stands, stock-row, lengths, uptake-small, next}
+use Rattle.totals.proofs.Sums.{sum-all}
+use Prim.Native.Nat.{_+_, _-_, _≤_}
+use mathlib.Core.Path.{_≡_, _∙_}
+use denote.Ref.{now}
+use lib.ListN.{take}
+use Rattle.form.specs.Verdict.{rows}
+use Rattle.totals.specs.Columns.{sumOf, uptakePart}
+use borrow.Author.Needs.{needs}
+use native.Mathlib.Omega.{arith}
+use Rattle.totals.proofs.sum_uptake.Statement.{statement}
+use Rattle.totals.proofs.sum_uptake.Tie as tie
+
+abbrev Inv-loop : tie.InvT-loop
+Inv-loop bytes first n sum₀ i₀ sum i = (i ≤ n) × (sum ≡ sumOf uptakePart (take i (rows 2 bytes)))
+
+abbrev μ-loop : tie.MeasureT-loop
+μ-loop bytes first n sum₀ i₀ sum i = n - i
+
+row : (c : tie.After-row-start Inv-loop μ-loop) → Stands (now (c .before .before .before .before .before .before .args .bytes)) 2 (c .before .before .loop .i) (c .row-start .result)
+row c = let s = c .before .before .before .before .before .before in stock-row (now (s .args .bytes)) (s .args .c) (s .pre) _ _ _ (c .before .before .before .before .blocks-for .ensures) (search needs) (c .row-start .ensures)
+
+blocks-for-requires : tie.Need-blocks-for-requires Inv-loop μ-loop
+blocks-for-requires c κs = search needs
+
+cast-n : tie.Need-cast-n Inv-loop μ-loop
+cast-n c = search needs
+
+loop-holds : tie.Need-loop-holds Inv-loop μ-loop
+unfolding sumOf
+loop-holds c = search needs
+
+row-start-requires : tie.Need-row-start-requires Inv-loop μ-loop
+row-start-requires c κs = search needs
+
+uptake-at-requires : tie.Need-uptake-at-requires Inv-loop μ-loop
+uptake-at-requires c κs = let w = row c in search needs
+
+add-sum : tie.Need-add-sum Inv-loop μ-loop
+add-sum c =
+    let s = c .before .before .before .before .before .before .before in
+    let w = row (c .before) in
+    let e = next uptakePart w (c .before .before .before .loop .inv .1) (c .uptake-at .ensures) in
+    omega (arith, uptake-small (now (s .args .bytes)) (s .args .c) (s .pre) (c .before .before .before .loop .i + 1) (omega arith))
+
+add-i : tie.Need-add-i Inv-loop μ-loop
+add-i c = search needs
+
+loop-less : tie.Need-loop-less Inv-loop μ-loop
+loop-less c = search needs
+
+loop-again : tie.Need-loop-again Inv-loop μ-loop
+loop-again c = (search needs, next uptakePart (row (c .before)) (c .before .before .before .loop .inv .1) (c .uptake-at .ensures))
+
+of-requires : tie.Need-of-requires Inv-loop μ-loop
+of-requires c κs = search needs
+
+returns : tie.Need-returns Inv-loop μ-loop
+returns c =
+    let s = c .before .before .before .before .before .before in
+    let l = lengths (now (s .args .bytes)) (s .args .c) (s .pre) in
+    c .of .ensures ∙ c .before .before .loop .inv .1 ∙ sum-all uptakePart (rows 2 (now (s .args .bytes))) (c .before .before .loop .i) (omega arith)
+
+pub sum-uptake-spec : {M : Type 1} → statement M
+sum-uptake-spec =
+    tie.close
+    (tie.spec
+    Inv-loop
+    μ-loop
+    blocks-for-requires
+    cast-n
+    loop-holds
+    row-start-requires
+    uptake-at-requires
+    add-sum
+    add-i
+    loop-less
+    loop-again
+    of-requires
+    returns)

@@ -1,0 +1,3 @@
+-- The columns that are plain sums, and what the loops over the rows keep.
+pub mod Columns
+pub mod Sums

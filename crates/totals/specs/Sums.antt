@@ -1,0 +1,34 @@
+-- What the steps along the conversion rows answer.
+use Prim.Native.Nat.{ℕ, _+_}
+use mathlib.Core.List.{List}
+use mathlib.Core.Path.{_≡_}
+use mathlib.Core.Bool.{false}
+use Rattle.form.specs.Layout.{conversion, aboveLimit}
+use Rattle.form.specs.Records.{grown}
+use Rattle.wide.specs.Numbers.{value}
+use Rattle.totals.specs.Columns.{sumOf, clearedPart, onsitePart, offsitePart, decayPart}
+use Rattle.totals.specs.declared.Parts.{Parts}
+use Rattle.totals.specs.declared.Totals.{Totals}
+
+-- a conversion row that breaks neither rule 6 nor rule 8
+pub record Sound (r : List ℕ) : Type 0 where
+  pub within : aboveLimit conversion r ≡ false
+  pub shrunk : grown r ≡ false
+
+-- one row's parts
+abbrev pub partsOf : List ℕ → Parts
+partsOf r = record { cleared = clearedPart r; onsite = onsitePart r; offsite = offsitePart r; decay = decayPart r }
+
+-- u is t with a row's parts added
+pub record Added (t : Totals) (p : Parts) (u : Totals) : Type 0 where
+  pub cleared : value (u .cleared .0) ≡ value (t .cleared .0) + p .cleared
+  pub onsite : value (u .onsite .0) ≡ value (t .onsite .0) + p .onsite
+  pub offsite : value (u .offsite .0) ≡ value (t .offsite .0) + p .offsite
+  pub decay : value (u .decay .0) ≡ value (t .decay .0) + p .decay
+
+-- t is the sums over rows
+pub record Summed (t : Totals) (rs : List (List ℕ)) : Type 0 where
+  pub cleared : value (t .cleared .0) ≡ sumOf clearedPart rs
+  pub onsite : value (t .onsite .0) ≡ sumOf onsitePart rs
+  pub offsite : value (t .offsite .0) ≡ sumOf offsitePart rs
+  pub decay : value (t .decay .0) ≡ sumOf decayPart rs

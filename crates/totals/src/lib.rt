@@ -1,0 +1,202 @@
+// Sums over the rows of an accepted return, read in the caller's bytes in place.
+ghost use mathlib.Core.Path.{_≡_};
+ghost use Prim.Native.Nat.{_+_, _-_, _*_, _/_, _%_, _^_, _≤_, _<_};
+ghost use lib.ListN.{length};
+ghost use Rattle.form.specs.Layout.{conversion, stock, harvest, rowAt};
+ghost use Rattle.form.specs.Block.{recordAt};
+ghost use Rattle.form.specs.Verdict.{rows, verdictOf};
+ghost use Rattle.form.specs.Standing.{blocksFor};
+ghost use Rattle.form.specs.declared.Verdict.the-variants.{Accepted};
+ghost use Rattle.wide.specs.Numbers.{value};
+ghost use Rattle.totals.specs.Columns.{uptakePart, harvestPart, decayPart, columnE, columnK};
+ghost use Rattle.totals.specs.Sums.{Sound, partsOf, Added, Summed};
+use form::Counts;
+use form::four_at;
+use form::two_at;
+use wide::Wide;
+use wide::add_word;
+use wide::of;
+
+// Masses of one substance, each counted in the unit of its column.
+pub struct DryMatter(pub Wide);
+
+pub struct Carbon(pub Wide);
+
+// How many blocks some rows take.
+pub fn blocks_for(rows: u32) -> usize
+    ensures { λ r. ⌜ r ≡ blocksFor rows ⌝ }
+{
+    (rows as usize + 11) / 12
+}
+
+// Where row i of a kind starts, from the kind's first block.
+pub fn row_start(first: usize, i: usize) -> usize
+    requires { ⌜ (first < 2 ^ 32) × (i < 2 ^ 32) ⌝ }
+    ensures { λ r. ⌜ r ≡ recordAt (first + i / 12) (i % 12) ⌝ }
+{
+    512 * (first + i / 12) + 8 + 40 * (i % 12)
+}
+
+// The biomass that an area loses.
+fn lost(area: u32, before: u32, after: u32) -> u64
+    requires { ⌜ (area ≤ 1000000) × (before ≤ 10000) × (after ≤ before) ⌝ }
+    ensures { λ r. ⌜ (r ≡ area * (before - after)) × (r ≤ 10 ^ 10) ⌝ }
+{
+    (area as u64) * ((before - after) as u64)
+}
+
+// The carbon of what is burned: at most 10 ^ 19, so that one word holds it.
+fn burned(biomass: u64, fraction: u32, oxidised: u32, carbon: u32) -> u64
+    requires { ⌜ (biomass ≤ 10 ^ 10) × (fraction ≤ 1000) × (oxidised ≤ 1000) × (carbon ≤ 1000) ⌝ }
+    ensures { λ r. ⌜ r ≡ biomass * fraction * oxidised * carbon ⌝ }
+{
+    biomass * (fraction as u64) * (oxidised as u64) * (carbon as u64)
+}
+
+// One conversion row's part in each sum.
+pub struct Parts {
+    pub cleared: u64,
+    pub onsite: u64,
+    pub offsite: u64,
+    pub decay: u64,
+}
+
+// One row's part in decay carbon, from what was cleared in the ten years before.
+fn decay_at(bytes: &[u8], at: usize) -> u64
+    requires { ⌜ at + 40 ≤ length (now bytes) ⌝ }
+    requires { ⌜ Sound (rowAt conversion (now bytes) at) ⌝ }
+    ensures { λ r. ⌜ r ≡ decayPart (rowAt conversion (now (bytes .entry)) at) ⌝ }
+{
+    let biomass = lost(
+        four_at(bytes, at + 24),
+        two_at(bytes, at + 28),
+        two_at(bytes, at + 30),
+    );
+    burned(
+        biomass,
+        two_at(bytes, at + 32),
+        1000,
+        two_at(bytes, at + 34),
+    )
+}
+
+fn parts_at(bytes: &[u8], at: usize) -> Parts
+    requires { ⌜ at + 40 ≤ length (now bytes) ⌝ }
+    requires { ⌜ Sound (rowAt conversion (now bytes) at) ⌝ }
+    ensures { λ r. ⌜ r ≡ partsOf (rowAt conversion (now (bytes .entry)) at) ⌝ }
+{
+    let biomass = lost(
+        four_at(bytes, at + 4),
+        two_at(bytes, at + 8),
+        two_at(bytes, at + 10),
+    );
+    let offsite = two_at(bytes, at + 18);
+    Parts {
+        cleared: biomass * (offsite as u64),
+        onsite: burned(
+            biomass,
+            two_at(bytes, at + 12),
+            two_at(bytes, at + 14),
+            two_at(bytes, at + 16),
+        ),
+        offsite: burned(
+            biomass,
+            offsite,
+            two_at(bytes, at + 20),
+            two_at(bytes, at + 22),
+        ),
+        decay: decay_at(bytes, at),
+    }
+}
+
+// The sums over the conversion rows.
+pub struct Totals {
+    pub cleared: DryMatter,
+    pub onsite: Carbon,
+    pub offsite: Carbon,
+    pub decay: Carbon,
+}
+
+fn add_row(t: Totals, p: Parts) -> Totals
+    requires { ⌜ (value (t .cleared .0) < 2 ^ 100) × (value (t .onsite .0) < 2 ^ 100) × (value (t .offsite .0) < 2 ^ 100) × (value (t .decay .0) < 2 ^ 100) ⌝ }
+    ensures { λ r. ⌜ Added t p r ⌝ }
+{
+    Totals {
+        cleared: DryMatter(add_word(t.cleared.0, p.cleared)),
+        onsite: Carbon(add_word(t.onsite.0, p.onsite)),
+        offsite: Carbon(add_word(t.offsite.0, p.offsite)),
+        decay: Carbon(add_word(t.decay.0, p.decay)),
+    }
+}
+
+// One pass over the rows for all four: their biomass is worked out once.
+pub fn sum_conversion(bytes: &[u8], c: Counts) -> Totals
+    requires { ⌜ verdictOf (now bytes) ≡ Accepted c ⌝ }
+    ensures { λ r. ⌜ Summed r (rows 1 (now (bytes .entry))) ⌝ }
+{
+    let n = c.conversion as usize;
+    let zero = of(0);
+    let mut t = Totals {
+        cleared: DryMatter(zero),
+        onsite: Carbon(zero),
+        offsite: Carbon(zero),
+        decay: Carbon(zero),
+    };
+    let mut i: usize = 0;
+    while i < n {
+        t = add_row(t, parts_at(bytes, row_start(0, i)));
+        i += 1;
+    }
+    t
+}
+
+// One stock row's part in E.
+fn uptake_at(bytes: &[u8], at: usize) -> u64
+    requires { ⌜ at + 40 ≤ length (now bytes) ⌝ }
+    ensures { λ r. ⌜ r ≡ uptakePart (rowAt stock (now (bytes .entry)) at) ⌝ }
+{
+    (four_at(bytes, at + 8) as u64)
+        * (two_at(bytes, at + 6) as u64)
+        * (two_at(bytes, at + 12) as u64)
+}
+
+// E: the carbon that the stocks take up.
+pub fn sum_uptake(bytes: &[u8], c: Counts) -> Carbon
+    requires { ⌜ verdictOf (now bytes) ≡ Accepted c ⌝ }
+    ensures { λ r. ⌜ value (r .0) ≡ columnE (now (bytes .entry)) ⌝ }
+{
+    let first = blocks_for(c.conversion);
+    let n = c.stock as usize;
+    let mut sum: u64 = 0;
+    let mut i: usize = 0;
+    while i < n {
+        sum += uptake_at(bytes, row_start(first, i));
+        i += 1;
+    }
+    Carbon(of(sum))
+}
+
+// One harvest row's part in K.
+fn harvest_at(bytes: &[u8], at: usize) -> u64
+    requires { ⌜ at + 40 ≤ length (now bytes) ⌝ }
+    ensures { λ r. ⌜ r ≡ harvestPart (rowAt harvest (now (bytes .entry)) at) ⌝ }
+{
+    let sold = (four_at(bytes, at + 4) as u64) * (two_at(bytes, at + 8) as u64);
+    sold + 1000 * (four_at(bytes, at + 12) as u64 + four_at(bytes, at + 16) as u64)
+}
+
+// K: the biomass that is used.
+pub fn sum_harvest(bytes: &[u8], c: Counts) -> DryMatter
+    requires { ⌜ verdictOf (now bytes) ≡ Accepted c ⌝ }
+    ensures { λ r. ⌜ value (r .0) ≡ columnK (now (bytes .entry)) ⌝ }
+{
+    let first = blocks_for(c.conversion) + blocks_for(c.stock);
+    let n = c.harvest as usize;
+    let mut sum: u64 = 0;
+    let mut i: usize = 0;
+    while i < n {
+        sum += harvest_at(bytes, row_start(first, i));
+        i += 1;
+    }
+    DryMatter(of(sum))
+}

@@ -1,0 +1,9 @@
+pub mod Same
+pub mod Blocks
+pub mod Rooms
+pub mod WriteBack
+pub mod Shape
+pub mod Fitting
+pub mod Standing
+pub mod ReadBack
+pub mod RoundTrips

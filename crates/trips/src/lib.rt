@@ -1,0 +1,1 @@
+// The round trips: theorems only, about what rows::read and rows::write promise.

@@ -1,0 +1,46 @@
+-- The figures of an accepted return. Assumes nothing.
+--     ratios         its parameters are within their limits
+--     figures-are    the sheets together, from the sums and the parameters
+use Prim.Native.Nat.{ℕ, _<_, _≤_}
+use mathlib.Core.Path.{_≡_, _∙_}
+use mathlib.Core.List.{List, []}
+use native.Mathlib.Omega.{arith}
+use lib.Dec.{lit<, lit≤}
+use lib.ListN.{getD}
+use Rattle.form.specs.Layout.{field, parameters}
+use Rattle.form.specs.Verdict.{rows, verdictOf}
+use Rattle.form.specs.declared.Counts.{Counts}
+use Rattle.form.specs.declared.Verdict.the-variants.{Accepted}
+use Rattle.form.proofs.Accepted.{one-row, limit-of, within}
+use Rattle.wide.specs.Numbers.{value}
+use Rattle.totals.specs.Columns.{columnE, columnK}
+use Rattle.totals.specs.Sums.{Summed}
+use Rattle.totals.specs.declared.Totals.{Totals}
+use Rattle.worksheets.specs.Sheets.{given, Ratios, stocksOf, conversionOf, gasesOf, figuresOf}
+use Rattle.worksheets.specs.Answers.{stocksSaid, Plain, conversionSaid, gasesSaid, Shows}
+use Rattle.worksheets.specs.declared.sheets.Parameters.{Parameters}
+use Rattle.worksheets.specs.declared.sheets.Figures.{Figures}
+
+pub ratios : (s : List ℕ) (c : Counts) → verdictOf s ≡ Accepted c → Ratios (given s)
+ratios s c acc = record {
+  n = fits 0 (lit< tt);
+  ch4 = fits 1 (lit< tt);
+  co = fits 2 (lit< tt);
+  nc = fits 3 (lit< tt);
+  n2o = fits 4 (lit< tt);
+  nox = fits 5 (lit< tt);
+}
+  where
+    fits : (i : ℕ) → i < 6 → getD (getD (rows 4 s) 0 []) i 0 ≤ getD parameters i (field 0 0 0) .limit
+    fits i l = limit-of parameters _ i (field 0 0 0) l (within s c acc 4 0 (lit≤ tt) (lit≤ tt) (omega (arith, one-row s c acc)))
+
+pub figures-are : (s : List ℕ) (f : Figures) {t : Totals} {p : Parameters} {e k : ℕ} → Summed t (rows 1 s) → p ≡ given s → e ≡ columnE s → k ≡ columnK s
+    → (stocksSaid (f .stocks) ≡ stocksOf e k (value (t .cleared .0)) (p .n)) × Plain (f .stocks)
+    → conversionSaid (f .conversion) ≡ conversionOf (value (t .onsite .0)) (value (t .offsite .0)) (value (t .decay .0))
+    → gasesSaid (f .gases) ≡ gasesOf (value (t .onsite .0)) p
+    → Shows f (figuresOf s)
+figures-are s f t p e k stocks conversion gases =
+    let a = stocks .0 ∙ (λ i. stocksOf (e i) (k i) (t .cleared i) (p i .n)) in
+    let b = conversion ∙ (λ i. conversionOf (t .onsite i) (t .offsite i) (t .decay i)) in
+    let c = gases ∙ (λ i. gasesOf (t .onsite i) (p i)) in
+    record { values = λ i. record { stocks = a i; conversion = b i; gases = c i }; plain = stocks .1 }

@@ -1,0 +1,5 @@
+pub mod Sizes
+pub mod Columns
+pub mod Accepted
+pub mod Small
+pub mod One

@@ -1,0 +1,21 @@
+-- `worksheets::units::co2_of` meets its contract. Assumes nothing.
+use Prim.Native.Nat.{ℕ, _*_}
+use mathlib.Core.Path.{_≡_, ap, _∙_}
+use Rattle.wide.specs.Numbers.{value}
+use Rattle.wide.specs.Rounding.{nearest}
+use native.Mathlib.Omega.{arith}
+use borrow.Author.Needs.{needs}
+use Rattle.worksheets.proofs.units.co2_of.Statement.{statement}
+use Rattle.worksheets.proofs.units.co2_of.Tie as tie
+
+times-requires : tie.Need-times-requires
+times-requires c κs = search needs
+
+rounded-requires : tie.Need-rounded-requires
+rounded-requires c κs = search needs
+
+returns : tie.Need-returns
+returns c = let e : value (c .before .times .result) ≡ 11 * value (c .before .before .args .c .0) = omega arith in c .rounded .ensures ∙ ap (λ (n : ℕ). nearest n 3000000000) e
+
+pub co2-of-spec : {M : Type 1} → statement M
+co2-of-spec = tie.close (tie.spec times-requires rounded-requires returns)

@@ -1,0 +1,62 @@
+-- `worksheets::work_out` meets its contract. Assumes nothing.
+use mathlib.Core.Path.{sym, subst}
+use denote.Ref.{now}
+use Rattle.totals.proofs.Accepted.{columns-small}
+use Rattle.worksheets.specs.Sheets.{Ratios}
+use Rattle.worksheets.proofs.Accepted.{ratios, figures-are}
+use borrow.Author.Needs.{needs}
+use Rattle.worksheets.proofs.work_out.Statement.{statement}
+use Rattle.worksheets.proofs.work_out.Tie as tie
+
+read-parameters-requires : tie.Need-read-parameters-requires
+read-parameters-requires c κs = search needs
+
+sum-conversion-requires : tie.Need-sum-conversion-requires
+sum-conversion-requires c κs = search needs
+
+sum-uptake-requires : tie.Need-sum-uptake-requires
+sum-uptake-requires c κs = search needs
+
+sum-harvest-requires : tie.Need-sum-harvest-requires
+sum-harvest-requires c κs = search needs
+
+within-limits : (c : tie.After-read-parameters) → Ratios (c .read-parameters .result)
+within-limits c = let s = c .before .before in subst Ratios (sym (c .read-parameters .ensures)) (ratios (now (s .args .bytes)) (s .args .c) (s .pre))
+
+work-stocks-requires : tie.Need-work-stocks-requires
+work-stocks-requires c κs =
+    let s = c .before .before .before .before .before in
+    let w = columns-small (now (s .args .bytes)) (s .args .c) (s .pre) in
+    let r = within-limits (c .before .before .before) in
+    search needs
+
+work-conversion-requires : tie.Need-work-conversion-requires
+work-conversion-requires c κs =
+    let s = c .before .before .before .before .before .before in
+    let w = columns-small (now (s .args .bytes)) (s .args .c) (s .pre) in
+    search needs
+
+work-gases-requires : tie.Need-work-gases-requires
+work-gases-requires c κs =
+    let s = c .before .before .before .before .before .before .before in
+    let w = columns-small (now (s .args .bytes)) (s .args .c) (s .pre) in
+    (search needs, within-limits (c .before .before .before .before .before))
+
+returns : tie.Need-returns
+returns c =
+    figures-are (now (c .before .before .before .before .before .before .before .before .args .bytes)) _ (c .before .before .before .before .before .sum-conversion .ensures) (c .before .before .before .before .before .before .read-parameters .ensures)
+    (c .before .before .before .before .sum-uptake .ensures) (c .before .before .before .sum-harvest .ensures)
+    (c .before .before .work-stocks .ensures) (c .before .work-conversion .ensures) (c .work-gases .ensures)
+
+pub work-out-spec : {M : Type 1} → statement M
+work-out-spec =
+    tie.close
+    (tie.spec
+    read-parameters-requires
+    sum-conversion-requires
+    sum-uptake-requires
+    sum-harvest-requires
+    work-stocks-requires
+    work-conversion-requires
+    work-gases-requires
+    returns)

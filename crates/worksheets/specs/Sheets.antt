@@ -1,0 +1,125 @@
+-- Worksheets 5-1, 5-2 and 5-3: each column from those that it is made of, in the unit of 01's "Worksheet rules". Every rounded tonne cites the one rule.
+use Prim.Native.Nat.{ℕ, _+_, _*_, _^_, _≤_}
+use mathlib.Core.List.{List, []}
+use lib.ListN.{getD}
+use lib.IntN.{ℤ, pos, negℤ, _-ℤ_, _*ℤ_}
+use Rattle.form.specs.Verdict.{rows}
+use Rattle.wide.specs.Rounding.{nearest}
+use Rattle.wide.specs.Signs.{nearestZ}
+use Rattle.totals.specs.Columns.{columnE, columnK, columnL, onsiteTotal, offsiteTotal, decayTotal}
+use Rattle.worksheets.specs.declared.sheets.Parameters.{Parameters}
+
+-- N, CH4, CO, N/C, N2O and NOx, by the numbers of a parameter row
+abbrev pub parametersOf : List ℕ → Parameters
+parametersOf r = record { n = getD r 0 0; ch4 = getD r 1 0; co = getD r 2 0; nc = getD r 3 0; n2o = getD r 4 0; nox = getD r 5 0 }
+
+-- "always one parameter row"
+abbrev pub given : List ℕ → Parameters
+given s = parametersOf (getD (rows 4 s) 0 [])
+
+-- "The workbook's default ratios stand with the parameter type itself: N 500, CH4 12, CO 60, N/C 10, N2O 7, NOx 121."
+abbrev pub standard : Parameters
+standard = record { n = 500; ch4 = 12; co = 60; nc = 10; n2o = 7; nox = 121 }
+
+-- all six "0 to 1,000; 0.001"
+pub record Ratios (p : Parameters) : Type 0 where
+  pub n : p .n ≤ 1000
+  pub ch4 : p .ch4 ≤ 1000
+  pub co : p .co ≤ 1000
+  pub nc : p .nc ≤ 1000
+  pub n2o : p .n2o ≤ 1000
+  pub nox : p .nox ≤ 1000
+
+-- 5-1: "M = 100K - L, signed" (10^-6 kt)
+abbrev pub columnM : ℕ → ℕ → ℤ
+columnM k l = pos (100 * k) -ℤ pos l
+
+-- "O = M x N (10^-9 kt C)"
+abbrev pub columnO : ℤ → ℕ → ℤ
+columnO m n = m *ℤ pos n
+
+-- "P = 100E - O" (10^-9 kt C)
+abbrev pub columnP : ℕ → ℤ → ℤ
+columnP e o = pos (100 * e) -ℤ o
+
+-- "Q = 11P / 3,000,000 tonnes CO2, rounded"
+abbrev pub columnQ : ℤ → ℤ
+columnQ p = nearestZ (pos 11 *ℤ p) 3000000
+
+-- "The reported figure is -Q: emissions are positive." (tonnes CO2)
+abbrev pub reported : ℤ → ℤ
+reported q = negℤ q
+
+-- 5-2: "CO2 = 11 x (R + decay) / 3,000,000,000 tonnes, rounded", of that carbon
+abbrev pub co2Of : ℕ → ℕ
+co2Of c = nearest (11 * c) 3000000000
+
+-- 5-3: "from on-site carbon C only, in tonnes, rounded": "CH4 = 4 C x ratio / (3 x 10^12)"
+abbrev pub ch4Of : ℕ → ℕ → ℕ
+ch4Of c ratio = nearest (4 * c * ratio) (3 * 10 ^ 12)
+
+-- "CO = 7 C x ratio / (3 x 10^12)"
+abbrev pub coOf : ℕ → ℕ → ℕ
+coOf c ratio = nearest (7 * c * ratio) (3 * 10 ^ 12)
+
+-- "N2O = 11 C x N/C x ratio / (7 x 10^15)"
+abbrev pub n2oOf : ℕ → ℕ → ℕ → ℕ
+n2oOf c nc ratio = nearest (11 * c * nc * ratio) (7 * 10 ^ 15)
+
+-- "NOx = 23 C x N/C x ratio / (7 x 10^15)"
+abbrev pub noxOf : ℕ → ℕ → ℕ → ℕ
+noxOf c nc ratio = nearest (23 * c * nc * ratio) (7 * 10 ^ 15)
+
+-- the seventeen figures, sheet by sheet, in the order of 01's lines
+pub record Sheet51 : Type 0 where
+  pub e : ℕ
+  pub k : ℕ
+  pub l : ℕ
+  pub m : ℤ
+  pub o : ℤ
+  pub p : ℤ
+  pub q : ℤ
+  pub report : ℤ
+
+pub record Sheet52 : Type 0 where
+  pub onsite : ℕ
+  pub offsite : ℕ
+  pub r : ℕ
+  pub decay : ℕ
+  pub co2 : ℕ
+
+pub record Sheet53 : Type 0 where
+  pub ch4 : ℕ
+  pub co : ℕ
+  pub n2o : ℕ
+  pub nox : ℕ
+
+pub record Sheets : Type 0 where
+  pub stocks : Sheet51
+  pub conversion : Sheet52
+  pub gases : Sheet53
+
+unfoldable pub stocksOf : ℕ → ℕ → ℕ → ℕ → Sheet51
+stocksOf e k l n =
+    let m = columnM k l in
+    let o = columnO m n in
+    let p = columnP e o in
+    let q = columnQ p in
+    record { e = e; k = k; l = l; m = m; o = o; p = p; q = q; report = reported q }
+
+-- "R is their sum."
+unfoldable pub conversionOf : ℕ → ℕ → ℕ → Sheet52
+conversionOf onsite offsite decay =
+    let r = onsite + offsite in
+    record { onsite = onsite; offsite = offsite; r = r; decay = decay; co2 = co2Of (r + decay) }
+
+unfoldable pub gasesOf : ℕ → Parameters → Sheet53
+gasesOf c p = record { ch4 = ch4Of c (p .ch4); co = coOf c (p .co); n2o = n2oOf c (p .nc) (p .n2o); nox = noxOf c (p .nc) (p .nox) }
+
+-- the figures of a return
+abbrev pub figuresOf : List ℕ → Sheets
+figuresOf s = record {
+  stocks = stocksOf (columnE s) (columnK s) (columnL s) (given s .n);
+  conversion = conversionOf (onsiteTotal s) (offsiteTotal s) (decayTotal s);
+  gases = gasesOf (onsiteTotal s) (given s);
+}

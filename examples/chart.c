@@ -1,0 +1,347 @@
+/* Draws the three carbon subtotals of a return as bars, an SVG picture.
+ *     chart FILE [PICTURE]    to standard output, or to the file PICTURE
+ *     chart --check FILE      the comparison only, a line per subtotal: name, exact, double, distance, allowed
+ * Before it draws, each double is held against the exact total, both as whole numbers of 10^-12 kt C. Status 0: done.
+ * 1: the return is refused, or a double is off; nothing is drawn. 2: a file can't be read or written, or wrong words. */
+#define _POSIX_C_SOURCE 200809L
+#include "niloferq.h"
+#include <errno.h>
+#include <inttypes.h>
+#include <signal.h>
+#include <stdbool.h>
+#include <stdio.h>
+#include <stdlib.h>
+#include <string.h>
+#include <sys/stat.h>
+#include <unistd.h>
+
+__extension__ typedef unsigned __int128 whole;
+
+/* The largest subtotal is 3.2 x 10^20, below 2^69. What reaches 2^70 is broken; below it every product here fits 128 bits. */
+#define LIMIT_POWER 70
+
+static const char *const names[3] = {"onsite", "offsite", "decay"};
+
+struct verdict {
+    bool holds;
+    bool is_whole; /* the double is a whole number from 0 to below 2^70; otherwise value and distance are 0 and mean nothing */
+    whole value, distance, allowed;
+};
+
+struct figures {
+    uint32_t n; /* conversion rows */
+    whole exact[3];
+    uint64_t bits[3]; /* of the doubles */
+    struct verdict verdict[3];
+};
+
+/* ---- the comparison ---- */
+
+/* A double's value from its bits. False where it isn't a whole number from 0 to below 2^70. */
+static bool take_apart(uint64_t bits, whole *value) {
+    *value = 0;
+    if (bits == 0) return true;
+    unsigned exponent = (unsigned)(bits >> 52); /* with the sign as bit 11 */
+    uint64_t digits = (bits & ((UINT64_C(1) << 52) - 1)) | UINT64_C(1) << 52;
+    if (exponent < 1023) return false;                /* above 0 and below 1 */
+    if (exponent >= 1023 + LIMIT_POWER) return false; /* too large, infinite, no number, or with a minus sign */
+    unsigned after_point = exponent < 1075 ? 1075 - exponent : 0;
+    if (digits & ((UINT64_C(1) << after_point) - 1)) return false; /* a fraction */
+    *value = exponent < 1075 ? digits >> after_point : (whole)digits << (exponent - 1075);
+    return true;
+}
+
+/* Holds where |double - exact| * 2^53 <= (n + 2) * exact. A row's product is rounded at most twice (its first three factors stay
+ * below 2^53) and a sum of n rows n - 1 times, each by at most one part in 2^53; n + 2 leaves room for errors upon errors. */
+static struct verdict compare(whole exact, uint64_t bits, uint32_t n) {
+    struct verdict v = {0};
+    if (exact >> LIMIT_POWER) return v;
+    whole right = ((whole)n + 2) * exact; /* below 2^103 */
+    v.allowed = right >> 53;              /* the largest whole distance that holds */
+    v.is_whole = take_apart(bits, &v.value);
+    if (!v.is_whole) return v;
+    v.distance = v.value > exact ? v.value - exact : exact - v.value;
+    v.holds = v.distance << 53 <= right; /* left side below 2^123 */
+    return v;
+}
+
+/* ---- numbers as text ---- */
+
+struct text {
+    char s[64];
+};
+
+/* value / 10^places exactly, without zeros at the end of the decimals; commas between thousands if grouped. */
+static struct text number(whole value, unsigned places, bool grouped) {
+    struct text t;
+    char *p = t.s + sizeof t.s; /* written from the end: 39 digits, 12 commas and a point fit */
+    *--p = 0;
+    bool any = false;
+    for (unsigned i = 0; i < places; i++, value /= 10) {
+        any = any || value % 10;
+        if (any) *--p = (char)('0' + (int)(value % 10));
+    }
+    if (any) *--p = '.';
+    for (unsigned i = 0; i == 0 || value; i++, value /= 10) {
+        if (grouped && i && i % 3 == 0) *--p = ',';
+        *--p = (char)('0' + (int)(value % 10));
+    }
+    memmove(t.s, p, (size_t)(t.s + sizeof t.s - p));
+    return t;
+}
+
+static struct text plain(whole value) { return number(value, 0, false); }
+
+/* The double for a reader: as a whole number, or, where it is none, as C prints it. */
+static struct text shown(struct verdict v, uint64_t bits) {
+    if (v.is_whole) return plain(v.value);
+    struct text t;
+    double d;
+    memcpy(&d, &bits, sizeof d);
+    snprintf(t.s, sizeof t.s, "%.17g", d);
+    return t;
+}
+
+/* ---- from the return to the figures ---- */
+
+/* The value of the line 'name value' in the lines' text; false where there is no such line or its value is no number. */
+static bool find_exact(const char *text, const char *name, whole *value) {
+    size_t length = strlen(name);
+    for (const char *line = text; *line;) {
+        const char *end = strchr(line, '\n');
+        if (!end) return false;
+        if (strncmp(line, name, length) == 0 && line[length] == ' ') {
+            const char *p = line + length + 1;
+            if (p == end || end - p > 38) return false; /* 38 digits can't overflow */
+            for (*value = 0; p < end; p++) {
+                if (*p < '0' || *p > '9') return false;
+                *value = *value * 10 + (unsigned)(*p - '0');
+            }
+            return true;
+        }
+        line = end + 1;
+    }
+    return false;
+}
+
+static int refused(uint32_t answer) {
+    fprintf(stderr, "refused %" PRIu32 " %" PRIu32 "\n", answer / 1000, answer % 1000);
+    return 1;
+}
+
+/* Asks the library for the counts, the exact totals and the doubles. The answer is the program's status. */
+static int gather(const uint8_t *bytes, size_t length, struct figures *f) {
+    uint32_t counts[4];
+    uint32_t answer = niloferq_judge(bytes, length, counts, 4);
+    if (answer) return refused(answer);
+    f->n = counts[0];
+    char text[1025]; /* 17 lines of a name and at most 40 characters stay below 1,024 */
+    size_t size = niloferq_lines(bytes, length, (uint8_t *)text, sizeof text - 1);
+    if (size >= sizeof text) size = 0;
+    text[size] = 0;
+    for (uint32_t code = 0; code < 3; code++) {
+        if (!find_exact(text, names[code], &f->exact[code])) {
+            fprintf(stderr, "chart: the library gave no exact total for %s\n", names[code]);
+            return 2;
+        }
+        uint8_t room[8];
+        answer = niloferq_subtotal(bytes, length, code, room, sizeof room);
+        if (answer) return refused(answer);
+        f->bits[code] = 0;
+        for (int i = 0; i < 8; i++) f->bits[code] |= (uint64_t)room[i] << 8 * i;
+    }
+    return 0;
+}
+
+/* Compares all three and says on standard error which are off. True where none is. */
+static bool examine(struct figures *f) {
+    bool good = true;
+    for (int i = 0; i < 3; i++) {
+        struct verdict v = f->verdict[i] = compare(f->exact[i], f->bits[i], f->n);
+        if (v.holds) continue;
+        good = false;
+        fprintf(stderr, "chart: %s is off: exact %s, double %s, ", names[i], plain(f->exact[i]).s, shown(v, f->bits[i]).s);
+        if (v.is_whole) fprintf(stderr, "distance %s, allowed %s\n", plain(v.distance).s, plain(v.allowed).s);
+        else fprintf(stderr, "which is no whole number from 0 to below 2^%d; allowed distance %s\n", LIMIT_POWER, plain(v.allowed).s);
+    }
+    return good;
+}
+
+static void print_check(FILE *out, const struct figures *f) {
+    for (int i = 0; i < 3; i++) {
+        struct verdict v = f->verdict[i];
+        fprintf(out, "%s exact %s double %s distance %s allowed %s\n", names[i], plain(f->exact[i]).s, shown(v, f->bits[i]).s,
+                v.is_whole ? plain(v.distance).s : "none", plain(v.allowed).s);
+    }
+}
+
+/* ---- the picture ---- */
+
+/* The length of the good UTF-8 character at p, or 0: a picture with a bad byte in it would not open. */
+static size_t character(const unsigned char *p) {
+    if (p[0] < 0x80) return p[0] >= 0x20 && p[0] != 0x7f;
+    size_t length = p[0] < 0xc2 || p[0] > 0xf4 ? 0 : p[0] < 0xe0 ? 2 : p[0] < 0xf0 ? 3 : 4;
+    for (size_t i = 1; i < length; i++)
+        if ((p[i] & 0xc0) != 0x80) return 0;
+    unsigned two = p[0] < 0xe0 ? 0 : (unsigned)p[0] << 8 | p[1]; /* longer than need be, half of a pair, too large, not for XML: */
+    bool bad = (two >= 0xe000 && two < 0xe0a0) || (two >= 0xeda0 && two < 0xee00) || (two >= 0xf000 && two < 0xf090) ||
+               two >= 0xf490 || (two == 0xefbf && p[2] > 0xbd);
+    return bad ? 0 : length;
+}
+
+/* The last part of the path, fit for XML, at most 60 characters of it so that it stays inside the picture. */
+static void put_name(FILE *out, const char *path) {
+    const char *slash = strrchr(path, '/');
+    const unsigned char *p = (const unsigned char *)(slash ? slash + 1 : path);
+    for (int i = 0; *p && i < 60; i++) {
+        size_t length = character(p);
+        if (*p == '&' || *p == '<' || *p == '>') fprintf(out, "&#%d;", *p);
+        else if (length) fwrite(p, 1, length, out);
+        else fputc('?', out);
+        p += length ? length : 1;
+    }
+    if (*p) fputs("...", out);
+}
+
+/* Where things stand, in the picture's units. */
+enum { WIDTH = 980, HEIGHT = 470, LEFT = 180, SPAN = 440, RIGHT = 940, TOP = 150, BAND = 70, BOTTOM = TOP + 3 * BAND };
+#define END "text-anchor=\"end\" "
+#define LARGE "font-size=\"16\" "
+#define SMALL "font-size=\"12\" fill=\"#555\" "
+#define RAISED(words) "<tspan dy=\"-5\" font-size=\"9\">" words "</tspan><tspan dx=\"4\" dy=\"5\">" /* the caller ends the last tspan */
+
+static void say(FILE *out, int x, int y, const char *look, const char *words) {
+    fprintf(out, "<text x=\"%d\" y=\"%d\" %s>%s</text>\n", x, y, look, words);
+}
+
+/* value as a length along the axis, in hundredths: below 2^70 * 2^16. */
+static unsigned along(whole value, whole top) { return (unsigned)(value * (SPAN * 100) / top); }
+
+static void draw_bar(FILE *out, int i, whole exact, whole value, whole top) {
+    static const char *const labels[3] = {"On site", "Off site", "Decay"};
+    static const char *const notes[3] = {"burning on site", "burning off site", "of the ten-year area"};
+    static const char *const colours[3] = {"#b4532a", "#d49a2f", "#4d7c5a"};
+    int middle = TOP + BAND * i + BAND / 2;
+    unsigned length = along(value, top);
+    bool thin = value && length < 200; /* then a thin mark all the same, so that it doesn't look like zero */
+    if (thin) length = 200;
+    fprintf(out, "<g>\n<title>%s %s</title>\n", names[i], plain(exact).s);
+    say(out, LEFT - 16, middle - 1, END LARGE "font-weight=\"bold\"", labels[i]);
+    say(out, LEFT - 16, middle + 16, END SMALL, notes[i]);
+    fprintf(out, "<rect x=\"%d\" y=\"%d\" width=\"%u.%02u\" height=\"36\" fill=\"%s\"/>\n", LEFT, middle - 18, length / 100, length % 100,
+            colours[i]);
+    if (thin || value == 0) { /* white behind the words, so that no grid line runs through them */
+        fprintf(out, "<rect x=\"%d\" y=\"%d\" width=\"%d\" height=\"20\" fill=\"#fff\"/>\n", LEFT + 6, middle - 10, thin ? 230 : 44);
+        say(out, LEFT + 12, middle + 5, "fill=\"#555\"", thin ? "too small to be shown to scale" : "zero");
+    }
+    say(out, RIGHT, middle - 1, END LARGE, number(exact, 0, true).s);
+    fprintf(out, "<text x=\"%d\" y=\"%d\" " END SMALL ">= %s kt C</text>\n</g>\n", RIGHT, middle + 16, number(exact, 12, true).s);
+}
+
+static void draw(FILE *out, const struct figures *f, const char *path) {
+    /* 10^-12 kt C is 1 mg C, and each unit is 1,000 of the one before */
+    static const char *const units[7] = {"mg C (1 kt C = 1,000,000,000,000 mg C)", "g C (1 kt C = 1,000,000,000 g C)",
+        "kg C (1 kt C = 1,000,000 kg C)", "t C (1 kt C = 1,000 t C)", "kt C (thousand tonnes of carbon)", "Mt C (1 Mt C = 1,000 kt C)",
+        "Gt C (1 Gt C = 1,000,000 kt C)"};
+    whole most = 0;
+    for (int i = 0; i < 3; i++)
+        if (f->verdict[i].value > most) most = f->verdict[i].value;
+    if (most == 0) most = UINT64_C(1000000000000); /* nothing to show: an axis of 1 kt C */
+    whole ten = 1, step = 1; /* the least of 1, 2, 5, 10, 20, 50 and so on of which six reach far enough */
+    for (int i = 0; 6 * step < most; i++) {
+        if (i % 3 == 2) ten *= 10;
+        step = ten * (i % 3 == 0 ? 2 : i % 3 == 1 ? 5 : 1);
+    }
+    whole top = (most + step - 1) / step * step;
+    unsigned unit = 0;
+    for (whole size = 1000; unit < 6 && size <= top; size *= 1000) unit++;
+
+    fprintf(out, "<?xml version=\"1.0\" encoding=\"UTF-8\"?>\n<svg xmlns=\"http://www.w3.org/2000/svg\" width=\"%d\" height=\"%d\" "
+            "viewBox=\"0 0 %d %d\" font-family=\"Arial, Helvetica, sans-serif\" font-size=\"14\" fill=\"#222\">\n"
+            "<rect width=\"%d\" height=\"%d\" fill=\"#fff\"/>\n", WIDTH, HEIGHT, WIDTH, HEIGHT, WIDTH, HEIGHT);
+    say(out, 40, 46, "font-size=\"22\" font-weight=\"bold\"", "Carbon released by land conversion");
+    fprintf(out, "<text x=\"40\" y=\"74\">File: ");
+    put_name(out, path);
+    fprintf(out, "</text>\n<text x=\"40\" y=\"96\">Conversion rows: n = %" PRIu32 "</text>\n", f->n);
+    say(out, RIGHT, TOP - 14, END "fill=\"#555\"", "Exact total in 10" RAISED("-12") "kt C</tspan>");
+    for (whole tick = 0; tick <= top; tick += step) {
+        unsigned x = LEFT * 100 + along(tick, top);
+        fprintf(out, "<path d=\"M%u.%02u %d V%d\" stroke=\"#ddd\"/>\n", x / 100, x % 100, TOP, BOTTOM + 6);
+        fprintf(out, "<text x=\"%u.%02u\" y=\"%d\" text-anchor=\"middle\">%s</text>\n", x / 100, x % 100, BOTTOM + 24,
+                number(tick, 3 * unit, true).s);
+    }
+    for (int i = 0; i < 3; i++) draw_bar(out, i, f->exact[i], f->verdict[i].value, top);
+    fprintf(out, "<path d=\"M%d %d V%d H%d\" fill=\"none\" stroke=\"#222\"/>\n", LEFT, TOP, BOTTOM, LEFT + SPAN);
+    fprintf(out, "<text x=\"%d\" y=\"%d\" text-anchor=\"middle\">Carbon in %s</text>\n", LEFT + SPAN / 2, BOTTOM + 50, units[unit]);
+    say(out, 40, HEIGHT - 24, SMALL, "The bars are drawn from the doubles. Before drawing, each was compared with its exact total: "
+        "the distance is at most (n + 2) / 2" RAISED("53") "of the total.</tspan>");
+    fprintf(out, "</svg>\n");
+}
+
+/* ---- files ---- */
+
+static int trouble(const char *what, const char *path, const char *why) {
+    fprintf(stderr, "chart: cannot %s %s: %s\n", what, path, why);
+    return 2;
+}
+
+/* Writes the whole text under another name in the same place and renames it, so that the picture is there whole or not at all. */
+static int save(const char *text, size_t size, const char *path, const struct stat *source) {
+    struct stat there;
+    if (lstat(path, &there) == 0) {
+        if (!S_ISREG(there.st_mode)) return trouble("write", path, "it is there and is not an ordinary file");
+        if (there.st_dev == source->st_dev && there.st_ino == source->st_ino) return trouble("write", path, "it is the return itself");
+    }
+    size_t room = strlen(path) + 32;
+    char *part = malloc(room);
+    if (!part) return trouble("write", path, "no memory");
+    snprintf(part, room, "%s.%ld.part", path, (long)getpid());
+    FILE *file = fopen(part, "wbx"); /* x: never a file that is there */
+    bool done = file && fwrite(text, 1, size, file) == size && fflush(file) == 0;
+    int why = errno;
+    if (file && fclose(file) != 0 && done) done = false, why = errno;
+    if (done && rename(part, path) != 0) done = false, why = errno;
+    if (!done && file) unlink(part);
+    free(part);
+    return done ? 0 : trouble("write", path, strerror(why));
+}
+
+int main(int count, char **words) {
+    static uint8_t bytes[5121]; /* one byte more than the longest return, so that a longer file is refused for its length */
+    bool check = count > 1 && strcmp(words[1], "--check") == 0;
+    if (check ? count != 3 : count != 2 && count != 3) {
+        fprintf(stderr, "usage: chart FILE [PICTURE]\n       chart --check FILE\n");
+        return 2;
+    }
+    const char *path = words[check ? 2 : 1], *picture = !check && count == 3 ? words[2] : NULL;
+    signal(SIGPIPE, SIG_IGN); /* a write that fails is to be reported and cleaned up after, not to end the program */
+    signal(SIGXFSZ, SIG_IGN);
+
+    struct stat source;
+    FILE *file = fopen(path, "rb");
+    if (!file) return trouble("read", path, strerror(errno));
+    size_t length = fread(bytes, 1, sizeof bytes, file);
+    bool bad = ferror(file) || fstat(fileno(file), &source) != 0;
+    if (bad) return trouble("read", path, strerror(errno));
+    fclose(file);
+
+    struct figures f;
+    int status = gather(bytes, length, &f);
+    if (status) return status;
+    bool good = examine(&f);
+    if (!good && !check) {
+        fprintf(stderr, "chart: nothing is drawn\n");
+        return 1;
+    }
+    char *text = NULL;
+    size_t size = 0;
+    FILE *memory = open_memstream(&text, &size);
+    if (!memory) return trouble("make", "the picture", strerror(errno));
+    if (check) print_check(memory, &f);
+    else draw(memory, &f, path);
+    if (fclose(memory) != 0) return trouble("make", "the picture", strerror(errno));
+    if (picture) status = save(text, size, picture, &source);
+    else if (fwrite(text, 1, size, stdout) != size || fflush(stdout) != 0) status = trouble("write", "standard output", strerror(errno));
+    free(text);
+    return status ? status : good ? 0 : 1;
+}

@@ -1,0 +1,454 @@
+/* Tries the comparison and the pictures of examples/chart.c: chart_test DAY.return DIRECTORY, an empty one for its own files.
+ * Prints a line per part with its number of cases. Status 0 only if all of them hold. */
+#define _POSIX_C_SOURCE 200809L
+#include "niloferq.h"
+
+/* The chart's own calls come through here, so that it can be given the doubles of another return. */
+static const uint8_t *other_bytes;
+static size_t other_length;
+static uint32_t subtotal_for_chart(const uint8_t *bytes, size_t length, uint32_t code, uint8_t *room, size_t room_length) {
+    if (other_bytes) return niloferq_subtotal(other_bytes, other_length, code, room, room_length);
+    return niloferq_subtotal(bytes, length, code, room, room_length);
+}
+#define niloferq_subtotal subtotal_for_chart
+#define main chart_main
+#include "chart.c"
+#undef main
+#undef niloferq_subtotal
+#include <dirent.h>
+#include <sys/resource.h>
+
+enum { FIELDS = 15, ROWS = 32, BIGGEST = 5120 };
+typedef uint32_t row[FIELDS];
+struct bytes {
+    uint8_t b[BIGGEST];
+    size_t length;
+};
+
+static unsigned long failures;
+static void must(bool holds, const char *what, unsigned long which) {
+    if (holds) return;
+    if (failures++ < 20) printf("FAILED: %s, case %lu\n", what, which);
+}
+
+/* ---- numbers drawn from a seed ---- */
+
+static uint64_t state = 20240501;
+static uint64_t draw64(void) { /* splitmix64 */
+    uint64_t z = state += UINT64_C(0x9e3779b97f4a7c15);
+    z = (z ^ z >> 30) * UINT64_C(0xbf58476d1ce4e5b9);
+    z = (z ^ z >> 27) * UINT64_C(0x94d049bb133111eb);
+    return z ^ z >> 31;
+}
+static uint32_t from_to(uint32_t least, uint32_t most) { return least + (uint32_t)(draw64() % ((uint64_t)most - least + 1)); }
+/* As often an end of the range, or a small number, as one from the middle. */
+static uint32_t up_to(uint32_t most) {
+    switch (draw64() % 6) {
+    case 0: return most;
+    case 1: return draw64() % 2 && most ? most - 1 : 0;
+    case 2: return from_to(0, most < 9 ? most : 9);
+    default: return from_to(0, most);
+    }
+}
+
+/* ---- returns made from rows, by the block layout ---- */
+
+static void put(uint8_t *at, uint32_t value, int width) {
+    for (int i = 0; i < width; i++) at[i] = (uint8_t)(value >> 8 * i);
+}
+
+static void make(struct bytes *r, row *rows, uint32_t n) {
+    static const int widths[FIELDS] = {4, 4, 2, 2, 2, 2, 2, 2, 2, 2, 4, 2, 2, 2, 2};
+    static const uint32_t defaults[6] = {500, 12, 60, 10, 7, 121};
+    uint32_t blocks = (n + 11) / 12 + 1;
+    memset(r->b, 0, sizeof r->b);
+    r->length = 512 * blocks;
+    for (uint32_t b = 0; b < blocks; b++) {
+        uint8_t *block = r->b + 512 * b;
+        bool last = b + 1 == blocks;
+        uint32_t count = last ? 1 : n - 12 * b < 12 ? n - 12 * b : 12;
+        put(block, last ? 4 : 1, 1);
+        put(block + 1, count, 1);
+        put(block + 2, b, 2);
+        put(block + 4, blocks, 2);
+        put(block + 6, 1, 2);
+        for (uint32_t i = 0; i < count; i++) {
+            uint8_t *at = block + 8 + 40 * i;
+            if (last)
+                for (int k = 0; k < 6; k++) put(at + 4 + 2 * k, defaults[k], 2);
+            else
+                for (int k = 0; k < FIELDS; at += widths[k++]) put(at, rows[12 * b + i][k], widths[k]);
+        }
+        uint32_t check = 0;
+        for (uint32_t i = 0; i < 508; i++) check += (i + 1) * block[i];
+        put(block + 508, check, 4);
+    }
+}
+
+/* A row's part of a subtotal, by the rules of worksheet 5-2, without the library. */
+static whole part(const uint32_t *r, int code) {
+    if (code == 2) return (whole)r[10] * (r[11] - r[12]) * r[13] * 1000 * r[14];
+    const uint32_t *f = r + 4 + 3 * code;
+    return (whole)r[1] * (r[2] - r[3]) * f[0] * f[1] * f[2];
+}
+
+static void random_row(uint32_t *r, uint32_t id) {
+    r[0] = id;
+    r[1] = up_to(1000000), r[10] = up_to(1000000);
+    r[2] = up_to(10000), r[3] = up_to(r[2]);
+    r[11] = up_to(10000), r[12] = up_to(r[11]);
+    uint32_t left = 1000;
+    static const int fractions[3] = {4, 7, 13};
+    for (uint32_t i = from_to(0, 2), k = 0; k < 3; k++, i = (i + 1) % 3) left -= r[fractions[i]] = up_to(left);
+    r[5] = up_to(1000), r[6] = up_to(1000), r[8] = up_to(1000), r[9] = up_to(1000), r[14] = up_to(1000);
+}
+
+/* ---- what a good return has to do ---- */
+
+static bool contains_totals(const char *text, const whole exact[3]) {
+    static const char *const elements[3] = {"onsite", "offsite", "decay"};
+    for (int i = 0; i < 3; i++) {
+        char wanted[160];
+        snprintf(wanted, sizeof wanted, "<title>%s %s</title>", elements[i], number(exact[i], 0, false).s);
+        if (!strstr(text, wanted)) return false;
+        snprintf(wanted, sizeof wanted, ">%s</text>", number(exact[i], 0, true).s);
+        if (!strstr(text, wanted)) return false;
+    }
+    return true;
+}
+
+/* Passes the comparison, with the totals that the rows give; the picture has them and is closed. */
+static void must_pass(row *rows, uint32_t n, const char *what, unsigned long which, bool picture) {
+    static struct bytes r;
+    static struct figures f;
+    make(&r, rows, n);
+    if (gather(r.b, r.length, &f) != 0) {
+        must(false, what, which);
+        return;
+    }
+    must(examine(&f), what, which);
+    must(f.n == n, "number of conversion rows", which);
+    whole exact[3] = {0};
+    for (int c = 0; c < 3; c++) {
+        for (uint32_t i = 0; i < n; i++) exact[c] += part(rows[i], c);
+        must(exact[c] == f.exact[c], "exact total as the rows give it", which);
+        must(f.verdict[c].holds, what, which);
+    }
+    if (!picture) return;
+    char *text = NULL;
+    size_t size = 0;
+    FILE *memory = open_memstream(&text, &size);
+    draw(memory, &f, "a & b.return");
+    fclose(memory);
+    must(contains_totals(text, exact), "the picture has the three totals", which);
+    must(size > 7 && strcmp(text + size - 7, "</svg>\n") == 0 && strstr(text, "a &#38; b.return"), "the picture is whole", which);
+    free(text);
+}
+
+/* ---- whole runs of the program, with its standard error caught ---- */
+
+static char caught[4096];
+static int run(char *a, char *b, char *c) {
+    char *words[5] = {"chart", a, b, c, NULL};
+    FILE *file = tmpfile();
+    fflush(stderr);
+    int before = dup(2);
+    dup2(fileno(file), 2);
+    int status = chart_main(c ? 4 : b ? 3 : 2, words);
+    fflush(stderr);
+    dup2(before, 2);
+    close(before);
+    rewind(file);
+    caught[fread(caught, 1, sizeof caught - 1, file)] = 0;
+    fclose(file);
+    return status;
+}
+
+static size_t slurp(const char *path, char *text, size_t room) {
+    FILE *file = fopen(path, "rb");
+    if (!file) return 0;
+    size_t size = fread(text, 1, room - 1, file);
+    fclose(file);
+    text[size] = 0;
+    return size;
+}
+
+static void spill(const char *path, const struct bytes *r) {
+    FILE *file = fopen(path, "wb");
+    must(file && fwrite(r->b, 1, r->length, file) == r->length && fclose(file) == 0, "the test's own file", 0);
+}
+
+/* ---- the parts ---- */
+
+static char *directory, picture_path[512], return_path[512];
+
+static void the_day(char *day) {
+    static char text[65536];
+    static const uint32_t day_row[FIELDS] = {7, 200, 1000, 100, 400, 900, 500, 200, 900, 500, 300, 1000, 100, 300, 500};
+    whole exact[3] = {UINT64_C(32400000000000), UINT64_C(16200000000000), UINT64_C(40500000000000)};
+    for (int c = 0; c < 3; c++) must(part(day_row, c) == exact[c], "the day's row gives the paper's total", (unsigned long)c);
+    must(run(day, picture_path, NULL) == 0 && caught[0] == 0, "the day is drawn", 0);
+    must(slurp(picture_path, text, sizeof text) && contains_totals(text, exact), "the day's picture has the three totals", 0);
+    must(strstr(text, ">32,400,000,000,000<") && strstr(text, ">16,200,000,000,000<") && strstr(text, ">40,500,000,000,000<") &&
+         strstr(text, "n = 1<") && strstr(text, "Carbon in kt C"), "the day's picture in words", 0);
+    unlink(picture_path);
+    printf("1. the day of the paper: 1 return passes, its picture has the three exact totals\n");
+}
+
+static void good_returns(void) {
+    static row rows[ROWS];
+    unsigned long limits = 0, random = 0;
+    static const int fractions[4][3] = {{1000, 0, 0}, {0, 1000, 0}, {0, 0, 1000}, {334, 333, 333}};
+    for (uint32_t n = 0; n <= ROWS; n++)
+        for (int kind = 0; kind < 6; kind++, limits++) {
+            for (uint32_t i = 0; i < n; i++) {
+                uint32_t big[FIELDS] = {i, 1000000, 10000, 0, 0, 1000, 1000, 0, 1000, 1000, 1000000, 10000, 0, 0, 1000};
+                for (int k = 0; k < 3 && kind < 4; k++) big[k == 2 ? 13 : 4 + 3 * k] = (uint32_t)fractions[kind][k];
+                for (int k = 1; k < FIELDS && kind >= 4; k++) big[k] = kind == 5 && k != 3 && k != 12; /* all zero, or the least parts */
+                memcpy(rows[i], big, sizeof big);
+            }
+            must_pass(rows, n, "a return at the limits passes", limits, true);
+        }
+    for (; random < 6000; random++) {
+        uint32_t n = from_to(0, ROWS), id = 0;
+        for (uint32_t i = 0; i < n; i++) random_row(rows[i], id += from_to(1, 1000));
+        if (random % 3 == 1) /* odd factors near the top, where every step rounds */
+            for (uint32_t i = 0; i < n; i++) {
+                uint32_t sharp[FIELDS] = {i, 999999, 9999, 0, 333, 999, 997, 331, 991, 999, 999983, 9973, 0, 333, 997};
+                sharp[1] -= 2 * from_to(0, 999);
+                sharp[3] += 2 * from_to(0, 9);
+                memcpy(rows[i], sharp, sizeof sharp);
+            }
+        must_pass(rows, n, "a random good return passes", random, random % 10 == 0);
+    }
+    printf("2. good returns: %lu at the limits and %lu random ones pass\n", limits, random);
+}
+
+/* Around each distance where the comparison turns: the last that may pass does, the next doesn't, on both sides. */
+static void turning_points(void) {
+    unsigned long cases = 0;
+    for (int k = 0; k < 4000; k++) {
+        whole exact = (whole)draw64() << 5;
+        exact >>= from_to(0, 68);
+        if (exact > (whole)32 * UINT64_C(10000000000000000000)) exact >>= 2;
+        uint32_t n = from_to(0, ROWS);
+        double d = (double)exact; /* some double nearby; then the total is moved, not the double */
+        uint64_t bits;
+        memcpy(&bits, &d, sizeof bits);
+        whole value = (whole)d;
+        for (int up = 0; up < 2; up++) {
+            whole far = 0, step = (whole)1 << 30; /* the largest distance that the rule in the paper's words lets pass */
+            for (; step; step >>= 1) {
+                whole try = far + step, e = up ? value + try : value - try;
+                if ((up || try <= value) && try * ((whole)1 << 53) <= (n + 2) * e) far = try;
+            }
+            whole e = up ? value + far : value - far;
+            must(compare(e, bits, n).holds, "the last distance allowed passes", cases);
+            must(compare(e, bits, n).distance == far && compare(e, bits, n).value == value, "distance and value", cases);
+            if (up || far < value) must(!compare(up ? e + 1 : e - 1, bits, n).holds, "the next distance is stopped", cases);
+            cases++;
+        }
+    }
+    printf("2. turning points: %lu, the last distance allowed passes and the next is stopped\n", cases);
+}
+
+/* A row whose part of the one subtotal is near the wanted size and whose other two parts are zero. */
+static void small_row(uint32_t *r, int code, whole wanted) {
+    uint32_t f[5] = {1, 1, 1, 1, 1}, most[5] = {1000000, 10000, 1000, 1000, 1000};
+    whole rest = wanted;
+    if (code == 2) rest /= 1000, f[3] = 1000, most[3] = 1;
+    for (int i = 4; i >= 0; i--) { /* each field takes a share; the area takes what is left */
+        whole top = rest < most[i] ? rest : most[i];
+        if (top < 1) top = 1;
+        uint32_t got = i == 0 ? (uint32_t)top : from_to((uint32_t)(top + 1) / 2, (uint32_t)top);
+        if (code == 2 && i == 3) continue;
+        f[i] = got;
+        rest /= got;
+    }
+    memset(r + 1, 0, sizeof(row) - sizeof *r);
+    if (code == 2) r[10] = f[0], r[11] = f[1], r[13] = f[2], r[14] = f[4];
+    else r[1] = f[0], r[2] = f[1], memcpy(r + 4 + 3 * code, f + 2, 3 * sizeof *f);
+}
+
+/* The doubles of the return without one small row, against the exact totals of the whole return. */
+static void missing_row(void) {
+    static row rows[ROWS], fewer[ROWS];
+    static struct bytes full, less;
+    static struct figures f;
+    unsigned long cases = 0, stopped = 0, two_per_cent = 0, named = 0, drawn = 0, runs = 0, of_each[3] = {0};
+    for (unsigned long k = 0; k < 6000; k++) {
+        int code = (int)(k % 3);
+        uint32_t n = from_to(2, ROWS), small = from_to(0, n - 1);
+        whole total = 0;
+        for (uint32_t i = 0; i < n; i++) {
+            do random_row(rows[i], i * 1000 + 7);
+            while (part(rows[i], code) < UINT64_C(10000000000000000)); /* large enough that 10^-12 of it is a whole number */
+            if (i != small) total += part(rows[i], code);
+        }
+        /* mostly 10^-12 of the subtotal; every fourth from 2 x 10^-14 to 2 x 10^-4 of it */
+        whole share = k % 4 ? UINT64_C(1000000000000) : UINT64_C(50000000000000);
+        for (uint32_t tens = k % 4 ? 0 : from_to(0, 10); tens; tens--) share /= 10;
+        small_row(rows[small], code, total / share + 1);
+        whole gone = part(rows[small], code);
+        if (gone * UINT64_C(100000000000000) < total) continue; /* decay moves in steps of 1,000 */
+        memcpy(fewer, rows, sizeof rows);
+        memmove(fewer[small], fewer[small + 1 < ROWS ? small + 1 : small], (n - 1 - small) * sizeof(row));
+        make(&full, rows, n);
+        make(&less, fewer, n - 1);
+        cases++;
+        of_each[code]++;
+        other_bytes = less.b, other_length = less.length;
+        must(gone > 0 && gather(full.b, full.length, &f) == 0, "a return with a small row is good", k);
+        int off = 0;
+        for (int c = 0; c < 3; c++) {
+            struct verdict v = compare(f.exact[c], f.bits[c], f.n);
+            if (!v.holds) off |= 1 << c;
+            if (c == code && v.is_whole && v.distance * 50 <= f.exact[c]) two_per_cent++;
+        }
+        stopped += (off & 1 << code) != 0;
+        named += off == 1 << code;
+        if (k % 20 == 0 || k < 30) { /* the whole program */
+            spill(return_path, &full);
+            int status = run(return_path, picture_path, NULL);
+            char wanted[32];
+            snprintf(wanted, sizeof wanted, "chart: %s is off: ", names[code]);
+            must(status == 1 && strncmp(caught, wanted, strlen(wanted)) == 0, "the program stops and names the subtotal", k);
+            must(strstr(caught, "nothing is drawn") != NULL, "the program says that it draws nothing", k);
+            const char *once = strstr(caught, " is off: ");
+            must(once && !strstr(once + 1, " is off: "), "the program names no other subtotal", k);
+            if (access(picture_path, F_OK) == 0) drawn++;
+            other_bytes = NULL; /* with its own doubles the same return is drawn */
+            must(run(return_path, picture_path, NULL) == 0 && unlink(picture_path) == 0, "the whole return is drawn", k);
+            unlink(return_path);
+            runs++;
+        }
+        other_bytes = NULL;
+    }
+    must(stopped == cases, "every missing row is stopped", cases - stopped);
+    must(named == cases, "the right subtotal and no other is named", cases - named);
+    must(two_per_cent == cases, "two per cent would have let every one pass", cases - two_per_cent);
+    must(drawn == 0, "nothing is drawn", drawn);
+    must(cases >= 5000 && of_each[0] > 1500 && of_each[1] > 1500 && of_each[2] > 1500, "enough cases of each subtotal", cases);
+    printf("3. one small row missing from the doubles: %lu cases (%lu on site, %lu off site, %lu decay), %lu stopped, %lu with the right "
+           "subtotal named; a tolerance of two per cent would have let %lu pass; %lu whole runs drew %lu pictures\n",
+           cases, of_each[0], of_each[1], of_each[2], stopped, named, two_per_cent, runs, drawn);
+}
+
+static void broken_doubles(void) {
+    static row rows[ROWS];
+    static struct bytes r;
+    static struct figures f;
+    unsigned long flips = 0, harmless = 0, others = 0, patterns = 0;
+    static const uint64_t never[] = {UINT64_C(0x8000000000000000), /* minus zero */ UINT64_C(0x7ff0000000000000), /* infinite */
+        UINT64_C(0xfff0000000000000), UINT64_C(0x7ff8000000000000), /* no number */ UINT64_C(0x7ff0000000000001), UINT64_C(0xffffffffffffffff),
+        UINT64_C(0x7fffffffffffffff), 1, /* the least above zero */ UINT64_C(0x000fffffffffffff), UINT64_C(0x3fe0000000000000), /* a half */
+        UINT64_C(0x3fefffffffffffff), UINT64_C(0x3ff8000000000000), /* one and a half */ UINT64_C(0x4450000000000000), /* 2^70 */
+        UINT64_C(0x47e0000000000000), /* 2^127 */ UINT64_C(0x47f0000000000000), UINT64_C(0x7fefffffffffffff)};
+    for (unsigned long k = 0; k < 1000; k++) {
+        uint32_t n = from_to(0, ROWS);
+        for (uint32_t i = 0; i < n; i++) random_row(rows[i], i);
+        make(&r, rows, n);
+        must(gather(r.b, r.length, &f) == 0, "a random return is good", k);
+        for (int c = 0; c < 3; c++) {
+            whole exact = f.exact[c], allowed = (n + 2) * exact >> 53;
+            for (int bit = 0; bit < 64; bit++) {
+                uint64_t bits = f.bits[c] ^ UINT64_C(1) << bit;
+                double d;
+                memcpy(&d, &bits, sizeof d);
+                /* the compiler's own way from a double to a whole number, against the program's */
+                bool in_range = d >= 0 && d < 0x1p70 && bits >> 63 == 0;
+                whole value = in_range ? (whole)d : 0, distance = value > exact ? value - exact : exact - value;
+                bool may_pass = in_range && (double)value == d && distance <= allowed;
+                must(compare(exact, bits, n).holds == may_pass, "one bit flipped", k);
+                if (may_pass) harmless++;
+                else flips++;
+            }
+            for (size_t i = 0; i < sizeof never / sizeof *never; i++, others++)
+                must(!compare(exact, never[i], n).holds, "a broken double is stopped", (unsigned long)i);
+            must(!compare(exact, f.bits[c] | UINT64_C(1) << 63, n).holds, "a negative double is stopped", k);
+            others++;
+            if (exact && exact < UINT64_C(1) << 50) { /* a fraction beside the right whole number */
+                double d = (double)exact + 0.25;
+                uint64_t bits;
+                memcpy(&bits, &d, sizeof bits);
+                must(!compare(exact, bits, n).holds, "a fraction is stopped", k);
+                others++;
+            }
+            for (int i = 0; i < 20; i++, patterns++) {
+                struct verdict v = compare(exact, draw64(), n);
+                must(!v.holds || v.distance <= allowed, "a random pattern", k);
+            }
+        }
+    }
+    must(compare((whole)1 << 70, UINT64_C(0x4450000000000000), 32).holds == false, "a total of 2^70 is stopped", 0);
+    must(compare(~(whole)0, 0, 32).holds == false, "a total of 2^128 - 1 is stopped", 0);
+    must(flips > 100000 && harmless > 100, "enough flipped bits on both sides", flips);
+    printf("4. broken doubles: %lu with one bit flipped and %lu others (minus sign, fraction, infinite, no number, too large) are stopped, "
+           "%lu flips within the allowed distance pass; %lu random patterns\n", flips, others, harmless, patterns);
+}
+
+/* Files that can't be read or written, and refused returns: the message, the status, and nothing left behind. */
+static void messages(char *day) {
+    static struct bytes r;
+    static row rows[ROWS];
+    char missing[600], pipe[600], before[16];
+    snprintf(missing, sizeof missing, "%s/none", picture_path);
+    must(run(missing, NULL, NULL) == 2 && strncmp(caught, "chart: cannot read ", 19) == 0, "a file that isn't there", 0);
+    must(run(day, missing, NULL) == 2 && strncmp(caught, "chart: cannot write ", 20) == 0, "a place that isn't there", 0);
+    must(run(directory, NULL, NULL) == 2 && strncmp(caught, "chart: cannot read ", 19) == 0, "a directory to read", 0);
+    must(run(day, directory, NULL) == 2 && strstr(caught, "not an ordinary file"), "a directory to write", 0);
+    snprintf(pipe, sizeof pipe, "%s/pipe", directory); /* stands for devices too, which a rename would destroy */
+    must(mkfifo(pipe, 0600) == 0 && run(day, pipe, NULL) == 2 && strstr(caught, "not an ordinary file"), "a pipe to write", 0);
+    unlink(pipe);
+    must(run(day, picture_path, "more") == 2 && strncmp(caught, "usage: ", 7) == 0, "too many words", 0);
+    must(run("--check", NULL, NULL) == 2 && strncmp(caught, "usage: ", 7) == 0, "too few words", 0);
+    make(&r, rows, 0);
+    spill(return_path, &r);
+    must(run(return_path, return_path, NULL) == 2 && strstr(caught, "the return itself"), "the return is not written over", 0);
+    r.b[508] ^= 1;
+    spill(return_path, &r);
+    must(run(return_path, picture_path, NULL) == 1 && strcmp(caught, "refused 2 0\n") == 0, "a wrong check", 0);
+    must(run("--check", return_path, NULL) == 1 && strcmp(caught, "refused 2 0\n") == 0, "a wrong check, compared", 0);
+    r.length = 511;
+    spill(return_path, &r);
+    must(run(return_path, picture_path, NULL) == 1 && strcmp(caught, "refused 1 0\n") == 0, "511 bytes", 0);
+    must(access(picture_path, F_OK) != 0, "no picture of a refused return", 0);
+    unlink(return_path);
+    /* a disk that is full after 1,000 bytes: the older picture stays as it was */
+    struct bytes older = {.b = "older", .length = 5};
+    spill(picture_path, &older);
+    struct rlimit limit, small;
+    getrlimit(RLIMIT_FSIZE, &limit);
+    small = limit;
+    small.rlim_cur = 1000;
+    setrlimit(RLIMIT_FSIZE, &small);
+    must(run(day, picture_path, NULL) == 2 && strncmp(caught, "chart: cannot write ", 20) == 0, "a full disk", 0);
+    setrlimit(RLIMIT_FSIZE, &limit);
+    must(slurp(picture_path, before, sizeof before) == 5 && strcmp(before, "older") == 0, "the older picture is untouched", 0);
+    must(run(day, picture_path, NULL) == 0 && slurp(picture_path, before, sizeof before) == 15, "an older picture is replaced", 0);
+    unlink(picture_path);
+    int left = 0;
+    DIR *list = opendir(directory);
+    while (list && readdir(list)) left++;
+    must(list && left == 2, "nothing but . and .. is left in the directory", (unsigned long)left);
+    if (list) closedir(list);
+    printf("5. messages: 13 runs end with the right words and status, and leave nothing behind\n");
+}
+
+int main(int count, char **words) {
+    if (count != 3) {
+        fprintf(stderr, "usage: chart_test DAY.return DIRECTORY\n");
+        return 2;
+    }
+    directory = words[2];
+    snprintf(picture_path, sizeof picture_path, "%s/picture.svg", words[2]);
+    snprintf(return_path, sizeof return_path, "%s/one.return", words[2]);
+    the_day(words[1]);
+    good_returns();
+    turning_points();
+    missing_row();
+    broken_doubles();
+    messages(words[1]);
+    if (failures) printf("FAILED: %lu in all\n", failures);
+    return failures ? 1 : 0;
+}

@@ -1,0 +1,137 @@
+//! Compares the doubles of the first program and of the second, bit for bit.
+//!
+//! `compare_doubles [SEED [INPUTS]]`. Every input is asked for with all three
+//! codes and a good room, and once with any code and any room; that call is the
+//! one in the table. Demand 3 is tried in whole numbers on every accepted input.
+
+#[cfg(door_missing)]
+compile_error!(
+    "libdoor.a of the first program is missing: build it, or name its folder in NILOFERQ_LIB"
+);
+
+#[cfg(not(door_missing))]
+mod run {
+    use second::bound::holds;
+    use second::doubles::subtotal;
+    use second::drive::{exit, first_of, memory_difference, run, Arguments, Outcome, Plan};
+    use second::ffi::doubles::first_subtotal;
+    use second::inputs;
+    use second::judge::check;
+    use second::lent::{Lent, Placed};
+    use second::rng::Rng;
+    use second::sheets::Worksheets;
+    use second::sweep::Case;
+    use std::process::ExitCode;
+
+    const GUARD: usize = 8;
+    const MOST_LENT: usize = 24;
+    const MEMORY: usize = MOST_LENT + GUARD;
+    type Memory = [u8; MEMORY];
+
+    pub fn main() -> ExitCode {
+        let Some(arguments) = Arguments::from_command("compare_doubles") else {
+            return ExitCode::FAILURE;
+        };
+        let plan = Plan {
+            name: "doubles",
+            inputs: 250_000,
+            least: inputs::least(),
+            often: &[0, 1, 2, 3, 4, 5, 6, 7, 8, 9, 11],
+        };
+        let mut tally = Tally { calls: 0, held: 0 };
+        let good = run(&plan, arguments, inputs::with_figures, |case, rng| {
+            try_one(case, rng, &mut tally)
+        });
+        println!(
+            "{} calls; demand 3 tried on {} doubles of accepted inputs",
+            tally.calls, tally.held
+        );
+        exit(good)
+    }
+
+    struct Tally {
+        calls: usize,
+        held: usize,
+    }
+
+    fn try_one(case: &Case, rng: &mut Rng, tally: &mut Tally) -> Outcome {
+        let mut before = [0; MEMORY];
+        rng.fill(&mut before);
+        let placed = Placed::new(&case.bytes, rng);
+        let bytes = placed.bytes();
+        let mut ask = |code, lent| {
+            tally.calls += 1;
+            ask(bytes, case, before, (code, lent))
+        };
+
+        // A wrong code with a short room shows which of 11 and 9 comes first.
+        let code = match rng.below(8) {
+            0 => 3,
+            1 => rng.pick(&[4, 255, 256, 65_536, 1 << 31, u32::MAX - 1, u32::MAX]),
+            2 => rng.word(),
+            _ => rng.below(3) as u32,
+        };
+        let lent = match rng.below(4) {
+            0 => rng.below(8),
+            1 => rng.pick(&[7, 8, 9]),
+            _ => rng.below(MOST_LENT + 1),
+        };
+        let (answer, drawn) = ask(code, lent);
+        // The room may be exact or longer.
+        let longer = 8 + rng.below(MOST_LENT - 7);
+        let others = [0, 1, 2].map(|code| ask(code, if code == 1 { 8 } else { longer }).1);
+        let bound = demand_3(bytes, tally);
+        Outcome {
+            number: answer / 1000,
+            difference: first_of([drawn].into_iter().chain(others).chain([bound])),
+        }
+    }
+
+    /// The answer due, and what differs.
+    fn ask(
+        bytes: &[u8],
+        case: &Case,
+        before: Memory,
+        (code, lent): (u32, usize),
+    ) -> (u32, Option<String>) {
+        let mut due = before;
+        let expected = subtotal(bytes, code, &mut due[..lent]);
+        let mut room = before;
+        let answer = first_subtotal(bytes, code, Lent::front(&mut room, lent));
+        let wrong = format!("first program {answer}, second program {expected}");
+        let difference = first_of([
+            (answer != expected).then_some(wrong),
+            memory_difference("the room", &room, &due),
+            memory_difference("the input itself", bytes, &case.bytes),
+        ]);
+        let difference = difference.map(|text| format!("{text}; code {code}, room of {lent}"));
+        (expected, difference)
+    }
+
+    /// Demand 3 on the first program's own doubles.
+    fn demand_3(bytes: &[u8], tally: &mut Tally) -> Option<String> {
+        let checked = check(bytes).ok()?;
+        let figures = Worksheets::of(checked);
+        let exact = [figures.onsite, figures.offsite, figures.decay];
+        for (code, exact) in (0..).zip(exact) {
+            let mut room = [0; 8];
+            let answer = first_subtotal(bytes, code, Lent::whole(&mut room));
+            let double = f64::from_le_bytes(room);
+            tally.held += 1;
+            if answer != 0 || !holds(double, exact, checked.counts[0]) {
+                return Some(format!(
+                    "demand 3, code {code}: {double:?} for {exact}, answer {answer}"
+                ));
+            }
+        }
+        None
+    }
+}
+
+#[cfg(not(door_missing))]
+fn main() -> std::process::ExitCode {
+    run::main()
+}
+
+#[cfg(door_missing)]
+fn main() {}

@@ -1,0 +1,94 @@
+//! Compares the text of `sheets` from the first program and from the second.
+//!
+//! `compare_lines [SEED [INPUTS]]`. Every input is asked for with a room of the
+//! text's length, one shorter, none at all and one of any length; all of our
+//! memory is looked at afterwards, the guard behind the room included.
+
+#[cfg(door_missing)]
+compile_error!(
+    "libdoor.a of the first program is missing: build it, or name its folder in NILOFERQ_LIB"
+);
+
+#[cfg(not(door_missing))]
+mod run {
+    use second::drive::{exit, first_of, memory_difference, run, Arguments, Outcome, Plan};
+    use second::ffi::lines::first_lines;
+    use second::inputs;
+    use second::judge::{judge, Verdict};
+    use second::lent::{Lent, Placed};
+    use second::rng::Rng;
+    use second::sheets::lines;
+    use second::sweep::Case;
+    use std::process::ExitCode;
+
+    const GUARD: usize = 24;
+    const MOST_LENT: usize = 700;
+    const MEMORY: usize = MOST_LENT + GUARD;
+
+    pub fn main() -> ExitCode {
+        let Some(arguments) = Arguments::from_command("compare_lines") else {
+            return ExitCode::FAILURE;
+        };
+        let plan = Plan {
+            name: "lines",
+            inputs: 250_000,
+            least: inputs::least(),
+            often: &[0, 1, 2, 3, 4, 5, 6, 7, 8],
+        };
+        let mut calls = 0;
+        let good = run(&plan, arguments, inputs::with_figures, |case, rng| {
+            try_one(case, rng, &mut calls)
+        });
+        println!("{calls} calls with rooms exact, short by one, empty and of any length");
+        exit(good)
+    }
+
+    fn try_one(case: &Case, rng: &mut Rng, calls: &mut usize) -> Outcome {
+        let mut before = [0u8; MEMORY];
+        rng.fill(&mut before);
+        // The text's length, from a room that is long enough.
+        let length = lines(&case.bytes, &mut [0; MOST_LENT]);
+        let near = (length + rng.below(9)).saturating_sub(4);
+        let rooms = [length, length - 1, 0, near, rng.below(MOST_LENT + 1)];
+        let placed = Placed::new(&case.bytes, rng);
+        let difference = first_of(rooms.map(|lent| {
+            *calls += 1;
+            ask(placed.bytes(), case, before, lent)
+        }));
+        let number = match judge(&case.bytes) {
+            Verdict::Accepted(_) => 0,
+            Verdict::Refused(refusal) => refusal.number,
+        };
+        Outcome { number, difference }
+    }
+
+    fn ask(bytes: &[u8], case: &Case, before: [u8; MEMORY], lent: usize) -> Option<String> {
+        let mut due = before;
+        let expected = lines(bytes, &mut due[..lent]);
+        let mut room = before;
+        let answer = first_lines(bytes, Lent::front(&mut room, lent));
+        let difference = first_of([
+            (answer != expected).then_some("another length".to_string()),
+            memory_difference("the room", &room, &due),
+            memory_difference("the input itself", bytes, &case.bytes),
+        ])?;
+        // Line feeds as they are, anything else that isn't text by its code.
+        let shown = |room: &[u8], length: usize| {
+            let shown = room[..length.min(MEMORY)].escape_ascii().to_string();
+            shown.replace("\\n", "\n")
+        };
+        Some(format!(
+            "{difference}; room of {lent}\nfirst program {answer}:\n{}second program {expected}:\n{}",
+            shown(&room, answer),
+            shown(&due, expected)
+        ))
+    }
+}
+
+#[cfg(not(door_missing))]
+fn main() -> std::process::ExitCode {
+    run::main()
+}
+
+#[cfg(door_missing)]
+fn main() {}

@@ -1,0 +1,143 @@
+//! Runs the first program's `sheets` on many inputs through its standard input
+//! and compares the whole of its standard output.
+//!
+//! `compare_sheets [SEED [INPUTS]]`, with the program's path in NILOFERQ_SHEETS
+//! and, if it needs one, the command to start it with in NILOFERQ_RUNNER, whose
+//! words are split at spaces. Some inputs are sent in pieces.
+
+use second::drive::{exit, memory_difference, run, Arguments, Outcome, Plan};
+use second::inputs;
+use second::judge::{judge, Verdict};
+use second::make::Rows;
+use second::rng::Rng;
+use second::sheets::text;
+use second::sweep::Case;
+use std::io::{ErrorKind, Read, Write};
+use std::process::{ChildStdin, Command, ExitCode, Stdio};
+use std::time::Duration;
+
+/// "at most 5,121 bytes are taken"
+const TAKEN: usize = 5_121;
+const INPUTS: usize = 2_000;
+const LENGTHS: [usize; 14] = [
+    0, 1, 2, 511, 512, 513, 1_024, 5_119, 5_120, 5_121, 5_122, 5_632, 9_000, 20_480,
+];
+const FILLINGS: usize = 4;
+
+fn main() -> ExitCode {
+    let Some(arguments) = Arguments::from_command("compare_sheets") else {
+        return ExitCode::FAILURE;
+    };
+    let Some(path) = std::env::var_os("NILOFERQ_SHEETS") else {
+        eprintln!("the path of the program `sheets` is to be named in NILOFERQ_SHEETS");
+        return ExitCode::FAILURE;
+    };
+    let runner = std::env::var("NILOFERQ_RUNNER").unwrap_or_default();
+    let words: Vec<&str> = runner.split(' ').filter(|word| !word.is_empty()).collect();
+    let command = || match words.as_slice() {
+        [] => Command::new(&path),
+        [first, rest @ ..] => {
+            let mut command = Command::new(first);
+            command.args(rest).arg(&path);
+            command
+        }
+    };
+    let plan = Plan {
+        name: "sheets",
+        inputs: INPUTS,
+        least: INPUTS,
+        often: &[0, 1, 2, 3, 4, 5, 6, 7, 8],
+    };
+    let good = run(&plan, arguments, make, |case, rng| {
+        try_one(command(), case, rng)
+    });
+    exit(good)
+}
+
+/// The named lengths first, in every filling; then the inputs of the other
+/// comparisons.
+fn make(index: usize, rng: &mut Rng) -> Case {
+    if index >= LENGTHS.len() * FILLINGS {
+        // The sweeps begin with thousands of lengths: a few of their inputs,
+        // from all over them, have to do.
+        let from = rng.below(inputs::least());
+        return inputs::with_figures(from, rng);
+    }
+    let (length, filling) = (LENGTHS[index / FILLINGS], index % FILLINGS);
+    let mut bytes = match filling {
+        0 => Vec::new(),
+        // A full return, cut or with more behind it.
+        1 => Rows::good(rng, [32; 3]).to_bytes(),
+        2 => Rows::good(rng, [0; 3]).to_bytes(),
+        _ => (0..length).map(|_| rng.byte()).collect(),
+    };
+    bytes.resize(length, 0);
+    Case {
+        how: format!("length {length}, filling {filling}"),
+        bytes,
+    }
+}
+
+fn try_one(mut command: Command, case: &Case, rng: &mut Rng) -> Outcome {
+    let taken = &case.bytes[..case.bytes.len().min(TAKEN)];
+    let number = match judge(taken) {
+        Verdict::Accepted(_) => 0,
+        Verdict::Refused(refusal) => refusal.number,
+    };
+    let due = text(taken);
+    let difference = match output(&mut command, &case.bytes, rng.one_in(8)) {
+        Err(error) => Some(format!("the program could not be run: {error}")),
+        Ok((_, None)) => Some("the program was stopped by a signal".to_string()),
+        Ok((found, Some(_))) => {
+            memory_difference("the output", &found, due.as_bytes()).map(|text| {
+                let [found, due] = [&found[..], due.as_bytes()].map(String::from_utf8_lossy);
+                format!("{text}\nfirst program:\n{found}second program:\n{due}")
+            })
+        }
+    };
+    Outcome { number, difference }
+}
+
+/// The whole standard output, and the exit status if there is one. The paper
+/// says nothing about its value.
+fn output(
+    command: &mut Command,
+    bytes: &[u8],
+    in_pieces: bool,
+) -> std::io::Result<(Vec<u8>, Option<i32>)> {
+    let mut child = command
+        .stdin(Stdio::piped())
+        .stdout(Stdio::piped())
+        .spawn()?;
+    // All inputs fit a pipe, so this ends even if the program takes nothing.
+    let sent = match child.stdin.take() {
+        Some(stdin) => send(stdin, bytes, in_pieces),
+        None => Ok(()),
+    };
+    let mut found = Vec::new();
+    if let Some(mut stdout) = child.stdout.take() {
+        stdout.read_to_end(&mut found)?;
+    }
+    let status = child.wait()?;
+    sent?;
+    Ok((found, status.code()))
+}
+
+/// A program that takes only the front may close its input early.
+fn send(mut stdin: ChildStdin, bytes: &[u8], in_pieces: bool) -> std::io::Result<()> {
+    let piece = if in_pieces {
+        bytes.len() / 3 + 1
+    } else {
+        bytes.len().max(1)
+    };
+    for (turn, piece) in bytes.chunks(piece).enumerate() {
+        if turn > 0 {
+            std::thread::sleep(Duration::from_millis(4));
+        }
+        match stdin.write_all(piece) {
+            Err(error) if error.kind() == ErrorKind::BrokenPipe => return Ok(()),
+            sent => sent?,
+        }
+    }
+    Ok(())
+}

@@ -1,0 +1,242 @@
+//! Good returns made for the sake of their figures: on a half and beside it,
+//! at the limits, and with doubles that round badly.
+
+use crate::make::{Rows, AFTER, BEFORE, MOST_ROWS, SUMMED};
+use crate::rng::Rng;
+use crate::sweep::Case;
+use crate::worst;
+
+/// A random return of this kind.
+pub fn case(rng: &mut Rng) -> Case {
+    let (how, rows) = match rng.below(8) {
+        0 | 1 => ("Q near a half", q_near_half(rng)),
+        2 => ("co2 near a half", co2_near_half(rng)),
+        3 | 4 => ("a gas near a half", gas_near_half(rng)),
+        5 => ("large rows", large(rng)),
+        6 => ("rows that round badly", {
+            let (rows, which) = (1 + rng.below(MOST_ROWS), worst::Which::any(rng));
+            worst::steep(rng, rows, which)
+        }),
+        _ => ("all rows", Rows::good(rng, [MOST_ROWS; 3])),
+    };
+    Case {
+        how: format!("{how}, {:?} rows", [1, 2, 3].map(|kind| rows.len(kind))),
+        bytes: rows.to_bytes(),
+    }
+}
+
+/// A row's carbon by share: 0 on-site, 1 off-site, 2 decay.
+fn carbon(row: &[u32; 15], share: usize) -> u128 {
+    let difference = |period: usize| row[BEFORE[period]] - row[AFTER[period]];
+    let factors = match share {
+        0 => [row[1], difference(0), row[4], row[5], row[6]],
+        1 => [row[1], difference(0), row[7], row[8], row[9]],
+        _ => [row[10], difference(1), row[13], 1_000, row[14]],
+    };
+    factors.into_iter().map(u128::from).product()
+}
+
+fn carbon_sum(rows: &Rows, shares: &[usize]) -> u128 {
+    let sum = |&share: &usize| -> u128 { rows.conversion.iter().map(|r| carbon(r, share)).sum() };
+    shares.iter().map(sum).sum()
+}
+
+/// P of worksheet 5-1, from the rows.
+fn p(rows: &Rows) -> i128 {
+    let wide = |row: &[u32], at: &[usize]| at.iter().map(|&i| i128::from(row[i])).product::<i128>();
+    let e: i128 = rows.stock.iter().map(|r| wide(r, &[2, 3, 4])).sum();
+    let taken = |r: &[u32; 5]| wide(r, &[1, 2]) + 1_000 * (i128::from(r[3]) + i128::from(r[4]));
+    let k: i128 = rows.harvest.iter().map(taken).sum();
+    let cleared = |r: &[u32; 15]| i128::from(r[1]) * i128::from(r[2] - r[3]) * i128::from(r[7]);
+    let l: i128 = rows.conversion.iter().map(cleared).sum();
+    100 * e - (100 * k - l) * i128::from(rows.parameters[0][0])
+}
+
+/// A remainder at a half of `below`, or up to two steps beside it.
+fn beside_half(rng: &mut Rng, below: u128) -> u128 {
+    below / 2 + rng.pick(&[0, 0, 0, 1, 2]) - rng.pick(&[0, 0, 0, 1, 2])
+}
+
+/// The whole c below `below` with `times` x c = `rest` modulo `below`, and the
+/// step from one such c to the next. If there is none, `rest` goes down to the
+/// next that has one.
+fn solve(times: u128, rest: u128, below: u128) -> (u128, u128) {
+    // The greatest common divisor, and the inverse from the same steps.
+    let [mut a, mut b] = [times as i128, below as i128];
+    let [mut x, mut y] = [1i128, 0];
+    while b != 0 {
+        let quotient = a / b;
+        [a, b] = [b, a - quotient * b];
+        [x, y] = [y, x - quotient * y];
+    }
+    let step = below as i128 / a;
+    let c = (rest as i128 / a) % step * x.rem_euclid(step) % step;
+    (c as u128, step as u128)
+}
+
+/// Sets a row's carbon to `digit` x 10^(6 x `power`), in one share alone.
+fn set_carbon(rng: &mut Rng, row: &mut [u32; 15], share: usize, digit: u32, power: usize) {
+    let (difference, fraction, others) = match power {
+        0 => (1, 1, 1),
+        1 => (1, 1, 1_000),
+        _ => (1_000, 1_000, 1_000),
+    };
+    SUMMED.into_iter().for_each(|at| row[at] = 0);
+    let period = usize::from(share == 2);
+    row[if period == 0 { 1 } else { 10 }] = digit;
+    row[AFTER[period]] = rng.from_to(0, 9_000);
+    row[BEFORE[period]] = row[AFTER[period]] + difference;
+    row[SUMMED[share]] = fraction;
+    if share < 2 {
+        row[SUMMED[share] + 1] = others;
+        row[SUMMED[share] + 2] = others;
+    } else {
+        row[14] = others;
+    }
+}
+
+/// Some good rows. The last three conversion rows are for [`bring_carbon`].
+fn with_spare_rows(rng: &mut Rng) -> Rows {
+    let counts = [3 + rng.below(MOST_ROWS - 2), rng.below(4), rng.below(4)];
+    Rows::good(rng, counts)
+}
+
+/// Brings the carbon of these shares to `due` modulo `step`, by the last three
+/// rows: every amount below 10^18 has three digits to the base 10^6.
+fn bring_carbon(rng: &mut Rng, rows: &mut Rows, shares: &[usize], (due, step): (u128, u128)) {
+    let first = rows.conversion.len() - 3;
+    for row in &mut rows.conversion[first..] {
+        SUMMED.into_iter().for_each(|at| row[at] = 0);
+    }
+    let there = carbon_sum(rows, shares) % step;
+    let mut missing = (due + step - there) % step;
+    missing += step * u128::from(rng.from_to(0, 99));
+    for power in 0..3 {
+        let digit = (missing / 1_000_000u128.pow(power as u32) % 1_000_000) as u32;
+        // Decay has oxidised 1,000, so the lowest digit can't be decay.
+        let usable = if power == 0 {
+            shares.len().min(2)
+        } else {
+            shares.len()
+        };
+        let share = shares[rng.below(usable)];
+        set_carbon(
+            rng,
+            &mut rows.conversion[first + power],
+            share,
+            digit,
+            power,
+        );
+    }
+}
+
+fn co2_near_half(rng: &mut Rng) -> Rows {
+    let mut rows = with_spare_rows(rng);
+    let below = 3_000_000_000;
+    let due = solve(11, beside_half(rng, below), below);
+    bring_carbon(rng, &mut rows, &[0, 1, 2], due);
+    rows
+}
+
+/// One of CH4, CO, N2O and NOx.
+fn gas_near_half(rng: &mut Rng) -> Rows {
+    let mut rows = with_spare_rows(rng);
+    let gas = rng.below(4);
+    let parameters = &mut rows.parameters[0];
+    let mut ratio = |at: usize| -> u128 {
+        // Small ratios leave the most remainders within reach.
+        parameters[at] = match rng.below(3) {
+            0 => 1,
+            1 => rng.pick(&[3, 7, 10, 12, 60, 121, 999]),
+            _ => rng.from_to(1, 1_000),
+        };
+        parameters[at].into()
+    };
+    let (times, below) = match gas {
+        0 => (4 * ratio(1), 3_000_000_000_000),
+        1 => (7 * ratio(2), 3_000_000_000_000),
+        2 => (11 * ratio(3) * ratio(4), 7_000_000_000_000_000),
+        _ => (23 * ratio(3) * ratio(5), 7_000_000_000_000_000),
+    };
+    let due = solve(times, beside_half(rng, below), below);
+    bring_carbon(rng, &mut rows, &[0], due);
+    rows
+}
+
+/// Q on a half or beside it, on both sides of zero. The last stock row is one
+/// for E in single units, the last conversion row one for L.
+fn q_near_half(rng: &mut Rng) -> Rows {
+    let below = 3_000_000;
+    let counts = [
+        1 + rng.below(3),
+        1 + rng.pick(&[0, 0, 0, 1, 5]),
+        rng.below(6),
+    ];
+    let mut rows = Rows::good(rng, counts);
+    if rng.one_in(2) {
+        // Small values, near zero.
+        rows.harvest
+            .iter_mut()
+            .for_each(|r| r[1..].iter_mut().for_each(|v| *v %= 10));
+        rows.stock
+            .iter_mut()
+            .for_each(|r| r[2..].iter_mut().for_each(|v| *v %= 10));
+        rows.conversion.iter_mut().for_each(|r| r[1] %= 100);
+    }
+    let n = rng.pick(&[1, 3, 7, 77, 500, 501, 999, 1_000]);
+    rows.parameters[0][0] = n;
+    let last = rows.conversion.len() - 1;
+    set_carbon(rng, &mut rows.conversion[last], 1, 0, 0);
+    let stock = rows.stock.len() - 1;
+    rows.stock[stock][2..].copy_from_slice(&[1, 0, 1]);
+
+    let (due, _) = solve(11, beside_half(rng, below), below);
+    let missing = (due as i128 - p(&rows)).rem_euclid(below as i128) as u32;
+    // Steps of n by L until hundreds are left, which E brings.
+    let fine = (0..100).find(|&l| (missing + 3_000_000 - l * n % 100).is_multiple_of(100));
+    let fine = fine.unwrap_or(0);
+    let left = (missing + below as u32 - fine * n % below as u32) % below as u32;
+    rows.conversion[last][1] = fine;
+    rows.stock[stock][3] = left / 100;
+    rows
+}
+
+/// Nearly all values at their limits: 32 such rows carry over 64 bits.
+fn large(rng: &mut Rng) -> Rows {
+    let count = rng.pick(&[1, 2, 3, 12, 31, 32, 32, 32]);
+    let mut rows = Rows::good(rng, [count; 3]);
+    let share = rng.below(4);
+    for row in &mut rows.conversion {
+        let id = row[0];
+        *row = [
+            id, 1_000_000, 10_000, 0, 0, 1_000, 1_000, 0, 1_000, 1_000, 1_000_000, 10_000, 0, 0,
+            1_000,
+        ];
+        let share = if share == 3 { rng.below(3) } else { share };
+        row[SUMMED[share]] = 1_000;
+        if rng.one_in(2) {
+            let at = rng.pick(&[1, 2, 5, 6, 8, 9, 10, 11, 14]);
+            row[at] -= rng.from_to(0, 3);
+        }
+    }
+    for row in &mut rows.stock {
+        row[2..].copy_from_slice(&[10_000, 10_000_000, 1_000]);
+    }
+    for row in &mut rows.harvest {
+        row[1..].copy_from_slice(&[10_000_000, 10_000, 10_000_000, 10_000_000]);
+    }
+    // All of one sign, or the largest of both.
+    match rng.below(3) {
+        0 => rows.stock.clear(),
+        1 => rows.harvest.clear(),
+        _ => {}
+    }
+    if rng.one_in(2) {
+        rows.parameters[0] = [1_000; 6];
+    }
+    rows
+}
+
+#[cfg(test)]
+#[path = "figures_tests.rs"]
+mod tests;

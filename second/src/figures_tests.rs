@@ -1,0 +1,66 @@
+use super::*;
+use crate::judge::{judge, Verdict};
+use crate::sheets::sheets;
+
+#[test]
+fn all_are_accepted() {
+    for index in 0..5_000 {
+        let made = case(&mut Rng::for_input(51, index));
+        let verdict = judge(&made.bytes);
+        assert!(
+            matches!(verdict, Verdict::Accepted(_)),
+            "{}: {verdict:?}",
+            made.how
+        );
+    }
+}
+
+#[test]
+fn solutions_solve() {
+    let mut rng = Rng::new(52);
+    for _ in 0..2_000 {
+        let below = rng.pick(&[
+            3_000_000,
+            3_000_000_000,
+            3_000_000_000_000,
+            7_000_000_000_000_000,
+        ]);
+        let times = u128::from(rng.from_to(1, 23_000_000));
+        let rest = beside_half(&mut rng, below);
+        let (c, step) = solve(times, rest, below);
+        let off = (rest + below - times * c % below) % below;
+        assert!(
+            c < step && off < below / step,
+            "{times} {rest} {below}: {c}"
+        );
+        assert_eq!(times * step % below, 0);
+    }
+}
+
+/// Both signs of an exact half of Q come often, and small ones among them.
+#[test]
+fn halves_of_q_have_both_signs() {
+    let mut rng = Rng::new(53);
+    let [mut up, mut down, mut small] = [0; 3];
+    for _ in 0..1_000 {
+        let p = sheets(&q_near_half(&mut rng).to_bytes())
+            .expect("good rows")
+            .p;
+        if p.rem_euclid(3_000_000) == 1_500_000 {
+            up += i32::from(p > 0);
+            down += i32::from(p < 0);
+            small += i32::from(p.abs() < 3_000_000_000);
+        }
+    }
+    assert!(up > 100 && down > 100 && small > 100, "{up} {down} {small}");
+}
+
+#[test]
+fn large_rows_carry() {
+    let mut rng = Rng::new(54);
+    let carried = (0..200).filter(|_| {
+        let figures = sheets(&large(&mut rng).to_bytes()).expect("good rows");
+        figures.onsite.max(figures.offsite).max(figures.decay) > u128::from(u64::MAX)
+    });
+    assert!(carried.count() > 60);
+}

@@ -1,0 +1,180 @@
+//! Worksheets 5-1, 5-2 and 5-3 of the paper (01), in whole numbers.
+//!
+//! The largest values at the limits say how wide each figure must be:
+//! E 3.2 x 10^15, K 3.84 x 10^12, L 3.2 x 10^14, O 3.84 x 10^17 and 11 P
+//! 7.04 x 10^18 fit 64 bits, and so does one conversion row (10^19, unsigned).
+//! A sum of rows (3.2 x 10^20) doesn't, nor do the numerators of the gases; the
+//! widest, 23 C x N/C x ratio, is 7.36 x 10^27 and well inside 128 bits.
+
+use crate::judge::{check, four, two, Checked, Record, Refusal};
+use crate::land::{Conversion, Period, Share};
+use crate::text::Text;
+
+/// Every figure that isn't a plain sum or turn of another.
+#[derive(Clone, Copy, Debug, PartialEq, Eq)]
+pub struct Worksheets {
+    pub e: u64,
+    pub k: u64,
+    pub l: u64,
+    pub m: i64,
+    pub o: i64,
+    pub p: i64,
+    pub q: i64,
+    pub onsite: u128,
+    pub offsite: u128,
+    pub decay: u128,
+    pub co2: u64,
+    pub ch4: u64,
+    pub co: u64,
+    pub n2o: u64,
+    pub nox: u64,
+}
+
+/// The worksheets of a return, or its refusal.
+pub fn sheets(bytes: &[u8]) -> Result<Worksheets, Refusal> {
+    check(bytes).map(Worksheets::of)
+}
+
+/// The text that the program `sheets` prints for these bytes.
+pub fn text(bytes: &[u8]) -> Text {
+    let mut text = Text::new();
+    match sheets(bytes) {
+        Ok(figures) => figures.print(&mut text),
+        Err(refusal) => text.refused(refusal),
+    }
+    text
+}
+
+/// Puts the text at the front of `room` and gives its length, or gives 0 and
+/// leaves `room` alone when it is too short.
+pub fn lines(bytes: &[u8], room: &mut [u8]) -> usize {
+    let text = text(bytes);
+    let text = text.as_bytes();
+    match room.get_mut(..text.len()) {
+        Some(front) => {
+            front.copy_from_slice(text);
+            text.len()
+        }
+        None => 0,
+    }
+}
+
+impl Worksheets {
+    pub fn of(checked: Checked) -> Self {
+        let e = checked.records(2).map(grown).sum();
+        let k = checked.records(3).map(taken).sum();
+        let mut l = 0;
+        let [mut onsite, mut offsite, mut decay] = [0u128; 3];
+        for row in checked.records(1).map(Conversion::of) {
+            l += cleared(row.year) * u64::from(row.off_site.fraction);
+            onsite += u128::from(carbon(row.year, row.on_site));
+            offsite += u128::from(carbon(row.year, row.off_site));
+            decay += u128::from(carbon(row.ten_years, row.decay));
+        }
+
+        let parameters = checked.parameters();
+        let [n, ch4, co, nitrogen, n2o, nox] =
+            [4, 6, 8, 10, 12, 14].map(|at| u64::from(two(parameters, at)));
+        let m = 100 * k as i64 - l as i64;
+        let o = m * n as i64;
+        let p = 100 * e as i64 - o;
+
+        // "from on-site carbon C only"
+        let gas = |times: u64, ratio: u64, below: u64| {
+            nearest(onsite * u128::from(times * ratio), u128::from(below))
+        };
+        Worksheets {
+            e,
+            k,
+            l,
+            m,
+            o,
+            p,
+            q: nearest_signed(11 * p, 3_000_000),
+            onsite,
+            offsite,
+            decay,
+            co2: nearest(11 * (onsite + offsite + decay), 3_000_000_000),
+            ch4: gas(4, ch4, 3_000_000_000_000),
+            co: gas(7, co, 3_000_000_000_000),
+            n2o: gas(11, nitrogen * n2o, 7_000_000_000_000_000),
+            nox: gas(23, nitrogen * nox, 7_000_000_000_000_000),
+        }
+    }
+
+    /// "R is their sum."
+    pub fn r(&self) -> u128 {
+        self.onsite + self.offsite
+    }
+
+    /// "The reported figure is -Q: emissions are positive."
+    pub fn report(&self) -> i64 {
+        -self.q
+    }
+
+    /// One line for each figure, in the paper's order.
+    pub fn print(&self, text: &mut Text) {
+        text.line("E ", self.e);
+        text.line("K ", self.k);
+        text.line("L ", self.l);
+        text.signed_line("M ", self.m);
+        text.signed_line("O ", self.o);
+        text.signed_line("P ", self.p);
+        text.signed_line("Q ", self.q);
+        text.signed_line("report ", self.report());
+        text.wide_line("onsite ", self.onsite);
+        text.wide_line("offsite ", self.offsite);
+        text.wide_line("R ", self.r());
+        text.wide_line("decay ", self.decay);
+        text.line("co2 ", self.co2);
+        text.line("ch4 ", self.ch4);
+        text.line("co ", self.co);
+        text.line("n2o ", self.n2o);
+        text.line("nox ", self.nox);
+    }
+}
+
+/// Amount x rate x carbon fraction of a stock record. The unit code changes
+/// nothing: "nothing is multiplied".
+fn grown(r: &Record) -> u64 {
+    u64::from(four(r, 8)) * u64::from(two(r, 6)) * u64::from(two(r, 12))
+}
+
+/// F x G + 1,000 x (I + J) of a harvest record.
+fn taken(r: &Record) -> u64 {
+    u64::from(four(r, 4)) * u64::from(two(r, 8))
+        + 1_000 * (u64::from(four(r, 12)) + u64::from(four(r, 16)))
+}
+
+/// Area x (before - after).
+fn cleared(period: Period) -> u64 {
+    u64::from(period.area) * u64::from(period.difference())
+}
+
+/// One row's carbon: at most 10^19.
+fn carbon(period: Period, share: Share) -> u64 {
+    cleared(period)
+        * u64::from(share.fraction)
+        * u64::from(share.oxidised)
+        * u64::from(share.carbon)
+}
+
+/// To nearest, a half upwards. `below` is even, so its half is whole. Every
+/// answer is at most 1.2 x 10^12.
+fn nearest(above: u128, below: u128) -> u64 {
+    let above = above + below / 2;
+    match (u64::try_from(above), u64::try_from(below)) {
+        // One short division where it is enough.
+        (Ok(above), Ok(below)) => above / below,
+        _ => (above / below) as u64,
+    }
+}
+
+/// "Rounding is to nearest, halves away from zero."
+fn nearest_signed(above: i64, below: i64) -> i64 {
+    (above + above.signum() * (below / 2)) / below
+}
+
+#[cfg(test)]
+#[path = "sheets_tests.rs"]
+mod tests;

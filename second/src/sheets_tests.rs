@@ -1,0 +1,245 @@
+//! The worked day to the letter, and the paper's single table of cases.
+
+use super::*;
+use crate::figures;
+use crate::make::Rows;
+use crate::rng::Rng;
+
+/// "One day's return, whole".
+fn worked_day() -> Rows {
+    Rows {
+        conversion: vec![[
+            7, 200, 1000, 100, 400, 900, 500, 200, 900, 500, 300, 1000, 100, 300, 500,
+        ]],
+        stock: vec![[1, 0, 680, 1000, 500]],
+        harvest: vec![[1, 500, 950, 300, 0]],
+        parameters: vec![[500, 12, 60, 10, 7, 121]],
+    }
+}
+
+const WORKED_TEXT: &str = "\
+E 340000000
+K 775000
+L 36000000
+M 41500000
+O 20750000000
+P 13250000000
+Q 48583
+report -48583
+onsite 32400000000000
+offsite 16200000000000
+R 48600000000000
+decay 40500000000000
+co2 326700
+ch4 518
+co 4536
+n2o 4
+nox 129
+";
+
+fn zero_parameters() -> Rows {
+    Rows {
+        parameters: vec![[0; 6]],
+        ..Rows::default()
+    }
+}
+
+fn figures_of(rows: &Rows) -> Worksheets {
+    sheets(&rows.to_bytes()).expect("the rows are good")
+}
+
+fn text_of(bytes: &[u8]) -> String {
+    String::from_utf8(text(bytes).as_bytes().to_vec()).expect("the text is ASCII")
+}
+
+#[test]
+fn a_the_worked_day() {
+    assert_eq!(text_of(&worked_day().to_bytes()), WORKED_TEXT);
+}
+
+#[test]
+fn b_lone_parameters_are_all_zero() {
+    let bytes = zero_parameters().to_bytes();
+    assert_eq!(bytes[508..], [18, 0, 0, 0]);
+    let names: Vec<&str> = WORKED_TEXT
+        .lines()
+        .filter_map(|line| line.split(' ').next())
+        .collect();
+    let due: String = names.iter().map(|name| format!("{name} 0\n")).collect();
+    assert_eq!(text_of(&bytes), due);
+    // (g): with check 17 it is refused.
+    let mut wrong = bytes;
+    wrong[508] = 17;
+    assert_eq!(text_of(&wrong), "refused 2 0\n");
+    // (j)
+    assert_eq!(text_of(&wrong[..511]), "refused 1 0\n");
+}
+
+/// (c) and (d), with the neighbours of the half.
+#[test]
+fn c_d_halves_go_away_from_zero() {
+    // E = amount, so P = 100 x amount.
+    let with_stock = |amount| {
+        let mut rows = zero_parameters();
+        rows.stock = vec![[1, 0, 1, amount, 1]];
+        let figures = figures_of(&rows);
+        (figures.p, figures.q, figures.report())
+    };
+    assert_eq!(with_stock(15_000), (1_500_000, 6, -6));
+    assert_eq!(with_stock(14_999), (1_499_900, 5, -5));
+    // K = F, so P = -100 x F x N.
+    let with_harvest = |f| {
+        let mut rows = zero_parameters();
+        rows.harvest = vec![[1, f, 1, 0, 0]];
+        rows.parameters[0][0] = 1;
+        let figures = figures_of(&rows);
+        (figures.p, figures.q, figures.report())
+    };
+    assert_eq!(with_harvest(15_000), (-1_500_000, -6, 6));
+    assert_eq!(with_harvest(14_999), (-1_499_900, -5, 5));
+}
+
+#[test]
+fn e_conversion_carbon_of_a_half() {
+    let with = |area| {
+        let mut rows = zero_parameters();
+        rows.conversion = vec![[1, area, 1, 0, 0, 0, 0, 15, 100, 1000, 0, 0, 0, 0, 0]];
+        let figures = figures_of(&rows);
+        (figures.offsite, figures.r(), figures.co2)
+    };
+    assert_eq!(with(1_000), (1_500_000_000, 1_500_000_000, 6));
+    assert_eq!(with(999), (1_498_500_000, 1_498_500_000, 5));
+}
+
+#[test]
+fn f_the_largest_on_site_rows() {
+    let mut rows = zero_parameters();
+    rows.conversion = (0..32)
+        .map(|id| {
+            [
+                id, 1_000_000, 10_000, 0, 1000, 1000, 1000, 0, 0, 0, 0, 0, 0, 0, 0,
+            ]
+        })
+        .collect();
+    rows.parameters[0] = [1_000; 6];
+    let figures = figures_of(&rows);
+    assert_eq!(figures.onsite, 320_000_000_000_000_000_000);
+    // 11 x 3.2 x 10^20 / (3 x 10^9) and so on, by hand.
+    assert_eq!(figures.co2, 1_173_333_333_333);
+    assert_eq!(figures.ch4, 426_666_666_667);
+    assert_eq!(figures.co, 746_666_666_667);
+    assert_eq!(figures.n2o, 502_857_142_857);
+    assert_eq!(figures.nox, 1_051_428_571_429);
+    assert!(text_of(&rows.to_bytes()).contains("\nonsite 320000000000000000000\n"));
+}
+
+/// The far ends of worksheet 5-1: nothing overflows.
+#[test]
+fn the_largest_of_5_1() {
+    let mut rows = zero_parameters();
+    rows.parameters[0][0] = 1_000;
+    rows.stock = (0..32)
+        .map(|id| [id, 1, 10_000, 10_000_000, 1_000])
+        .collect();
+    rows.conversion = (0..32)
+        .map(|id| {
+            [
+                id, 1_000_000, 10_000, 0, 0, 0, 0, 1_000, 0, 0, 0, 0, 0, 0, 0,
+            ]
+        })
+        .collect();
+    let up = figures_of(&rows);
+    assert_eq!((up.e, up.l), (3_200_000_000_000_000, 320_000_000_000_000));
+    assert_eq!(
+        (up.o, up.p),
+        (-320_000_000_000_000_000, 640_000_000_000_000_000)
+    );
+    assert_eq!(up.q, 2_346_666_666_667);
+    rows.stock.clear();
+    rows.conversion.clear();
+    rows.harvest = (0..32)
+        .map(|id| [id, 10_000_000, 10_000, 10_000_000, 10_000_000])
+        .collect();
+    let down = figures_of(&rows);
+    assert_eq!((down.k, down.m), (3_840_000_000_000, 384_000_000_000_000));
+    assert_eq!(
+        (down.p, down.q),
+        (-384_000_000_000_000_000, -1_408_000_000_000)
+    );
+}
+
+#[test]
+fn h_fractions() {
+    let with = |decay| {
+        let mut rows = worked_day();
+        for (at, value) in [(4, 500), (7, 300), (13, decay)] {
+            rows.conversion[0][at] = value;
+        }
+        text_of(&rows.to_bytes())
+    };
+    assert!(with(200).starts_with("E 340000000\n"));
+    assert_eq!(with(201), "refused 7 0\n");
+}
+
+#[test]
+fn i_after_and_before() {
+    let with = |after| {
+        let mut rows = worked_day();
+        rows.conversion[0][2..4].copy_from_slice(&[100, after]);
+        sheets(&rows.to_bytes()).map(|figures| (figures.onsite, figures.offsite, figures.l))
+    };
+    assert_eq!(with(100), Ok((0, 0, 0)));
+    let refused = Refusal {
+        number: 8,
+        place: 0,
+    };
+    assert_eq!(with(101), Err(refused));
+}
+
+#[test]
+fn rooms_are_filled_exactly() {
+    let bytes = worked_day().to_bytes();
+    let due = WORKED_TEXT.as_bytes();
+    for room in 0..due.len() + 20 {
+        let mut lent = vec![b'#'; room];
+        let length = lines(&bytes, &mut lent);
+        let fits = room >= due.len();
+        assert_eq!(length, if fits { due.len() } else { 0 });
+        assert_eq!(&lent[..length], &due[..length]);
+        assert!(lent[length..].iter().all(|&byte| byte == b'#'));
+    }
+}
+
+/// Rounding checked as the paper says it: no other whole number is nearer, and
+/// a half goes away from zero.
+#[test]
+fn rounded_is_nearest() {
+    let good = |above: i128, below: i128, rounded: i128| {
+        let twice_off = 2 * (rounded.abs() * below - above.abs());
+        let sign = rounded == 0 || (rounded < 0) == (above < 0);
+        sign && twice_off > -below && twice_off <= below
+    };
+    let mut rng = Rng::new(62);
+    let mut halves = 0;
+    for _ in 0..20_000 {
+        let bytes = figures::case(&mut rng).bytes;
+        let s = sheets(&bytes).expect("made good");
+        let block = &bytes[bytes.len() - 512..];
+        let ratio = |at: usize| i128::from(u16::from_le_bytes([block[8 + at], block[9 + at]]));
+        let c = s.onsite as i128;
+        let all = (s.r() + s.decay) as i128;
+        let tera = 1_000_000_000_000;
+        for (above, below, rounded) in [
+            (11 * i128::from(s.p), 3_000_000, i128::from(s.q)),
+            (11 * all, 3_000_000_000, s.co2.into()),
+            (4 * c * ratio(6), 3 * tera, s.ch4.into()),
+            (7 * c * ratio(8), 3 * tera, s.co.into()),
+            (11 * c * ratio(10) * ratio(12), 7_000 * tera, s.n2o.into()),
+            (23 * c * ratio(10) * ratio(14), 7_000 * tera, s.nox.into()),
+        ] {
+            assert!(good(above, below, rounded), "{above} / {below}: {rounded}");
+            halves += u32::from(2 * above.rem_euclid(below) == below);
+        }
+    }
+    assert!(halves > 2_000, "{halves}");
+}
