@@ -1,8 +1,9 @@
 # Builds the second program beside the proved library. To be read by a shell in the repository's folder:
 #     . second/build.sh; second_run compare
 # The proved library is x86-64 code, so on another processor the second program is built for x86-64 too (tools/machine.sh).
-second_features="lines,doubles"
-comparisons="compare compare_lines compare_doubles compare_sheets"
+second_features="lines,doubles,rows"
+# the longest first, since the gate runs two at a time
+comparisons="compare_lines compare_rows compare_doubles compare compare_sheets fenced"
 
 . tools/machine.sh
 
@@ -12,6 +13,9 @@ second_build() {
     rt staticlib door >target/door.log 2>&1 || { cat target/door.log >&2; return 1; }
     # the program itself, for compare_sheets: rt links a proved program to target/bin
     [ -x target/bin/sheets ] || rt check sheets >target/sheets.log 2>&1 || { cat target/sheets.log >&2; return 1; }
+    # for the benchmark alone
+    $machine_cc -O3 -fPIC -c second/plain_returns.c -o target/plain_returns.o || return 1
+    export NILOFERQ_PLAIN=$PWD/target/plain_returns.o
     if [ "$(uname -m)" = x86_64 ]; then
         command -v cargo >/dev/null || machine_install cargo rustc
         (cd second && NILOFERQ_LIB=$door cargo build --release --quiet --features "$second_features")

@@ -4,12 +4,15 @@
 use crate::rng::Rng;
 use crate::sweep::Case;
 use std::process::ExitCode;
+use std::time::Instant;
 
 const SEED: u64 = 20_260_101;
 /// Differences that are described; the others are only counted.
 const SHOWN: usize = 5;
 /// Refusal numbers go up to 11.
 const NUMBERS: usize = 12;
+/// Of fewer inputs than this, named for a quick try, no shares are asked.
+const ENOUGH_FOR_SHARES: usize = 10_000;
 
 /// One comparison.
 pub struct Plan<'a> {
@@ -45,24 +48,26 @@ impl Input for Case {
     }
 }
 
-/// The two optional arguments of every comparison.
+/// The three optional arguments of every comparison.
 #[derive(Clone, Copy)]
 pub struct Arguments {
     pub seed: u64,
     pub inputs: Option<usize>,
+    /// After this time no further input is taken.
+    pub seconds: Option<u64>,
 }
 
 impl Arguments {
-    /// `PROGRAM [SEED [INPUTS]]`, or nothing after a word on the usage.
+    /// `PROGRAM [SEED [INPUTS [SECONDS]]]`, or nothing after a word on the usage.
     pub fn from_command(program: &str) -> Option<Self> {
         let read = Self::parse(std::env::args().skip(1));
         if read.is_none() {
-            eprintln!("{program} [SEED [INPUTS]]: two whole numbers, inputs at least 1");
+            eprintln!("{program} [SEED [INPUTS [SECONDS]]]: whole numbers, inputs at least 1");
         }
         read
     }
 
-    fn parse(mut words: impl Iterator<Item = String>) -> Option<Self> {
+    pub fn parse(mut words: impl Iterator<Item = String>) -> Option<Self> {
         let seed = match words.next() {
             None => SEED,
             Some(word) => word.parse().ok()?,
@@ -71,7 +76,26 @@ impl Arguments {
             None => None,
             Some(word) => Some(word.parse().ok().filter(|&inputs| inputs > 0)?),
         };
-        words.next().is_none().then_some(Arguments { seed, inputs })
+        let seconds = match words.next() {
+            None => None,
+            Some(word) => Some(word.parse().ok()?),
+        };
+        let read = Arguments {
+            seed,
+            inputs,
+            seconds,
+        };
+        words.next().is_none().then_some(read)
+    }
+
+    /// Whether so many inputs are enough to ask that every answer came.
+    pub fn shares_due(self, made: usize) -> bool {
+        self.inputs.is_none() || made >= ENOUGH_FOR_SHARES
+    }
+
+    fn over(self, start: Instant) -> bool {
+        self.seconds
+            .is_some_and(|seconds| start.elapsed().as_secs() >= seconds)
     }
 }
 
@@ -86,7 +110,11 @@ pub fn run<I: Input>(
     let mut given = [0usize; NUMBERS];
     let mut made = 0;
     let mut differences = 0;
+    let start = Instant::now();
     for index in 0..arguments.inputs.unwrap_or(plan.inputs) {
+        if arguments.over(start) {
+            break;
+        }
         let mut rng = Rng::for_input(seed, index as u64);
         let input = make(index, &mut rng);
         let outcome = try_one(&input, &mut rng);
@@ -100,7 +128,7 @@ pub fn run<I: Input>(
         }
     }
 
-    let share = |count: usize| 100.0 * count as f64 / made as f64;
+    let share = |count: usize| 100.0 * count as f64 / made.max(1) as f64;
     println!("accepted: {} ({:.1} %)", given[0], share(given[0]));
     for (number, &count) in given.iter().enumerate().skip(1) {
         if count > 0 || plan.often.contains(&(number as u32)) {
@@ -112,12 +140,17 @@ pub fn run<I: Input>(
         plan.name
     );
 
-    let mut good = differences == 0;
+    let mut good = differences == 0 && made > 0;
     if arguments.inputs.is_none() && made < plan.least {
         eprintln!("too few inputs: {made}, at least {} are due", plan.least);
         good = false;
     }
-    for &number in plan.often {
+    let often = if arguments.shares_due(made) {
+        plan.often
+    } else {
+        &[]
+    };
+    for &number in often {
         if 100 * given[number as usize] < made {
             eprintln!("answer {number} has fewer than 1 % of the inputs");
             good = false;
@@ -153,6 +186,10 @@ pub fn memory_difference<T: PartialEq + std::fmt::Debug>(
     found: &[T],
     due: &[T],
 ) -> Option<String> {
+    // Whole first, which is quick: they are nearly always the same.
+    if found == due {
+        return None;
+    }
     let at = (0..found.len().max(due.len())).find(|&at| found.get(at) != due.get(at))?;
     let around = |memory: &[T]| {
         let end = memory.len().min(at + 6);
@@ -177,12 +214,13 @@ mod tests {
     fn arguments_are_whole_numbers() {
         let parse = |text: &str| {
             let words = text.split_whitespace().map(String::from);
-            Arguments::parse(words).map(|read| (read.seed, read.inputs))
+            Arguments::parse(words).map(|read| (read.seed, read.inputs, read.seconds))
         };
-        assert_eq!(parse(""), Some((SEED, None)));
-        assert_eq!(parse("5"), Some((5, None)));
-        assert_eq!(parse("5 9"), Some((5, Some(9))));
-        for wrong in ["x", "5 0", "5 x", "5 9 1"] {
+        assert_eq!(parse(""), Some((SEED, None, None)));
+        assert_eq!(parse("5"), Some((5, None, None)));
+        assert_eq!(parse("5 9"), Some((5, Some(9), None)));
+        assert_eq!(parse("5 9 60"), Some((5, Some(9), Some(60))));
+        for wrong in ["x", "5 0", "5 x", "5 9 x", "5 9 1 1"] {
             assert_eq!(parse(wrong), None, "{wrong}");
         }
     }

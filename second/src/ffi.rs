@@ -1,4 +1,5 @@
-//! The first program's C interface. The only unsafe code of this package.
+//! The first program's C interface. With `fence`, the only unsafe code of
+//! this package.
 //!
 //! Each group of functions is a module of its own and every function here is
 //! `#[inline]`: it is made only in the program that calls it, so no program

@@ -13,6 +13,7 @@ pub mod bound;
 pub mod damage;
 pub mod doubles;
 pub mod drive;
+pub mod fence;
 #[cfg(not(door_missing))]
 pub mod ffi;
 pub mod figures;

@@ -30,8 +30,7 @@ pub fn read(bytes: &[u8], rooms: Rooms) -> u32 {
     }
 }
 
-/// Number 9: the lowest kind whose room is too short, last the counts' room
-/// with place 0.
+/// Number 9 at the lowest place: 0 for the counts' room, then the kinds.
 fn rooms_suffice<'a>(checked: Checked<'a>, rooms: &Rooms) -> Result<Checked<'a>, Refusal> {
     let lent = [
         rooms.conversion.len(),
@@ -43,8 +42,8 @@ fn rooms_suffice<'a>(checked: Checked<'a>, rooms: &Rooms) -> Result<Checked<'a>,
     let short = needed.zip(lent).position(|(needed, lent)| lent < needed);
     let refused = |place| Err(Refusal { number: 9, place });
     match short {
+        _ if rooms.counts.len() < 4 => refused(0),
         Some(i) => refused(i as u32 + 1),
-        None if rooms.counts.len() < 4 => refused(0),
         None => Ok(checked),
     }
 }

@@ -114,8 +114,8 @@ fn short_rooms_are_refused_by_kind() {
         (vec![3], 9004),
         (vec![4], 9000),
         (vec![2, 1], 9002),
-        (vec![4, 3], 9004),
-        (vec![4, 0], 9001),
+        (vec![4, 3], 9000),
+        (vec![4, 0], 9000),
     ] {
         let mut lengths = enough;
         short.iter().for_each(|&at| lengths[at] -= 1);

@@ -59,6 +59,28 @@ pub fn lines(bytes: &[u8], room: &mut [u8]) -> usize {
     }
 }
 
+/// How many numbers C gets for all figures, three for each.
+pub const NUMBERS: usize = 51;
+
+/// As C asks for the figures: 0 and their numbers at the front of `room`, or
+/// 1,000 times the refusal number plus the place and `room` as it was.
+pub fn figures(bytes: &[u8], room: &mut [u64]) -> u32 {
+    match (sheets(bytes), room.get_mut(..NUMBERS)) {
+        (Err(refusal), _) => refusal.answer(),
+        (Ok(_), None) => SHORT.answer(),
+        (Ok(figures), Some(front)) => {
+            front.copy_from_slice(figures.numbers().as_flattened());
+            0
+        }
+    }
+}
+
+/// "lent room too short", from C with place 0.
+const SHORT: Refusal = Refusal {
+    number: 9,
+    place: 0,
+};
+
 impl Worksheets {
     pub fn of(checked: Checked) -> Self {
         let e = checked.records(2).map(grown).sum();
@@ -110,6 +132,33 @@ impl Worksheets {
     /// "The reported figure is -Q: emissions are positive."
     pub fn report(&self) -> i64 {
         -self.q
+    }
+
+    /// Three numbers for each figure, in the paper's order: 1 below zero and
+    /// else 0, then the upper and the lower 64 bits of its size.
+    pub fn numbers(&self) -> [[u64; 3]; NUMBERS / 3] {
+        let above = |value: u64| [0, 0, value];
+        let signed = |value: i64| [u64::from(value < 0), 0, value.unsigned_abs()];
+        let wide = |value: u128| [0, (value >> 64) as u64, value as u64];
+        [
+            above(self.e),
+            above(self.k),
+            above(self.l),
+            signed(self.m),
+            signed(self.o),
+            signed(self.p),
+            signed(self.q),
+            signed(self.report()),
+            wide(self.onsite),
+            wide(self.offsite),
+            wide(self.r()),
+            wide(self.decay),
+            above(self.co2),
+            above(self.ch4),
+            above(self.co),
+            above(self.n2o),
+            above(self.nox),
+        ]
     }
 
     /// One line for each figure, in the paper's order.

@@ -2,7 +2,6 @@
 
 use std::time::Instant;
 
-pub const ROUNDS: usize = 301;
 const WARM_UP: usize = 20;
 
 /// Median times in nanoseconds per call, and the median of the rounds' own
@@ -16,13 +15,14 @@ pub struct Times {
 /// Goes over all inputs in both ways, in turn within every round.
 pub fn measure<I>(
     inputs: &[I],
+    rounds: usize,
     repeats: usize,
     mut first: impl FnMut(&I),
     mut second: impl FnMut(&I),
 ) -> Times {
-    let mut times = Vec::with_capacity(ROUNDS);
+    let mut times = Vec::with_capacity(rounds);
     // The first rounds warm up and are not kept.
-    for round in 0..ROUNDS + WARM_UP {
+    for round in 0..rounds + WARM_UP {
         let pair = if round.is_multiple_of(2) {
             let one = time_of(inputs, repeats, &mut first);
             (one, time_of(inputs, repeats, &mut second))

@@ -4,9 +4,11 @@ ghost use Prim.Native.Nat.{_+_, _*_, _≤_, _<_};
 ghost use lib.ListN.{length};
 ghost use Rattle.form.specs.First.{first, any};
 ghost use Rattle.form.specs.Layout.{layout, strayAt};
-ghost use Rattle.form.specs.Block.{blocks, badLength, checkDue, badCheck, badHeader, kindFalls, wrongEnd, blocksBelow, badCount, notFilled, strayRecord, stray, badBlock};
+ghost use Rattle.form.specs.Block.{blocks, badLength, badCheck, badHeader, kindFalls, wrongEnd, blocksBelow, badCount, notFilled, strayRecord, stray, badBlock};
+ghost use Rattle.blocks.specs.Steps.{blockTest};
 use form::Spot;
 use form::byte_at;
+use form::check_due;
 use form::four_at;
 use form::stray_in;
 use form::two_at;
@@ -19,55 +21,11 @@ pub fn bad_length(bytes: &[u8]) -> bool
     (n == 0) | (5120 < n) | (n % 512 != 0)
 }
 
-// Four columns, each with a running sum from the last row of four bytes to the first: no product, and four sums side by side.
-fn check_due(bytes: &[u8], b: usize) -> u32
-    requires { ⌜ 512 * b + 512 ≤ length (now bytes) ⌝ }
-    ensures { λ r. ⌜ r ≡ checkDue (now (bytes .entry)) b ⌝ }
-{
-    let mut w: u32 = 0;
-    let mut x: u32 = 0;
-    let mut y: u32 = 0;
-    let mut z: u32 = 0;
-    let mut ws: u32 = 0;
-    let mut xs: u32 = 0;
-    let mut ys: u32 = 0;
-    let mut zs: u32 = 0;
-    let mut rows: usize = 127;
-    while 0 < rows {
-        rows -= 1;
-        let at = 512 * b + 4 * rows;
-        w += byte_at(bytes, at);
-        x += byte_at(bytes, at + 1);
-        y += byte_at(bytes, at + 2);
-        z += byte_at(bytes, at + 3);
-        ws += w;
-        xs += x;
-        ys += y;
-        zs += z;
-    }
-    4 * (ws + xs + ys + zs) - (3 * w + 2 * x + y)
-}
-
 fn bad_check(bytes: &[u8], b: usize) -> bool
     requires { ⌜ b < blocks (now bytes) ⌝ }
     ensures { λ r. ⌜ r ≡ badCheck (now (bytes .entry)) b ⌝ }
 {
     four_at(bytes, 512 * b + 508) != check_due(bytes, b)
-}
-
-pub fn first_bad_check(bytes: &[u8]) -> Spot
-    requires { ⌜ length (now bytes) ≤ 5120 ⌝ }
-    ensures { λ r. ⌜ r ≡ first (badCheck (now (bytes .entry))) (blocks (now (bytes .entry))) ⌝ }
-{
-    let n = bytes.len() / 512;
-    let mut b: usize = 0;
-    while b < n {
-        if bad_check(bytes, b) {
-            return Spot::At(b as u32);
-        }
-        b += 1;
-    }
-    Spot::Nowhere
 }
 
 fn bad_header(bytes: &[u8], b: usize) -> bool
@@ -80,21 +38,6 @@ fn bad_header(bytes: &[u8], b: usize) -> bool
         | (two_at(bytes, 512 * b + 2) as usize != b)
         | (two_at(bytes, 512 * b + 4) as usize != bytes.len() / 512)
         | (two_at(bytes, 512 * b + 6) != 1)
-}
-
-pub fn first_bad_header(bytes: &[u8]) -> Spot
-    requires { ⌜ length (now bytes) ≤ 5120 ⌝ }
-    ensures { λ r. ⌜ r ≡ first (badHeader (now (bytes .entry))) (blocks (now (bytes .entry))) ⌝ }
-{
-    let n = bytes.len() / 512;
-    let mut b: usize = 0;
-    while b < n {
-        if bad_header(bytes, b) {
-            return Spot::At(b as u32);
-        }
-        b += 1;
-    }
-    Spot::Nowhere
 }
 
 fn kind_falls(bytes: &[u8], b: usize) -> bool
@@ -203,14 +146,29 @@ fn bad_block(bytes: &[u8], b: usize) -> bool
         | (stray_records(bytes, b) | stray_in(bytes, 512 * b + 488, 20))
 }
 
-pub fn first_bad_block(bytes: &[u8]) -> Spot
+// Rule 2, 3 or 4 of a block.
+fn breaks(bytes: &[u8], number: u32, b: usize) -> bool
+    requires { ⌜ (b < blocks (now bytes)) × (length (now bytes) ≤ 5120) ⌝ }
+    ensures { λ r. ⌜ r ≡ blockTest number (now (bytes .entry)) b ⌝ }
+{
+    if number == 2 {
+        return bad_check(bytes, b);
+    }
+    if number == 3 {
+        return bad_header(bytes, b);
+    }
+    bad_block(bytes, b)
+}
+
+// Rule 2, 3 or 4 over all blocks.
+pub fn first_broken(bytes: &[u8], number: u32) -> Spot
     requires { ⌜ length (now bytes) ≤ 5120 ⌝ }
-    ensures { λ r. ⌜ r ≡ first (badBlock (now (bytes .entry))) (blocks (now (bytes .entry))) ⌝ }
+    ensures { λ r. ⌜ r ≡ first (blockTest number (now (bytes .entry))) (blocks (now (bytes .entry))) ⌝ }
 {
     let n = bytes.len() / 512;
     let mut b: usize = 0;
     while b < n {
-        if bad_block(bytes, b) {
+        if breaks(bytes, number, b) {
             return Spot::At(b as u32);
         }
         b += 1;

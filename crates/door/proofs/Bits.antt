@@ -2,12 +2,12 @@
 use Prim.Native.Nat.{ℕ, _+_, _*_, _≤_, _<_}
 use mathlib.Core.Path.{_≡_, refl, sym, ap, subst, _∙_}
 use mathlib.Core.Bool.{Bool, true, false, not, cond}
-use mathlib.Core.List.{List, [], _∷_, _++_}
+use mathlib.Core.List.{List, [], _∷_}
 use native.Mathlib.Omega.{arith}
 use borrow.Author.Tests.{lt-ltb, le-ltb}
 use lib.Dec.{T, eqb}
 use lib.Ieee.{Float, binary64, isNan, toBits}
-use lib.ListN.{length, drop}
+use lib.ListN.{length}
 use Rattle.form.specs.Ruling.{ruling}
 use Rattle.form.specs.Bytes.{littleEndian}
 use Rattle.form.specs.Verdict.{rules, rows, verdictOf}
@@ -24,6 +24,7 @@ use Rattle.doubles.specs.declared.Answer.the-variants.{Figures, Refused}
 use Rattle.doubles.specs.Subtotals.{subtotalsOf, answerBy, answerOf}
 use Rattle.doubles.proofs.Wholes.{no-nan}
 use Rattle.doubles.proofs.Demand.{onsite-demand, offsite-demand, decay-demand}
+use Rattle.rows.specs.Reading.{onFront}
 use Rattle.door.specs.Door.{codeOf, wrongCode, tooShort, subtotalRules, byCode, bitsAfter}
 
 -- what the answer says of the verdict
@@ -91,7 +92,7 @@ module _ (s : List ℕ) (code : ℕ) where
         ) (q, refl)
 
     pub done-out : (d : Doubles) (x : Float) (l : List ℕ) → Figured s d → code ≤ 2 → 8 ≤ length room → x ≡ byCode code d
-        → l ≡ littleEndian 8 (toBits binary64 x) ++ drop 8 room → Out 0 l (ruling (subtotalRules s code room))
+        → l ≡ onFront (littleEndian 8 (toBits binary64 x)) room → Out 0 l (ruling (subtotalRules s code room))
     unfolding ruling
     done-out d x l f h m e q =
         rw (
@@ -99,4 +100,4 @@ module _ (s : List ℕ) (code : ℕ) where
           one-kept 11 _ (tooShort 8 room ∷ []) (le-ltb 2 code h),
           one-kept 9 _ [] (le-ltb (length room) 8 m),
         )
-        (refl, q ∙ ap (λ (y : Float). littleEndian 8 (toBits binary64 y) ++ drop 8 room) (e ∙ ap (byCode code) (f .doubles)))
+        (refl, q ∙ ap (λ (y : Float). onFront (littleEndian 8 (toBits binary64 y)) room) (e ∙ ap (byCode code) (f .doubles)))

@@ -1,2 +1,5 @@
 mod Rooms
 mod Bits
+mod Reading
+mod Writing
+mod Numbers

@@ -1,10 +1,10 @@
 -- Stores at the front of a room, and the last rule, the room itself. Assumes nothing.
 use Prim.Native.Nat.{ℕ, _+_, _*_, _≤_, _<_}
 use mathlib.Core.Path.{_≡_, refl, sym, ap, _∙_}
-use mathlib.Core.List.{List, [], _∷_, _++_}
+use mathlib.Core.List.{List, [], _∷_}
 use native.Mathlib.Omega.{arith}
 use borrow.Author.Tests.{lt-ltb, le-ltb}
-use lib.ListN.{length, set, drop}
+use lib.ListN.{length, set}
 use Rattle.form.specs.Ruling.{ruling}
 use Rattle.form.specs.Verdict.{rules, countsOf, verdictOf}
 use Rattle.form.specs.declared.Counts.{Counts}
@@ -14,9 +14,14 @@ use Rattle.form.specs.declared.Verdict.the-variants.{Accepted, Refused}
 use Rattle.form.proofs.Order.{ruled-before, kept-before, one-broken, one-kept}
 use Rattle.form.proofs.Meaning.{refused-ruling}
 use Rattle.form.proofs.Accepted.{accepted-ruling, accepted-counts}
+use Rattle.rows.specs.Reading.{onFront}
 use Rattle.door.specs.Door.{codeOf, tooShort, judgeRules, four, countsAfter}
 
-pub four-stores : (l : List ℕ) (a b c d : ℕ) → 4 ≤ length l → set (set (set (set l 0 a) 1 b) 2 c) 3 d ≡ (a ∷ b ∷ c ∷ d ∷ []) ++ drop 4 l
+pub one-store : (l : List ℕ) (a : ℕ) → 1 ≤ length l → set l 0 a ≡ onFront (a ∷ []) l
+one-store (_ ∷ l) a h = refl
+one-store [] a h = absurd (omega arith)
+
+pub four-stores : (l : List ℕ) (a b c d : ℕ) → 4 ≤ length l → set (set (set (set l 0 a) 1 b) 2 c) 3 d ≡ onFront (a ∷ b ∷ c ∷ d ∷ []) l
 four-stores (_ ∷ _ ∷ _ ∷ _ ∷ l) a b c d h = refl
 four-stores [] a b c d h = absurd (omega arith)
 four-stores (_ ∷ []) a b c d h = absurd (omega arith)
@@ -24,7 +29,7 @@ four-stores (_ ∷ _ ∷ []) a b c d h = absurd (omega arith)
 four-stores (_ ∷ _ ∷ _ ∷ []) a b c d h = absurd (omega arith)
 
 pub eight-stores : (l : List ℕ) (a b c d e f g h : ℕ) → 8 ≤ length l
-    → set (set (set (set (set (set (set (set l 0 a) 1 b) 2 c) 3 d) 4 e) 5 f) 6 g) 7 h ≡ (a ∷ b ∷ c ∷ d ∷ e ∷ f ∷ g ∷ h ∷ []) ++ drop 8 l
+    → set (set (set (set (set (set (set (set l 0 a) 1 b) 2 c) 3 d) 4 e) 5 f) 6 g) 7 h ≡ onFront (a ∷ b ∷ c ∷ d ∷ e ∷ f ∷ g ∷ h ∷ []) l
 eight-stores (_ ∷ _ ∷ _ ∷ _ ∷ l) a b c d e f g h le =
     ap (λ (x : List ℕ). a ∷ b ∷ c ∷ d ∷ x) (four-stores l e f g h (omega arith))
 eight-stores [] a b c d e f g h le = absurd (omega arith)
@@ -45,8 +50,8 @@ module _ (s room : List ℕ) where
   short-out c r e l q =
       rw (kept-before (rules s) (tooShort 4 room ∷ []) (accepted-ruling s c e), one-broken 9 _ [] (lt-ltb (length room) 4 l)) (q, refl)
 
-  pub done-out : (c : Counts) (l : List ℕ) → verdictOf s ≡ Accepted c → 4 ≤ length room → l ≡ four c ++ drop 4 room → Out 0 l (ruling (judgeRules s room))
+  pub done-out : (c : Counts) (l : List ℕ) → verdictOf s ≡ Accepted c → 4 ≤ length room → l ≡ onFront (four c) room → Out 0 l (ruling (judgeRules s room))
   unfolding ruling
   done-out c l e h q =
       rw (kept-before (rules s) (tooShort 4 room ∷ []) (accepted-ruling s c e), one-kept 9 _ [] (le-ltb (length room) 4 h))
-      (refl, q ∙ ap (λ (x : Counts). four x ++ drop 4 room) (accepted-counts s c e))
+      (refl, q ∙ ap (λ (x : Counts). onFront (four x) room) (accepted-counts s c e))

@@ -2,12 +2,13 @@
 use Prim.Native.Nat.{ℕ, _+_, _*_}
 use mathlib.Core.Bool.{cond}
 use mathlib.Core.List.{List, [], _∷_, _++_}
-use lib.ListN.{length, drop}
+use lib.ListN.{length}
 use lib.Dec.{ltb, eqb}
 use lib.Ieee.{Float, binary64, toBits}
 use Rattle.form.specs.Ruling.{Rule, rule, ruling}
 use Rattle.form.specs.Bytes.{littleEndian}
 use Rattle.form.specs.Verdict.{rules, rows, countsOf}
+use Rattle.rows.specs.Reading.{onFront}
 use Rattle.report.specs.declared.Put.{Put}
 use Rattle.report.specs.declared.Put.the-variants.{Done, Short}
 use Rattle.doubles.specs.Subtotals.{subtotalsOf}
@@ -34,7 +35,7 @@ four c = c .conversion ∷ c .stock ∷ c .harvest ∷ c .parameters ∷ []
 
 -- the room afterwards: the four counts at the front and "later elements keep their values"; on a refusal "lent memory is unchanged"
 abbrev pub countsAfter : List ℕ → List ℕ → Ruling → List ℕ
-countsAfter s room Clean = four (countsOf s) ++ drop 4 room
+countsAfter s room Clean = onFront (four (countsOf s)) room
 countsAfter s room (Broken n p) = room
 
 -- the charting program's subtotal: 11 for "a subtotal's code above 2", after the return's rules and before the room for eight bytes
@@ -50,7 +51,7 @@ byCode code d = cond (eqb code 0) (d .onsite) (cond (eqb code 1) (d .offsite) (d
 
 -- "the first eight bytes of that room then hold the double's bits, little-endian"
 abbrev pub bitsAfter : List ℕ → ℕ → List ℕ → Ruling → List ℕ
-bitsAfter s code room Clean = littleEndian 8 (toBits binary64 (byCode code (subtotalsOf (rows 1 s)))) ++ drop 8 room
+bitsAfter s code room Clean = onFront (littleEndian 8 (toBits binary64 (byCode code (subtotalsOf (rows 1 s))))) room
 bitsAfter s code room (Broken n p) = room
 
 -- the lines from C: the text's length, which is never 0, or 0 for a room too short

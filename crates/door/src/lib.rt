@@ -1,18 +1,24 @@
 // The door for programs in C. A slice is a pointer and then a length.
+pub mod figures;
+
 ghost use mathlib.Core.Path.{_≡_};
 ghost use Prim.Native.Nat.{_+_, _*_, _≤_, _<_};
-ghost use mathlib.Core.List.{_++_};
-ghost use lib.ListN.{length, drop};
+ghost use mathlib.Core.List.{[]};
+ghost use lib.ListN.{length};
 ghost use Rattle.form.specs.Ruling.{ruling};
 ghost use lib.Ieee.{binary64, toBits};
 ghost use Rattle.form.specs.Bytes.{littleEndian};
 ghost use Rattle.door.specs.Door.{codeOf, judgeRules, four, countsAfter, subtotalRules, byCode, bitsAfter, sizeOf};
+ghost use Rattle.door.specs.Rows.{readRules, rowsAfter, writeRules, blocksAfter, sizeAfter};
+ghost use Rattle.filing.specs.Lists.{lists};
+ghost use Rattle.rows.specs.Reading.{onFront};
 ghost use Rattle.report.specs.Lines.{printed, putOf, roomAfter};
 use doubles::Answer;
 use doubles::Doubles;
 use form::Counts;
 use form::Verdict;
 use report::Put;
+use rows::Written;
 
 fn refusal(number: u8, place: u32) -> u32
     requires { ⌜ place < 1000 ⌝ }
@@ -23,7 +29,7 @@ fn refusal(number: u8, place: u32) -> u32
 
 fn put_counts(c: Counts, room: &mut [u32])
     requires { ⌜ 4 ≤ length (now room) ⌝ }
-    ensures { λ _. ⌜ now (room .exit) ≡ four c ++ drop 4 (now (room .entry)) ⌝ }
+    ensures { λ _. ⌜ now (room .exit) ≡ onFront (four c) (now (room .entry)) ⌝ }
 {
     room[0] = c.conversion;
     room[1] = c.stock;
@@ -61,7 +67,7 @@ fn by_code(d: Doubles, code: u32) -> f64
 // The lowest byte first.
 fn put_bits(bits: u64, room: &mut [u8])
     requires { ⌜ 8 ≤ length (now room) ⌝ }
-    ensures { λ _. ⌜ now (room .exit) ≡ littleEndian 8 bits ++ drop 8 (now (room .entry)) ⌝ }
+    ensures { λ _. ⌜ now (room .exit) ≡ onFront (littleEndian 8 bits) (now (room .entry)) ⌝ }
 {
     let b = bits / 256;
     let c = b / 256;
@@ -110,5 +116,73 @@ pub extern "C" fn niloferq_lines(bytes: &[u8], room: &mut [u8]) -> usize
     match report::lines(bytes, room) {
         Put::Done(n) => n,
         Put::Short => 0,
+    }
+}
+
+// 0, the rows at the front of the four rooms and the four counts at the front of theirs; or the refusal, and all rooms as they were.
+#[no_mangle]
+pub extern "C" fn niloferq_read(
+    bytes: &[u8],
+    conversion: &mut [u32],
+    stock: &mut [u32],
+    harvest: &mut [u32],
+    parameters: &mut [u32],
+    counts: &mut [u32],
+) -> u32
+    ensures { λ r. ⌜ r ≡ codeOf (ruling (readRules (now (bytes .entry)) (lists (now (conversion .entry)) (now (stock .entry)) (now (harvest .entry)) (now (parameters .entry))) (now (counts .entry)))) ⌝ }
+    ensures { λ _. ⌜ now (conversion .exit) ≡ rowsAfter 1 (now (bytes .entry)) (now (conversion .entry)) (ruling (readRules (now (bytes .entry)) (lists (now (conversion .entry)) (now (stock .entry)) (now (harvest .entry)) (now (parameters .entry))) (now (counts .entry)))) ⌝ }
+    ensures { λ _. ⌜ now (stock .exit) ≡ rowsAfter 2 (now (bytes .entry)) (now (stock .entry)) (ruling (readRules (now (bytes .entry)) (lists (now (conversion .entry)) (now (stock .entry)) (now (harvest .entry)) (now (parameters .entry))) (now (counts .entry)))) ⌝ }
+    ensures { λ _. ⌜ now (harvest .exit) ≡ rowsAfter 3 (now (bytes .entry)) (now (harvest .entry)) (ruling (readRules (now (bytes .entry)) (lists (now (conversion .entry)) (now (stock .entry)) (now (harvest .entry)) (now (parameters .entry))) (now (counts .entry)))) ⌝ }
+    ensures { λ _. ⌜ now (parameters .exit) ≡ rowsAfter 4 (now (bytes .entry)) (now (parameters .entry)) (ruling (readRules (now (bytes .entry)) (lists (now (conversion .entry)) (now (stock .entry)) (now (harvest .entry)) (now (parameters .entry))) (now (counts .entry)))) ⌝ }
+    ensures { λ _. ⌜ now (counts .exit) ≡ countsAfter (now (bytes .entry)) (now (counts .entry)) (ruling (readRules (now (bytes .entry)) (lists (now (conversion .entry)) (now (stock .entry)) (now (harvest .entry)) (now (parameters .entry))) (now (counts .entry)))) ⌝ }
+{
+    // too little room for the counts is the lowest place of 9: the judge's answer is the whole answer
+    if counts.len() < 4 {
+        return niloferq_judge(bytes, counts);
+    }
+    match rows::read(bytes, conversion, stock, harvest, parameters) {
+        Verdict::Refused { number, place } => refusal(number, place),
+        Verdict::Accepted(c) => {
+            put_counts(c, counts);
+            0
+        }
+    }
+}
+
+// Rows that can't be written, as there is no room for the size: the first rule that they break, or else 9.
+fn without_size(conversion: &[u32], stock: &[u32], harvest: &[u32], parameters: &[u32]) -> u32
+    ensures { λ r. ⌜ r ≡ codeOf (ruling (writeRules (lists (now (conversion .entry)) (now (stock .entry)) (now (harvest .entry)) (now (parameters .entry))) [] [])) ⌝ }
+{
+    // no return fits room for no byte, so this only refuses
+    let mut none: [u8; 0] = [0; 0];
+    match rows::write(conversion, stock, harvest, parameters, &mut none) {
+        Written::Refused { number, place } => refusal(number, place),
+        Written::Done(_) => refusal(9, 0),
+    }
+}
+
+// 0, the blocks at the front of the room and their number of bytes as the first size; or the refusal, and both rooms as they were.
+#[no_mangle]
+pub extern "C" fn niloferq_write(
+    conversion: &[u32],
+    stock: &[u32],
+    harvest: &[u32],
+    parameters: &[u32],
+    room: &mut [u8],
+    size: &mut [u32],
+) -> u32
+    ensures { λ r. ⌜ r ≡ codeOf (ruling (writeRules (lists (now (conversion .entry)) (now (stock .entry)) (now (harvest .entry)) (now (parameters .entry))) (now (room .entry)) (now (size .entry)))) ⌝ }
+    ensures { λ _. ⌜ now (room .exit) ≡ blocksAfter (lists (now (conversion .entry)) (now (stock .entry)) (now (harvest .entry)) (now (parameters .entry))) (now (room .entry)) (ruling (writeRules (lists (now (conversion .entry)) (now (stock .entry)) (now (harvest .entry)) (now (parameters .entry))) (now (room .entry)) (now (size .entry)))) ⌝ }
+    ensures { λ _. ⌜ now (size .exit) ≡ sizeAfter (lists (now (conversion .entry)) (now (stock .entry)) (now (harvest .entry)) (now (parameters .entry))) (now (size .entry)) (ruling (writeRules (lists (now (conversion .entry)) (now (stock .entry)) (now (harvest .entry)) (now (parameters .entry))) (now (room .entry)) (now (size .entry)))) ⌝ }
+{
+    if size.len() < 1 {
+        return without_size(conversion, stock, harvest, parameters);
+    }
+    match rows::write(conversion, stock, harvest, parameters, room) {
+        Written::Refused { number, place } => refusal(number, place),
+        Written::Done(n) => {
+            size[0] = n as u32;
+            0
+        }
     }
 }

@@ -1,4 +1,5 @@
 -- The conversion rows of an accepted return, one after the other from the first record on. Assumes nothing.
+--     counted                      there are as many as the counts say
 --     standing                     row i: where it stands, that its bytes are there, and that its densities do not grow
 --     onward-start, -next, -end    the loop that adds the rows up: where it begins, one row more, where it ends
 use mathlib.Core.Path.{_≡_, refl, sym, ap, _∙_}
@@ -13,8 +14,9 @@ use lib.Seq.{drop-cons}
 use Rattle.form.specs.Layout.{conversion, rowAt}
 use Rattle.form.specs.Block.{recordAt}
 use Rattle.form.specs.Records.{grown}
-use Rattle.form.specs.Verdict.{rows, rowCount, countsOf, verdictOf}
+use Rattle.form.specs.Verdict.{rows, rowCount, verdictOf}
 use Rattle.form.specs.Standing.{startBlock}
+use Rattle.form.specs.declared.Counts.{Counts}
 use Rattle.form.specs.declared.Verdict.the-variants.{Accepted}
 use Rattle.form.proofs.Accepted as form
 use Rattle.doubles.specs.Subtotals.{addRows, addAll}
@@ -35,14 +37,18 @@ place : (s : List ℕ) (i : ℕ) → recordAt (startBlock 1 s + i / 12) (i % 12)
 unfolding startBlock
 place s i = rw (zero-add (i / 12))
 
-module _ (s : List ℕ) (accepted : verdictOf s ≡ Accepted (countsOf s)) where
-  pub standing : (i : ℕ) → i < rowCount 1 s → Stands s i
+module _ (s : List ℕ) (c : Counts) (accepted : verdictOf s ≡ Accepted c) where
+  pub counted : length (rows 1 s) ≡ c .conversion
+  counted = form.rows-length s c accepted 1 ∙ sym (ap (λ (k : Counts). k .conversion) (form.accepted-counts s c accepted))
+
+  pub standing : (i : ℕ) → i < c .conversion → Stands s i
   standing i h =
-      let row : getD (rows 1 s) i [] ≡ rowAt conversion s (placeOf i) = form.row-is s (countsOf s) accepted 1 i (omega arith) (omega arith) h ∙ ap (rowAt conversion s) (place s i) in
+      let l : i < rowCount 1 s = rw (← form.rows-length s c accepted 1, counted) h in
+      let row : getD (rows 1 s) i [] ≡ rowAt conversion s (placeOf i) = form.row-is s c accepted 1 i (omega arith) (omega arith) l ∙ ap (rowAt conversion s) (place s i) in
       record {
         row = row;
-        inside = rw (← place s i) (form.inside s (countsOf s) accepted 1 i (omega arith) (omega arith) h);
-        falls = rw (← row) (form.shrunk s (countsOf s) accepted i h);
+        inside = rw (← place s i) (form.inside s c accepted 1 i (omega arith) (omega arith) l);
+        falls = rw (← row) (form.shrunk s c accepted i l);
       }
 
 -- subtotals of the first i rows, with the rows from i on added

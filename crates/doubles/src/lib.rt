@@ -6,13 +6,16 @@ ghost use lib.ListN.{length};
 ghost use Rattle.form.specs.Bytes.{number};
 ghost use Rattle.form.specs.Layout.{conversion, rowAt};
 ghost use Rattle.form.specs.Records.{grown};
-ghost use Rattle.form.specs.Verdict.{rows, rowCount, countsOf, verdictOf};
+ghost use Rattle.form.specs.Verdict.{rows, verdictOf};
 ghost use Rattle.form.specs.declared.Verdict.the-variants.{Accepted};
 ghost use Rattle.doubles.specs.Subtotals.{partOf, decayDouble, subtotalsOf, answerOf};
 ghost use Rattle.doubles.specs.Steps.{partsOf, plusOf};
+use form::Counts;
 use form::Verdict;
 use form::four_at;
+use form::row_start;
 use form::two_at;
+use held::Checked;
 
 pub struct Doubles {
     pub onsite: f64,
@@ -85,9 +88,9 @@ fn plus(t: Doubles, p: Doubles) -> Doubles
     }
 }
 
-// The subtotals of an accepted return with n conversion rows, which stand one after the other from the first record on.
-pub fn add_up(bytes: &[u8], n: u32) -> Doubles
-    requires { ⌜ (verdictOf (now bytes) ≡ Accepted (countsOf (now bytes))) × (n ≡ rowCount 1 (now bytes)) ⌝ }
+// The subtotals of judged bytes: the conversion rows stand one after the other from the first record on.
+pub fn add_up(bytes: &[u8], c: Counts) -> Doubles
+    requires { ⌜ verdictOf (now bytes) ≡ Accepted c ⌝ }
     ensures { λ r. ⌜ r ≡ subtotalsOf (rows 1 (now (bytes .entry))) ⌝ }
 {
     let mut t = Doubles {
@@ -96,11 +99,27 @@ pub fn add_up(bytes: &[u8], n: u32) -> Doubles
         decay: 0.0,
     };
     let mut i: usize = 0;
-    while i < n as usize {
-        t = plus(t, parts_at(bytes, 512 * (i / 12) + 8 + 40 * (i % 12)));
+    while i < c.conversion as usize {
+        t = plus(t, parts_at(bytes, row_start(0, i)));
         i += 1;
     }
     t
+}
+
+// The subtotals of a checked return.
+fn subtotals_of<'a>(c: Checked<'a>) -> Doubles
+    requires { ⌜ verdictOf (now (c .bytes)) ≡ Accepted (c .counts) ⌝ }
+    ensures { λ r. ⌜ r ≡ subtotalsOf (rows 1 (now (c .entry .bytes))) ⌝ }
+{
+    add_up(c.bytes, c.counts)
+}
+
+// Bytes that were judged, held with their counts as a checked return.
+fn subtotals_judged(bytes: &[u8], counts: Counts) -> Doubles
+    requires { ⌜ verdictOf (now bytes) ≡ Accepted counts ⌝ }
+    ensures { λ r. ⌜ r ≡ subtotalsOf (rows 1 (now (bytes .entry))) ⌝ }
+{
+    subtotals_of(held::hold(bytes, counts))
 }
 
 // Any bytes of any length, judged once.
@@ -108,7 +127,7 @@ pub fn subtotals(bytes: &[u8]) -> Answer
     ensures { λ r. ⌜ r ≡ answerOf (now (bytes .entry)) ⌝ }
 {
     match judge::judge(bytes) {
-        Verdict::Accepted(counts) => Answer::Figures(add_up(bytes, counts.conversion)),
+        Verdict::Accepted(counts) => Answer::Figures(subtotals_judged(bytes, counts)),
         Verdict::Refused { number, place } => Answer::Refused { number, place },
     }
 }

@@ -3,5 +3,4 @@ pub mod Stands
 pub mod Stores
 pub mod Fields
 pub mod Parts
-pub mod Check
 pub mod Alike

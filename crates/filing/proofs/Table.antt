@@ -1,4 +1,4 @@
--- A table of sixteen places for each kind, and its rule at each place, from one test that antt computes. Assumes nothing.
+-- Sixteen places for each kind, and a rule at each place, from one test that antt computes. Assumes nothing.
 use Prim.Native.Nat.{ℕ, zero, suc, _+_, _*_, _/_, _%_, _<_}
 use mathlib.Core.Path.{_≡_, sym, subst, _∙_}
 use mathlib.Core.Bool.{Bool, true, false, _&&_, _||_}

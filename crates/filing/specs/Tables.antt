@@ -1,4 +1,4 @@
--- The layouts by number, as the code's tables have them.
+-- The layouts by number, as the code asks for them.
 use Prim.Native.Nat.{ℕ, _/_, _%_}
 use mathlib.Core.List.{List}
 use lib.ListN.{getD}

@@ -1,6 +1,8 @@
 pub mod Search
 pub mod Order
 pub mod Numbers
+pub mod Sums
+pub mod Check
 pub mod Tests
 pub mod Tables
 pub mod Counting

@@ -1,16 +1,17 @@
--- Laws of little-endian numbers and of sums of bytes. Assumes nothing.
+-- Laws of little-endian numbers and of bytes that are zero. Assumes nothing.
 --     number-1, -2, -4      a number in one, two or four bytes, as the code adds it up
 --     number-lt             it is below 256 to the power of its width
 --     stray-none            no byte, none that is not zero
---     stray-total           some byte is not zero just where the bytes do not add up to zero
+--     stray-bits            some byte is not zero just where the bytes, or-ed together, are not zero
 use Prim.Native.Nat.{ℕ, zero, suc, _+_, _*_, _^_, _<_, _≤_}
 use mathlib.Core.Path.{_≡_, refl, sym, ap, _∙_}
 use mathlib.Core.Bool.{Bool, true, false, not, _||_, or-true, or-false}
 use mathlib.Core.List.{List}
-use native.Mathlib.Nat.{add-assoc, zero-add, suc-add, pow-suc}
+use native.Mathlib.Nat.{add-assoc, not-suc-le-zero, pow-suc}
 use native.Mathlib.Numerals.{add-one}
 use native.Mathlib.Omega.{arith}
 use borrow.Author.Tests.{eq-eqb, ne-eqb}
+use lib.Bits.{bitAnd, bitOr, or-add-and, and-le-l, and-le-r}
 use lib.Dec.{eqb, eqb·suc-zero}
 use mir.Val.{Fits}
 use mir.Syntax.{w8}
@@ -43,28 +44,35 @@ unfolding number Bytes
 number-lt zero s at h = omega arith
 number-lt (suc w) s at h = omega (arith, pow-suc 256 w, number-lt w s (at + 1) h, h at)
 
-unfoldable pub totalOf : List ℕ → ℕ → ℕ → ℕ
-totalOf s at zero = 0
-totalOf s at (suc n) = totalOf s at n + byteAt s (at + n)
+-- the bytes or-ed together
+unfoldable pub bitsOf : List ℕ → ℕ → ℕ → ℕ
+bitsOf s at zero = 0
+bitsOf s at (suc n) = bitOr (bitsOf s at n) (byteAt s (at + n))
 
-pub total-zero : (s : List ℕ) (at : ℕ) → totalOf s at 0 ≡ 0
-unfolding totalOf
-total-zero s at = refl
+pub bits-none : (s : List ℕ) (at : ℕ) → bitsOf s at 0 ≡ 0
+unfolding bitsOf
+bits-none s at = refl
 
-pub total-more : (s : List ℕ) (at n : ℕ) → totalOf s at (n + 1) ≡ totalOf s at n + byteAt s (at + n)
-unfolding totalOf
-total-more s at n = rw add-one
+pub bits-more : (s : List ℕ) (at n : ℕ) → bitsOf s at (n + 1) ≡ bitOr (bitsOf s at n) (byteAt s (at + n))
+unfolding bitsOf
+bits-more s at n = rw add-one
 
 pub stray-none : (s : List ℕ) (at : ℕ) → strayIn s at 0 ≡ false
 unfolding strayIn any
 stray-none s at = refl
 
-or-zero : (a b : ℕ) → (not (eqb a 0) || not (eqb b 0)) ≡ not (eqb (a + b) 0)
-or-zero zero zero = refl
-or-zero zero (suc b) = rw zero-add
-or-zero (suc a) b = simp (suc-add, eqb·suc-zero)
+-- a number not below either of two and not above their sum is zero just where both are
+both-zero : (a b n : ℕ) → a ≤ n → b ≤ n → n ≤ a + b → (not (eqb a 0) || not (eqb b 0)) ≡ not (eqb n 0)
+both-zero zero b n h k l = let e : n ≡ b = omega arith in rw e
+both-zero (suc a) b zero h k l = absurd (not-suc-le-zero h)
+both-zero (suc a) b (suc n) h k l = simp eqb·suc-zero
 
-pub stray-total : (s : List ℕ) (at n : ℕ) → strayIn s at n ≡ not (eqb (totalOf s at n) 0)
-unfolding strayIn any totalOf
-stray-total s at zero = refl
-stray-total s at (suc n) = ap (λ (b : Bool). b || not (eqb (byteAt s (at + n)) 0)) (stray-total s at n) ∙ or-zero (totalOf s at n) (byteAt s (at + n))
+or-zero : (a b : ℕ) → (not (eqb a 0) || not (eqb b 0)) ≡ not (eqb (bitOr a b) 0)
+or-zero a b =
+    let s : bitOr a b + bitAnd a b ≡ a + b = or-add-and a b in
+    both-zero a b (bitOr a b) (omega (arith, and-le-r a b)) (omega (arith, and-le-l a b)) (omega arith)
+
+pub stray-bits : (s : List ℕ) (at n : ℕ) → strayIn s at n ≡ not (eqb (bitsOf s at n) 0)
+unfolding strayIn any bitsOf
+stray-bits s at zero = refl
+stray-bits s at (suc n) = ap (λ (b : Bool). b || not (eqb (byteAt s (at + n)) 0)) (stray-bits s at n) ∙ or-zero (bitsOf s at n) (byteAt s (at + n))

@@ -7,4 +7,6 @@ pub mod Block
 pub mod Records
 pub mod Verdict
 pub mod Standing
-pub mod Examples
+pub mod Computed
+-- No part of what a return is: what steps of the code answer.
+pub mod Steps

@@ -1,10 +1,12 @@
 // What a return is: the types that the definitions speak of, and numbers in the caller's bytes, read in place.
 ghost use mathlib.Core.Path.{_≡_};
 ghost use mathlib.Core.Bool.{cond};
-ghost use Prim.Native.Nat.{_+_, _≤_, _<_};
+ghost use Prim.Native.Nat.{_+_, _*_, _/_, _%_, _^_, _≤_, _<_};
 ghost use lib.ListN.{length};
 ghost use lib.Dec.{eqb};
 ghost use Rattle.form.specs.Bytes.{byteAt, number, strayIn};
+ghost use Rattle.form.specs.Block.{recordAt, checkDue};
+ghost use Rattle.form.specs.Steps.{columnDue, checkWeighed};
 
 // The lowest place where a test holds.
 pub enum Spot {
@@ -52,18 +54,59 @@ pub fn four_at(bytes: &[u8], at: usize) -> u32
     two_at(bytes, at) + 65536 * two_at(bytes, at + 2)
 }
 
-// Bytes add up to zero just where each of them is zero. No early way out, so that many are added at once.
+// Bytes or-ed together are zero just where each of them is zero. No early way out, so that many are taken at once.
 pub fn stray_in(bytes: &[u8], at: usize, n: usize) -> bool
-    requires { ⌜ (n ≤ 512) × (at + n ≤ length (now bytes)) ⌝ }
+    requires { ⌜ at + n ≤ length (now bytes) ⌝ }
     ensures { λ r. ⌜ r ≡ strayIn (now (bytes .entry)) at n ⌝ }
 {
-    let mut sum: u32 = 0;
+    let mut bits: u32 = 0;
     let mut i: usize = 0;
     while i < n {
-        sum += byte_at(bytes, at + i);
+        bits |= byte_at(bytes, at + i);
         i += 1;
     }
-    sum != 0
+    bits != 0
+}
+
+// Column k of a block's sixteen rows of 32 bytes, by running sums: they stay within 16 bits, so that many columns are taken at once.
+fn column_due(bytes: &[u8], b: usize, k: usize) -> u32
+    requires { ⌜ (512 * b + 512 ≤ length (now bytes)) × (k < 32) ⌝ }
+    ensures { λ r. ⌜ (r ≡ columnDue (now (bytes .entry)) b k) × (r ≤ 2219520) ⌝ }
+{
+    let mut sum: u16 = 0;
+    let mut sums: u16 = 0;
+    let mut r: usize = 0;
+    while r < 16 {
+        sum += byte_at(bytes, 512 * b + (32 * r + k)) as u16;
+        sums += sum;
+        r += 1;
+    }
+    (513 + k as u32) * (sum as u32) - 32 * (sums as u32)
+}
+
+// The four bytes of the check itself, weighed as those before them.
+fn check_weighed(bytes: &[u8], b: usize) -> u32
+    requires { ⌜ 512 * b + 512 ≤ length (now bytes) ⌝ }
+    ensures { λ r. ⌜ r ≡ checkWeighed (now (bytes .entry)) b ⌝ }
+{
+    509 * byte_at(bytes, 512 * b + 508)
+        + 510 * byte_at(bytes, 512 * b + 509)
+        + 511 * byte_at(bytes, 512 * b + 510)
+        + 512 * byte_at(bytes, 512 * b + 511)
+}
+
+// All 32 columns of the block, less the check's own bytes.
+pub fn check_due(bytes: &[u8], b: usize) -> u32
+    requires { ⌜ 512 * b + 512 ≤ length (now bytes) ⌝ }
+    ensures { λ r. ⌜ r ≡ checkDue (now (bytes .entry)) b ⌝ }
+{
+    let mut due: u32 = 0;
+    let mut k: usize = 0;
+    while k < 32 {
+        due += column_due(bytes, b, k);
+        k += 1;
+    }
+    due - check_weighed(bytes, b)
 }
 
 // A number where two others agree, and zero elsewhere.
@@ -71,4 +114,12 @@ pub fn where_same(a: u32, b: u32, n: u32) -> u32
     ensures { λ r. ⌜ (r ≡ cond (eqb a b) n 0) × (r ≤ n) ⌝ }
 {
     if a == b { n } else { 0 }
+}
+
+// Where row i of a kind starts, from the kind's first block: a block of twelve rows has 32 bytes more than they take.
+pub fn row_start(first: usize, i: usize) -> usize
+    requires { ⌜ (first < 2 ^ 32) × (i < 2 ^ 32) ⌝ }
+    ensures { λ r. ⌜ r ≡ recordAt (first + i / 12) (i % 12) ⌝ }
+{
+    512 * first + 8 + 40 * i + 32 * (i / 12)
 }

@@ -25,15 +25,15 @@ fn rule_blocks(bytes: &[u8]) -> Ruling
             place: 0,
         };
     }
-    let check = blocks::first_bad_check(bytes);
+    let check = blocks::first_broken(bytes, 2);
     if let Spot::At(place) = check {
         return Ruling::Broken { number: 2, place };
     }
-    let header = blocks::first_bad_header(bytes);
+    let header = blocks::first_broken(bytes, 3);
     if let Spot::At(place) = header {
         return Ruling::Broken { number: 3, place };
     }
-    let block = blocks::first_bad_block(bytes);
+    let block = blocks::first_broken(bytes, 4);
     if let Spot::At(place) = block {
         return Ruling::Broken { number: 4, place };
     }

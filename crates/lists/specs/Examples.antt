@@ -9,8 +9,16 @@ use Rattle.form.specs.Records.{badId, badField, badFractions, badDensities}
 use Rattle.form.specs.declared.Ruling.{Ruling}
 use Rattle.form.specs.declared.Ruling.the-variants.{Clean, Broken}
 use Rattle.filing.specs.Lists.{Lists, filedList, behind, filedLists}
-use Rattle.filing.specs.Examples.{dayRows}
 use Rattle.lists.specs.Rules.{badList, listRules}
+
+-- the rows of 01's worked day
+abbrev pub dayRows : Lists
+dayRows = record {
+  conversion = 7 ∷ 200 ∷ 1000 ∷ 100 ∷ 400 ∷ 900 ∷ 500 ∷ 200 ∷ 900 ∷ 500 ∷ 300 ∷ 1000 ∷ 100 ∷ 300 ∷ 500 ∷ [];
+  stock = 1 ∷ 0 ∷ 680 ∷ 1000 ∷ 500 ∷ [];
+  harvest = 1 ∷ 500 ∷ 950 ∷ 300 ∷ 0 ∷ [];
+  parameters = 500 ∷ 12 ∷ 60 ∷ 10 ∷ 7 ∷ 121 ∷ [];
+}
 
 -- the ruling, opened for computing
 unfoldable computed : Lists → Ruling

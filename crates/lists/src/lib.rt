@@ -4,7 +4,7 @@ ghost use Prim.Native.Nat.{_+_, _*_, _≤_, _<_};
 ghost use lib.ListN.{length, drop};
 ghost use Rattle.form.specs.First.{orElse, first};
 ghost use Rattle.form.specs.Ruling.{ruling};
-ghost use Rattle.form.specs.Layout.{layout};
+ghost use Rattle.form.specs.Layout.{layout, numbersOf};
 ghost use Rattle.form.specs.Records.{overspent, grown, badId, badField, badFractions, badDensities, recordRules};
 ghost use Rattle.filing.specs.Lists.{lists, ofKind, rowsIn, filedList, filedLists};
 ghost use Rattle.filing.specs.Tables.{fieldAt};
@@ -13,20 +13,30 @@ use filing::numbers;
 use form::Ruling;
 use form::Spot;
 
-// Sixteen places for each kind: the limit of each field.
-const LIMITS: [u32; 80] = [
-    0, 0, 0, 0, 0, 0, 0, 0, 0, 0, 0, 0, 0, 0, 0, 0, // no kind
-    4294967295, 1000000, 10000, 10000, 1000, 1000, 1000, 1000, 1000, 1000, 1000000, 10000, 10000, 1000, 1000, 0, // conversion
-    4294967295, 1, 10000, 10000000, 1000, 0, 0, 0, 0, 0, 0, 0, 0, 0, 0, 0, // stock
-    4294967295, 10000000, 10000, 10000000, 10000000, 0, 0, 0, 0, 0, 0, 0, 0, 0, 0, 0, // harvest
-    1000, 1000, 1000, 1000, 1000, 1000, 0, 0, 0, 0, 0, 0, 0, 0, 0, 0, // parameters
-];
-
+// The limit of number i of a row, told by tests and not by a table, as the layouts in `filing` are.
 fn limit(kind: usize, i: usize) -> u32
-    requires { ⌜ (kind < 5) × (i < 16) ⌝ }
+    requires { ⌜ (kind < 5) × (i < numbersOf kind) × (i < 16) ⌝ }
     ensures { λ r. ⌜ r ≡ fieldAt (layout kind) i .limit ⌝ }
 {
-    LIMITS[16 * kind + i]
+    if (kind != 4) & (i == 0) {
+        return 4294967295; // an id
+    }
+    if (kind == 2) & (i == 1) {
+        return 1; // a unit code
+    }
+    if (kind == 1) & ((i == 1) | (i == 10)) {
+        return 1000000; // an area
+    }
+    let density = (kind == 1) & ((i == 2) | (i == 3) | (i == 11) | (i == 12));
+    if density | ((kind == 2) & (i == 2)) | ((kind == 3) & (i == 2)) {
+        return 10000; // a density, a growth rate, tonnes per m3
+    }
+    // an amount, F, I or J; or a fraction
+    if ((kind == 2) & (i == 3)) | (kind == 3) {
+        10000000
+    } else {
+        1000
+    }
 }
 
 fn count(kind: usize, rows: &[u32]) -> usize

@@ -1,4 +1,3 @@
 -- What reading and writing answer, and what they leave in lent memory. Read in this order.
 pub mod Reading
 pub mod Writing
-pub mod Examples

@@ -3,7 +3,6 @@ ghost use mathlib.Core.Path.{_≡_};
 ghost use Prim.Native.Nat.{_+_, _-_, _*_, _/_, _%_, _^_, _≤_, _<_};
 ghost use lib.ListN.{length};
 ghost use Rattle.form.specs.Layout.{conversion, stock, harvest, rowAt};
-ghost use Rattle.form.specs.Block.{recordAt};
 ghost use Rattle.form.specs.Verdict.{rows, verdictOf};
 ghost use Rattle.form.specs.Standing.{blocksFor};
 ghost use Rattle.form.specs.declared.Verdict.the-variants.{Accepted};
@@ -12,6 +11,7 @@ ghost use Rattle.totals.specs.Columns.{uptakePart, harvestPart, decayPar
 ghost use Rattle.totals.specs.Sums.{Sound, partsOf, Added, Summed};
 use form::Counts;
 use form::four_at;
+use form::row_start;
 use form::two_at;
 use wide::Wide;
 use wide::add_word;
@@ -27,14 +27,6 @@ pub fn blocks_for(rows: u32) -> usize
     ensures { λ r. ⌜ r ≡ blocksFor rows ⌝ }
 {
     (rows as usize + 11) / 12
-}
-
-// Where row i of a kind starts, from the kind's first block.
-pub fn row_start(first: usize, i: usize) -> usize
-    requires { ⌜ (first < 2 ^ 32) × (i < 2 ^ 32) ⌝ }
-    ensures { λ r. ⌜ r ≡ recordAt (first + i / 12) (i % 12) ⌝ }
-{
-    512 * (first + i / 12) + 8 + 40 * (i % 12)
 }
 
 // The biomass that an area loses.

@@ -1,19 +1,19 @@
 -- Laws of decimal text and of text that is written to room. Assumes nothing.
-use mathlib.Core.Path.{_≡_, refl, sym, _∙_}
+use mathlib.Core.Path.{_≡_, refl, sym, ap, _∙_}
 use mathlib.Core.Bool.{Bool, true, false}
-use mathlib.Core.List.{List, [], _∷_, _++_}
-use Prim.Native.Nat.{ℕ, zero, suc, _+_, _/_, _^_, _<_, _≤_}
+use mathlib.Core.List.{List, [], _∷_, _++_, append-nil, append-assoc}
+use Prim.Native.Nat.{ℕ, zero, suc, _+_, _*_, _/_, _%_, _^_, _<_, _≤_}
 use native.Mathlib.Omega.{arith}
 use native.Mathlib.Decide.{ℕ-discrete}
-use native.Mathlib.Nat.{add-zero, add-suc, suc-add, le-pred-of-lt}
-use native.Mathlib.Numerals.{bound}
+use native.Mathlib.Nat.{add-zero, add-suc, suc-add, le-pred-of-lt, mul-pos}
+use native.Mathlib.Numerals.{bound, add-one}
 use lib.Dec.{lit<}
 use lib.ListN.{length, set, length-append}
 use lib.Seq.{sets}
 use borrow.Author.Tests.{eq-eqb, ne-eqb}
 use Rattle.wide.specs.Numbers.{value}
 use Rattle.wide.specs.Signs.{sized, amount, Canonical}
-use Rattle.wide.specs.Digits.{digitOf, digits, decimal, marked, Written}
+use Rattle.wide.specs.Digits.{digitOf, digits, decimal, padded, signText, marked, Written}
 use Rattle.wide.specs.declared.Wide.{Wide}
 use Rattle.wide.specs.declared.signed.Signed.{Signed}
 
@@ -55,6 +55,40 @@ pub decimal-more : (n q : ℕ) → q ≡ n / 10 → (q ≡ 0 → ⊥) → decima
 unfolding digits
 decimal-more n q e z = rw (e, ne-eqb (n / 10) 0 (omega (arith, z)), enough n (suc (n / 10)) false (n / 10) (omega (arith, z)) (omega arith))
 
+-- one digit off n, which is r after q
+record Shorter (k q r n : ℕ) : Type 0 where
+  rest : r / 10 < 10 ^ k
+  less : n / 10 ≡ q * 10 ^ k + r / 10
+  last : n % 10 ≡ r % 10
+
+shorter : (k q r n : ℕ) → r < 10 ^ suc k → n ≡ q * 10 ^ suc k + r → Shorter k q r n
+shorter k q r n f e =
+    let t : 10 ^ suc k ≡ 10 * 10 ^ k = omega arith in
+    let p = ap (λ (m : ℕ). q * m) t in
+    record { rest = omega arith; less = omega arith; last = omega arith }
+
+-- n's digits are those of q and then k digits of r, where n is r after q
+pub decimal-split : (k q r n : ℕ) → 0 < q → r < 10 ^ k → n ≡ q * 10 ^ k + r → decimal n ≡ decimal q ++ padded k r
+unfolding padded
+decimal-split zero q r n h f e = let z : n ≡ q = omega arith in rw (z, append-nil)
+decimal-split (suc k) q r n h f e =
+    let s = shorter k q r n f e in
+    let t : 0 < 10 ^ k = omega arith in
+    decimal-more n (n / 10) refl (λ z. omega (arith, mul-pos h t))
+    ∙ rw (decimal-split k q (r / 10) (n / 10) h (s .rest) (s .less), append-assoc, s .last)
+
+pub padded-split : (j k q r n : ℕ) → r < 10 ^ k → n ≡ q * 10 ^ k + r → padded (j + k) n ≡ padded j q ++ padded k r
+unfolding padded
+padded-split j zero q r n f e = let z : n ≡ q = omega arith in rw (z, add-zero, append-nil)
+padded-split j (suc k) q r n f e =
+    let s = shorter k q r n f e in
+    rw (add-suc j k, padded-split j k q (r / 10) (n / 10) (s .rest) (s .less), append-assoc, s .last)
+
+pub padded-length : (k n : ℕ) → length (padded k n) ≡ k
+unfolding padded
+padded-length zero n = refl
+padded-length (suc k) n = simp length-append (omega (arith, padded-length k (n / 10)))
+
 -- a number below 10 ^ suc k has at most suc k digits
 pub decimal-length : (k n : ℕ) → n < 10 ^ suc k → length (decimal n) ≤ suc k
 decimal-length zero n h = rw (decimal-last n _ refl (omega arith)) (omega arith)
@@ -69,19 +103,53 @@ sized-text : (n : ℕ) → 0 < n → marked (sized true n) ≡ 45 ∷ decimal n
 sized-text zero h = let z : ⊥ = omega arith in elim z [ ]
 sized-text (suc n) h = refl
 
-pub marked-below : (s : Signed) → Canonical s → s .below ≡ true → marked (amount s) ≡ 45 ∷ decimal (value (s .size))
-marked-below s f e = rw e (sized-text (value (s .size)) (f e))
+pub marked-sign : (s : Signed) → Canonical s → marked (amount s) ≡ signText (s .below) ++ decimal (value (s .size))
+marked-sign s f = by (s .below) refl
+  where
+    by : (t : Bool) → s .below ≡ t → marked (amount s) ≡ signText (s .below) ++ decimal (value (s .size))
+    by true e = rw e (sized-text (value (s .size)) (f e))
+    by false e = rw e
 
-pub marked-above : (s : Signed) → s .below ≡ false → marked (amount s) ≡ decimal (value (s .size))
-marked-above s e = rw e
+pub marked-length : (s : Signed) → Canonical s → length (marked (amount s)) ≡ length (signText (s .below)) + length (decimal (value (s .size)))
+marked-length s f = ap length (marked-sign s f) ∙ length-append (signText (s .below)) (decimal (value (s .size)))
 
--- the last digit d of n is put at the next place
-pub put-last : (n q d : ℕ) (room : List ℕ) (at : ℕ) → q ≡ n / 10 → q ≡ 0 → d ≡ digitOf n → Written (decimal n) room (set room at d) at (at + 1)
-put-last n q d room at e z f = rw (decimal-last n q e z, ← f) (written-one room at d)
+-- how many digits a small number has
+pub digit-length : (n : ℕ) → n < 10 → length (decimal n) ≡ 1
+digit-length n h = ap length (decimal-last n _ refl (omega arith))
 
-pub put-more : (n q d : ℕ) (before after : List ℕ) (at last : ℕ) → q ≡ n / 10 → (q ≡ 0 → ⊥) → d ≡ digitOf n
-    → Written (decimal q) before after at last → Written (decimal n) before (set after last d) at (last + 1)
-put-more n q d before after at last e z f w = rw (decimal-more n q e z, ← f) (written-more w (written-one after last d))
+-- a number of two digits has no zero in front
+pub decimal-pair : (n : ℕ) → 10 ≤ n → n < 100 → decimal n ≡ padded 2 n
+unfolding padded
+decimal-pair n h g = decimal-more n (n / 10) refl (λ z. omega arith) ∙ rw (decimal-last (n / 10) (n / 10 / 10) refl (omega arith))
+
+pub pair-length : (n : ℕ) → 10 ≤ n → n < 100 → length (decimal n) ≡ 2
+pair-length n h g = ap length (decimal-pair n h g) ∙ padded-length 2 n
+
+-- in the room: a digit, two digits, and a group after what stands above it
+pub put-digit : (n d : ℕ) (room : List ℕ) (at : ℕ) → n < 10 → d ≡ 48 + n → Written (decimal n) room (set room at d) at (at + 1)
+put-digit n d room at h e =
+    let f : 48 + n % 10 ≡ d = omega arith in
+    rw (decimal-last n _ refl (omega arith), f) (written-one room at d)
+
+pub put-pair : (n a b : ℕ) (room : List ℕ) (at : ℕ) → n < 100 → a ≡ 48 + n / 10 → b ≡ 48 + n % 10
+    → Written (padded 2 n) room (set (set room at a) (at + 1) b) at (at + 2)
+unfolding padded
+put-pair n a b room at h e f =
+    let g : 48 + n / 10 % 10 ≡ a = omega arith in
+    let i : 48 + n % 10 ≡ b = omega arith in
+    rw (g, i) (record { room = rw add-one; place = refl })
+
+module _ (k q r n : ℕ) (f : r < 10 ^ k) (e : n ≡ q * 10 ^ k + r) where
+  pub put-after : (j : ℕ) {before middle after : List ℕ} {at next last : ℕ}
+      → Written (padded j q) before middle at next → Written (padded k r) middle after next last → Written (padded (j + k) n) before after at last
+  put-after j v w = rw (padded-split j k q r n f e) (written-more v w)
+
+  pub write-after : {before middle after : List ℕ} {at next last : ℕ} → 0 < q
+      → Written (decimal q) before middle at next → Written (padded k r) middle after next last → Written (decimal n) before after at last
+  write-after h v w = rw (decimal-split k q r n h f e) (written-more v w)
+
+  pub length-after : 0 < q → length (decimal n) ≡ length (decimal q) + k
+  length-after h = omega (arith, ap length (decimal-split k q r n h f e), length-append (decimal q) (padded k r), padded-length k r)
 
 -- every number of two words has at most 39 digits
 pub value-length : (a : Wide) → a .lo < 2 ^ 64 → a .hi < 2 ^ 64 → length (decimal (value a)) ≤ 39

@@ -24,6 +24,15 @@ pub value-word : (a : Wide) → value a < 2 ^ 64 → a .lo ≡ value a
 unfolding value
 value-word a h = omega arith
 
+-- nothing in the upper word, or something
+pub value-low : (a : Wide) → a .hi ≡ 0 → value a ≡ a .lo
+unfolding value
+value-low a h = omega arith
+
+pub value-high : (a : Wide) → (a .hi ≡ 0 → ⊥) → 2 ^ 64 ≤ value a
+unfolding value
+value-high a h = omega arith
+
 -- the upper words of what has room
 pub high-sum : (a b : Wide) → value a + value b < 2 ^ 120 → a .hi + b .hi < 2 ^ 56
 unfolding value

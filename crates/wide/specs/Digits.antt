@@ -22,6 +22,16 @@ digits (suc k) false n = digits k (eqb (n / 10) 0) (n / 10) ++ digitOf n ∷ []
 abbrev pub decimal : ℕ → List ℕ
 decimal n = digits (suc n) false n
 
+-- the last k digits of n, zeros in front among them
+unfoldable pub padded : ℕ → ℕ → List ℕ
+padded zero n = []
+padded (suc k) n = padded k (n / 10) ++ digitOf n ∷ []
+
+-- a minus sign below zero, and else nothing
+abbrev pub signText : Bool → List ℕ
+signText true = 45 ∷ []
+signText false = []
+
 -- z, with a minus sign in front only below zero
 abbrev pub marked : ℤ → List ℕ
 marked (pos n) = decimal n

@@ -43,12 +43,31 @@ pub fn settle(q: Wide, r: Wide, d: Wide) -> Wide
     }
 }
 
+// One word over a divisor, by one division where that is one word too.
+fn divide_word(x: u64, d: Wide) -> Share
+    requires { ⌜ 0 < value d ⌝ }
+    ensures { λ r. ⌜ (value (r .quotient) ≡ x / value d) × (value (r .rest) ≡ x % value d) ⌝ }
+{
+    if d.hi == 0 {
+        let quotient = of(x / d.lo);
+        let rest = of(x % d.lo);
+        return Share { quotient, rest };
+    }
+    let quotient = of(0);
+    let rest = of(x);
+    Share { quotient, rest }
+}
+
 // x over a * b * c, rounded.
 pub fn rounded(x: Wide, a: u32, b: u32, c: u32) -> Wide
     requires { ⌜ (0 < a * b * c) × (value x + 1 < 2 ^ 120) ⌝ }
     ensures { λ r. ⌜ value r ≡ nearest (value x) (a * b * c) ⌝ }
 {
-    let s = divide_by(x, a, b, c);
     let d = times(of((a as u64) * (b as u64)), c);
+    if x.hi == 0 {
+        let w = divide_word(x.lo, d);
+        return settle(w.quotient, w.rest, d);
+    }
+    let s = divide_by(x, a, b, c);
     settle(s.quotient, s.rest, d)
 }

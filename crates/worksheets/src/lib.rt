@@ -15,6 +15,7 @@ use crate::sheets::work_gases;
 use crate::sheets::work_stocks;
 use form::Counts;
 use form::Verdict;
+use held::Checked;
 use totals::sum_conversion;
 use totals::sum_harvest;
 use totals::sum_uptake;
@@ -36,12 +37,28 @@ pub fn work_out(bytes: &[u8], c: Counts) -> Figures
     }
 }
 
+// The figures of a checked return.
+fn figures_of<'a>(c: Checked<'a>) -> Figures
+    requires { ⌜ verdictOf (now (c .bytes)) ≡ Accepted (c .counts) ⌝ }
+    ensures { λ r. ⌜ Shows r (figuresOf (now (c .entry .bytes))) ⌝ }
+{
+    work_out(c.bytes, c.counts)
+}
+
+// Bytes that were judged, held with their counts as a checked return.
+fn figures_judged(bytes: &[u8], counts: Counts) -> Figures
+    requires { ⌜ verdictOf (now bytes) ≡ Accepted counts ⌝ }
+    ensures { λ r. ⌜ Shows r (figuresOf (now (bytes .entry))) ⌝ }
+{
+    figures_of(held::hold(bytes, counts))
+}
+
 // Any bytes of any length: they are judged once, and worked out where they are accepted.
 pub fn figures(bytes: &[u8]) -> Answer
     ensures { λ r. ⌜ (said r ≡ outcomeOf (now (bytes .entry))) × InForm r ⌝ }
 {
     match judge::judge(bytes) {
-        Verdict::Accepted(c) => Answer::Figures(work_out(bytes, c)),
+        Verdict::Accepted(counts) => Answer::Figures(figures_judged(bytes, counts)),
         Verdict::Refused { number, place } => Answer::Refused { number, place },
     }
 }

@@ -24,11 +24,11 @@ use crate::units::net_co2;
 use crate::units::net_wood;
 use crate::units::nitrogen_in;
 use form::Counts;
+use form::row_start;
 use form::two_at;
 use totals::Carbon;
 use totals::DryMatter;
 use totals::blocks_for;
-use totals::row_start;
 
 // The parameter row, in thousandths.
 pub struct Parameters {

@@ -1,6 +1,9 @@
 //! Ratios between the first program and the second, on the same returns in one
-//! run. The judge is also set beside a plain sum of the bytes. The parts for
-//! the other functions come with the features `lines`, `doubles` and `rows`.
+//! run: `bench [FUNCTION..]`, all functions where none is named. The judge is
+//! also set beside a plain sum of the bytes, and what plain_returns.c has beside
+//! that (`/C`). The parts for the other functions come with the features
+//! `lines`, `doubles` and `rows`. Ten blocks and one come first, then how each
+//! function grows from two blocks to nine, in fewer rounds.
 
 #[cfg(door_missing)]
 compile_error!(
@@ -14,15 +17,20 @@ mod run {
     use second::lent::Lent;
     use second::make::Rows;
     use second::rng::Rng;
-    use second::timing::{measure, ROUNDS};
+    use second::timing::measure;
     use std::hint::black_box;
 
     /// Different returns in rotation, so that no single one is learnt by heart.
     const RETURNS: usize = 64;
 
-    /// Returns of one size, and how often a round goes over them.
+    const ROUNDS: usize = 301;
+    const FEWER: usize = 61;
+
+    /// Returns of one size, how many rounds, and how often a round goes over
+    /// them.
     struct Load {
-        name: &'static str,
+        name: String,
+        rounds: usize,
         #[cfg(feature = "rows")]
         rows: Vec<Rows>,
         returns: Vec<Box<[u8]>>,
@@ -30,29 +38,39 @@ mod run {
     }
 
     impl Load {
-        fn new(name: &'static str, rng: &mut Rng, counts: [usize; 3], repeats: usize) -> Self {
+        fn new(rng: &mut Rng, counts: [usize; 3], rounds: usize) -> Self {
             let rows: Vec<Rows> = (0..RETURNS).map(|_| Rows::good(rng, counts)).collect();
-            let returns = rows.iter().map(|rows| rows.to_bytes().into()).collect();
+            let returns: Vec<Box<[u8]>> = rows.iter().map(|r| r.to_bytes().into()).collect();
+            let blocks = returns[0].len() / 512;
+            let [c, s, h] = counts;
             Load {
-                name,
+                name: format!("{blocks:>2}, {c}+{s}+{h}+1"),
+                rounds,
                 #[cfg(feature = "rows")]
                 rows,
                 returns,
-                repeats,
+                repeats: 40 / blocks,
             }
+        }
+
+        /// A return of so many blocks, each kind's filled before the next.
+        fn of_blocks(rng: &mut Rng, blocks: usize) -> Self {
+            let rows = |kind: usize| (12 * (blocks - 1).saturating_sub(3 * kind)).min(32);
+            Load::new(rng, [0, 1, 2].map(rows), FEWER)
         }
     }
 
     pub fn main() {
         let mut rng = Rng::new(7);
-        let loads = [
-            Load::new("ten blocks, 32+32+32+1", &mut rng, [32; 3], 4),
-            Load::new("one block, parameters", &mut rng, [0; 3], 40),
+        let mut loads = vec![
+            Load::new(&mut rng, [32; 3], ROUNDS),
+            Load::new(&mut rng, [0; 3], ROUNDS),
         ];
-        println!("{ROUNDS} rounds over {RETURNS} returns, medians, ns per call");
+        loads.extend((2..10).map(|blocks| Load::of_blocks(&mut rng, blocks)));
+        println!("{ROUNDS} rounds ({FEWER} for two blocks to nine) over {RETURNS} returns, medians, ns per call");
         println!(
             "{:<12}{:<24}{:>10}{:>10}{:>16}",
-            "function", "return", "niloferq", "second", "niloferq/second"
+            "function", "blocks, rows", "niloferq", "other", "niloferq/other"
         );
         for load in &loads {
             bench_judge(load);
@@ -73,6 +91,54 @@ mod run {
             let add = |sum: u32, &byte: &u8| sum.wrapping_add(u32::from(byte));
             black_box(black_box(bytes).iter().fold(0u32, add));
         });
+        #[cfg(plain)]
+        bench_two("judge/C", load, &load.returns, ask_first, |bytes| {
+            let mut counts = [0; 4];
+            assert_eq!(plain::judge(black_box(bytes), black_box(&mut counts)), 0);
+            black_box(counts);
+        });
+    }
+
+    /// The same in plain C.
+    #[cfg(plain)]
+    #[allow(unsafe_code)]
+    mod plain {
+        extern "C" {
+            fn plain_judge(bytes: *const u8, length: usize, counts: *mut u32) -> u32;
+            #[cfg(feature = "doubles")]
+            fn plain_subtotal(bytes: *const u8, length: usize, code: u32, room: *mut f64) -> u32;
+            #[cfg(feature = "rows")]
+            fn plain_read(
+                bytes: *const u8,
+                length: usize,
+                rooms: *const *mut u32,
+                counts: *mut u32,
+            ) -> u32;
+        }
+
+        // In each, every pointer is good for what the C function does with it.
+        pub fn judge(bytes: &[u8], counts: &mut [u32; 4]) -> u32 {
+            unsafe { plain_judge(bytes.as_ptr(), bytes.len(), counts.as_mut_ptr()) }
+        }
+
+        #[cfg(feature = "doubles")]
+        pub fn subtotal(bytes: &[u8], code: u32, room: &mut f64) -> u32 {
+            unsafe { plain_subtotal(bytes.as_ptr(), bytes.len(), code, room) }
+        }
+
+        /// Rooms for 480 numbers each, which any return's rows fit.
+        #[cfg(feature = "rows")]
+        pub fn read(bytes: &[u8], rooms: &mut [[u32; 480]; 4], counts: &mut [u32; 4]) -> u32 {
+            let rooms = rooms.each_mut().map(|room| room.as_mut_ptr());
+            unsafe {
+                plain_read(
+                    bytes.as_ptr(),
+                    bytes.len(),
+                    rooms.as_ptr(),
+                    counts.as_mut_ptr(),
+                )
+            }
+        }
     }
 
     fn ask_first<B: AsRef<[u8]>>(bytes: &B) {
@@ -82,27 +148,45 @@ mod run {
         black_box(counts);
     }
 
-    /// One line for a function with two ways of it.
+    /// One line for a function with two ways of it, and whether it was asked for.
     fn bench_two<I>(
         function: &str,
         load: &Load,
         inputs: &[I],
         first: impl FnMut(&I),
         second: impl FnMut(&I),
-    ) {
-        let times = measure(inputs, load.repeats, first, second);
+    ) -> bool {
+        let mut named = std::env::args().skip(1).peekable();
+        if named.peek().is_some() && named.all(|name| name != function) {
+            return false;
+        }
+        // how it grows is asked against the second program alone
+        if load.rounds == FEWER && function.contains('/') {
+            return false;
+        }
+        let times = measure(inputs, load.rounds, load.repeats, first, second);
         println!(
             "{function:<12}{:<24}{:>10.1}{:>10.1}{:>16.2}",
             load.name, times.first, times.second, times.ratio
         );
+        true
     }
 
     #[cfg(feature = "lines")]
     mod lines {
         use super::*;
-        use second::ffi::lines::first_lines;
+        use second::ffi::lines::{first_figures, first_lines};
+        use second::sheets::{figures, NUMBERS};
 
         pub fn bench(load: &Load) {
+            let [mut a, mut b] = [[0; NUMBERS]; 2];
+            bench_two(
+                "figures",
+                load,
+                &load.returns,
+                |bytes| assert_eq!(first_figures(black_box(bytes), Lent::whole(&mut a)), 0),
+                |bytes| assert_eq!(figures(black_box(bytes), &mut b), 0),
+            );
             let [mut a, mut b] = [[0; 600]; 2];
             bench_two(
                 "lines",
@@ -133,6 +217,26 @@ mod run {
                     },
                     |bytes| assert_eq!(subtotal(black_box(bytes), black_box(code), &mut b), 0),
                 );
+                #[cfg(plain)]
+                {
+                    let mut c = 0.0;
+                    let done = bench_two(
+                        &format!("{name}/C"),
+                        load,
+                        &load.returns,
+                        |bytes| {
+                            let room = Lent::whole(&mut a);
+                            assert_eq!(first_subtotal(black_box(bytes), black_box(code), room), 0);
+                        },
+                        |bytes| {
+                            assert_eq!(
+                                plain::subtotal(black_box(bytes), black_box(code), &mut c),
+                                0
+                            )
+                        },
+                    );
+                    assert!(!done || f64::from_le_bytes(a).to_bits() == c.to_bits());
+                }
             }
         }
     }
@@ -168,6 +272,22 @@ mod run {
                 },
             );
 
+            #[cfg(plain)]
+            {
+                let (mut c, mut counts) = ([[0u32; 480]; 4], [0; 4]);
+                let done = bench_two(
+                    "read/C",
+                    load,
+                    &load.returns,
+                    |bytes| {
+                        let rooms = a.each_mut().map(|room| Lent::whole(room.as_mut_slice()));
+                        assert_eq!(first_read(black_box(bytes), rooms), 0);
+                    },
+                    |bytes| assert_eq!(plain::read(black_box(bytes), &mut c, &mut counts), 0),
+                );
+                assert!(!done || a[..4] == c);
+            }
+
             let lists = load.rows.iter();
             let lists: Vec<RowLists> = lists.map(|r| RowLists::of(String::new(), r)).collect();
             let [mut a, mut b] = [[0; 5_120]; 2];
@@ -181,6 +301,17 @@ mod run {
                     assert_eq!(first_write(black_box(lists).borrow(), room, size), 0);
                 },
                 |lists| assert_eq!(write(black_box(lists).borrow(), &mut b, &mut size_b), 0),
+            );
+            // With no room all rules are tried and nothing is written.
+            bench_two(
+                "write/rules",
+                load,
+                &lists,
+                |lists| {
+                    let (room, size) = (Lent::front(&mut a, 0), Lent::whole(&mut size_a));
+                    assert_eq!(first_write(black_box(lists).borrow(), room, size), 9000);
+                },
+                |lists| assert_eq!(write(black_box(lists).borrow(), &mut [], &mut size_b), 9000),
             );
         }
     }

@@ -33,10 +33,15 @@ mod run {
             least: inputs::least(),
             often: &[0, 1, 2, 3, 4, 5, 6, 7, 8, 9],
         };
-        exit(run(&plan, arguments, inputs::plain, try_one))
+        let mut calls = 0;
+        let good = run(&plan, arguments, inputs::plain, |case, rng| {
+            try_one(case, rng, &mut calls)
+        });
+        println!("{calls} calls, some with the input at an odd address");
+        exit(good)
     }
 
-    fn try_one(case: &Case, rng: &mut Rng) -> Outcome {
+    fn try_one(case: &Case, rng: &mut Rng, calls: &mut usize) -> Outcome {
         let mut before = [0u32; ROOM];
         before.fill_with(|| rng.word());
         let lent = rng.below(MOST_LENT + 1);
@@ -53,10 +58,12 @@ mod run {
             }
         };
 
+        *calls += 1;
         let exact: Box<[u8]> = case.bytes.as_slice().into();
         let mut difference = ask(&exact, 0, case, (before, lent), (expected, room_due));
         // Now and then also at an odd address, the end still the allocation's.
         if difference.is_none() && rng.one_in(8) {
+            *calls += 1;
             let shift = 1 + rng.below(7);
             let mut shifted = vec![0xA5; shift];
             shifted.extend_from_slice(&case.bytes);

@@ -1,8 +1,10 @@
-//! Compares the text of `sheets` from the first program and from the second.
+//! Compares the text of `sheets`, and the figures as numbers, from the first
+//! program and from the second.
 //!
 //! `compare_lines [SEED [INPUTS]]`. Every input is asked for with a room of the
-//! text's length, one shorter, none at all and one of any length; all of our
-//! memory is looked at afterwards, the guard behind the room included.
+//! text's length, one shorter, none at all and one of any length, and for its
+//! numbers with a room of 51, one shorter or longer, or of any length; all of
+//! our memory is looked at afterwards, the guard behind the room included.
 
 #[cfg(door_missing)]
 compile_error!(
@@ -12,18 +14,20 @@ compile_error!(
 #[cfg(not(door_missing))]
 mod run {
     use second::drive::{exit, first_of, memory_difference, run, Arguments, Outcome, Plan};
-    use second::ffi::lines::first_lines;
+    use second::ffi::lines::{first_figures, first_lines};
     use second::inputs;
     use second::judge::{judge, Verdict};
     use second::lent::{Lent, Placed};
     use second::rng::Rng;
-    use second::sheets::lines;
+    use second::sheets::{figures, lines, NUMBERS};
     use second::sweep::Case;
     use std::process::ExitCode;
 
     const GUARD: usize = 24;
     const MOST_LENT: usize = 700;
     const MEMORY: usize = MOST_LENT + GUARD;
+    const MOST_NUMBERS: usize = NUMBERS + 9;
+    const NUMBER_MEMORY: usize = MOST_NUMBERS + GUARD;
 
     pub fn main() -> ExitCode {
         let Some(arguments) = Arguments::from_command("compare_lines") else {
@@ -39,7 +43,7 @@ mod run {
         let good = run(&plan, arguments, inputs::with_figures, |case, rng| {
             try_one(case, rng, &mut calls)
         });
-        println!("{calls} calls with rooms exact, short by one, empty and of any length");
+        println!("{calls} calls, lines and figures, with rooms exact, short by one, empty and of any length");
         exit(good)
     }
 
@@ -54,12 +58,33 @@ mod run {
         let difference = first_of(rooms.map(|lent| {
             *calls += 1;
             ask(placed.bytes(), case, before, lent)
-        }));
+        }))
+        .or_else(|| ask_figures(placed.bytes(), case, rng, calls));
         let number = match judge(&case.bytes) {
             Verdict::Accepted(_) => 0,
             Verdict::Refused(refusal) => refusal.number,
         };
         Outcome { number, difference }
+    }
+
+    /// The figures as numbers, in a room long enough and in one that may not be.
+    fn ask_figures(bytes: &[u8], case: &Case, rng: &mut Rng, calls: &mut usize) -> Option<String> {
+        let other = rng.below(MOST_NUMBERS + 1);
+        let lent = rng.pick(&[NUMBERS - 1, NUMBERS + 1, 0, other]);
+        first_of([NUMBERS, lent].map(|lent| {
+            *calls += 1;
+            let mut before = [0u64; NUMBER_MEMORY];
+            before.iter_mut().for_each(|number| *number = rng.draw());
+            let (mut due, mut room) = (before, before);
+            let expected = figures(bytes, &mut due[..lent]);
+            let answer = first_figures(bytes, Lent::front(&mut room, lent));
+            let difference = first_of([
+                (answer != expected).then(|| format!("answer {answer}, due {expected}")),
+                memory_difference("the room", &room, &due),
+                memory_difference("the input itself", bytes, &case.bytes),
+            ])?;
+            Some(format!("figures: {difference}; room of {lent}"))
+        }))
     }
 
     fn ask(bytes: &[u8], case: &Case, before: [u8; MEMORY], lent: usize) -> Option<String> {

@@ -1,9 +1,6 @@
 -- `doubles::subtotals` meets its contract. Assumes nothing.
 use mathlib.Core.Path.{sym, ap, _∙_}
 use denote.Ref.{now}
-use Rattle.form.specs.declared.Counts.{Counts}
-use Rattle.form.specs.declared.Verdict.the-variants.{Accepted}
-use Rattle.form.proofs.Accepted.{accepted-counts}
 use Rattle.doubles.specs.Subtotals.{answerBy}
 use Rattle.doubles.specs.declared.Answer.the-variants.{Figures}
 use borrow.Author.Needs.{needs}
@@ -16,12 +13,8 @@ judge-requires c κs = search needs
 enum-known-counts : tie.Need-enum-known-counts
 enum-known-counts c = search needs
 
-add-up-requires : tie.Need-add-up-requires
-add-up-requires c κs =
-    let s = now (c .before .before .before .before .before .args .bytes) in
-    let e = sym (c .before .before .before .judge .ensures) ∙ c .before .counts .given .1 in
-    let q = accepted-counts s _ e in
-    (e ∙ ap Accepted q, ap (λ (k : Counts). k .conversion) q)
+subtotals-judged-requires : tie.Need-subtotals-judged-requires
+subtotals-judged-requires c κs = sym (c .before .before .before .judge .ensures) ∙ c .before .counts .given .1
 
 enum-known-number : tie.Need-enum-known-number
 enum-known-number c = search needs
@@ -29,7 +22,7 @@ enum-known-number c = search needs
 returns : tie.Need-returns
 returns c =
     let s = now (c .before .before .before .before .before .before .args .bytes) in
-    ap Figures (c .add-up .ensures) ∙ sym (ap (answerBy s) (sym (c .before .before .before .before .judge .ensures) ∙ c .before .before .counts .given .1))
+    ap Figures (c .subtotals-judged .ensures) ∙ sym (ap (answerBy s) (sym (c .before .before .before .before .judge .ensures) ∙ c .before .before .counts .given .1))
 
 returns-2 : tie.Need-returns-2
 returns-2 c =
@@ -39,4 +32,4 @@ returns-2 c =
 pub subtotals-spec : {M : Type 1} → statement M
 subtotals-spec =
     tie.close
-    (tie.spec judge-requires enum-known-counts add-up-requires enum-known-number returns returns-2)
+    (tie.spec judge-requires enum-known-counts subtotals-judged-requires enum-known-number returns returns-2)

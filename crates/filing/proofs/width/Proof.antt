@@ -1,54 +1,43 @@
 -- `filing::width` meets its contract. Assumes nothing.
-use Prim.Native.Nat.{ℕ, _+_, _*_}
-use mathlib.Core.Bool.{Bool, not, _&&_, _||_}
-use mathlib.Core.List.{List, [], _∷_}
-use lib.Dec.{eqb, ltb, leb, eqb→eq, ltb→lt, leb→le, T-not}
-use lib.ListN.{getD}
-use Rattle.form.specs.Layout.{layout, numbersOf}
-use Rattle.filing.specs.Tables.{fieldAt}
-use Rattle.filing.proofs.Table.{sixteen, both-left, both-right, other}
+use Prim.Native.Nat.{ℕ, _<_}
+use mathlib.Core.Path.{_≡_, refl, _∙_}
+use mathlib.Core.Bool.{Bool, not, cond, _&&_, _||_}
 use native.Mathlib.Omega.{arith}
-use borrow.Author.Needs.{needs}
+use lib.Dec.{eqb, ltb, leb, eqb→eq, leb→le, lit<, lit≤}
+use lib.ListN.{replicate}
+use Rattle.form.specs.Layout.{layout, numbersOf}
+use Rattle.form.proofs.Tests.{taken, left}
+use Rattle.filing.specs.Tables.{fieldAt}
+use Rattle.filing.proofs.Table.{sixteen, other}
 use Rattle.filing.proofs.width.Statement.{statement}
 use Rattle.filing.proofs.width.Tie as tie
 
-table : List ℕ
-table = 0 ∷ 0 ∷ 0 ∷ 0 ∷ 0 ∷ 0 ∷ 0 ∷ 0 ∷ 0 ∷ 0 ∷ 0 ∷ 0 ∷ 0 ∷ 0 ∷ 0 ∷ 0 ∷ 4 ∷ 4 ∷ 2 ∷ 2 ∷ 2 ∷ 2 ∷ 2 ∷ 2 ∷ 2 ∷ 2 ∷ 4 ∷ 2 ∷ 2 ∷ 2 ∷ 2 ∷ 0 ∷ 4 ∷ 1 ∷ 2 ∷ 4 ∷ 2 ∷ 0 ∷ 0 ∷ 0 ∷ 0 ∷ 0 ∷ 0 ∷ 0 ∷ 0 ∷ 0 ∷ 0 ∷ 0 ∷ 4 ∷ 4 ∷ 2 ∷ 4 ∷ 4 ∷ 0 ∷ 0 ∷ 0 ∷ 0 ∷ 0 ∷ 0 ∷ 0 ∷ 0 ∷ 0 ∷ 0 ∷ 0 ∷ 2 ∷ 2 ∷ 2 ∷ 2 ∷ 2 ∷ 2 ∷ 0 ∷ 0 ∷ 0 ∷ 0 ∷ 0 ∷ 0 ∷ 0 ∷ 0 ∷ 0 ∷ 0 ∷ []
-
--- 1, 2 or 4
-good : ℕ → Bool
-good x = ltb 0 x && (leb x 4 && not (eqb x 3))
+-- by the code's tests
+abbrev widthBy : ℕ → ℕ → ℕ
+widthBy kind i =
+    cond (eqb kind 2 && eqb i 1) 1
+    (cond ((eqb kind 1 && (ltb i 2 || eqb i 10)) || (eqb kind 2 && (eqb i 0 || eqb i 3)) || (eqb kind 3 && not (eqb i 2))) 4 2)
 
 right : ℕ → ℕ → ℕ → Bool
-right kind i x = eqb x (fieldAt (layout kind) i .width) && (leb (numbersOf kind) i || good x)
+right kind i x = leb (numbersOf kind) i || eqb (widthBy kind i) (fieldAt (layout kind) i .width)
 
-mul-result : tie.Need-mul-result
-mul-result c = search needs
-
-add-result : tie.Need-add-result
-add-result c = search needs
-
-mul-result-2 : tie.Need-mul-result-2
-mul-result-2 c = search needs
-
-array-read-result : tie.Need-array-read-result
-array-read-result c = search needs
+width-is : (c : tie.Start) → let a = c .args in widthBy (a .kind) (a .i) ≡ fieldAt (layout (a .kind)) (a .i) .width
+unfolding right
+width-is c =
+    let a = c .args in
+    let t = sixteen right (replicate 80 0) tt (a .kind) (a .i) (c .pre .2) (omega (arith, c .pre .0, c .pre .2)) in
+    eqb→eq (widthBy (a .kind) (a .i)) (fieldAt (layout (a .kind)) (a .i) .width)
+    (other (leb (numbersOf (a .kind)) (a .i)) (eqb (widthBy (a .kind) (a .i)) (fieldAt (layout (a .kind)) (a .i) .width)) t
+    (λ p. omega (arith, leb→le (numbersOf (a .kind)) (a .i) p, c .pre .1)))
 
 returns : tie.Need-returns
-unfolding table right good
-returns c =
-    let a = c .args in
-    let x = getD table (16 * a .kind + a .i) 0 in
-    let e = eqb x (fieldAt (layout (a .kind)) (a .i) .width) in
-    let past = leb (numbersOf (a .kind)) (a .i) in
-    let t = sixteen right table tt (a .kind) (a .i) (search needs) (search needs) in
-    let g = other past (good x) (both-right e (past || good x) t) (λ p. omega (arith, leb→le (numbersOf (a .kind)) (a .i) p)) in
-    let r = both-right (ltb 0 x) (leb x 4 && not (eqb x 3)) g in (
-      eqb→eq x (fieldAt (layout (a .kind)) (a .i) .width) (both-left e (past || good x) t),
-      ltb→lt 0 x (both-left (ltb 0 x) (leb x 4 && not (eqb x 3)) g),
-      leb→le x 4 (both-left (leb x 4) (not (eqb x 3)) r),
-      λ three. T-not (eqb x 3) (both-right (leb x 4) (not (eqb x 3)) r) (rw three tt),
-    )
+returns c = (taken _ (c .if1 .taken) refl ∙ width-is (c .before), lit< tt, lit≤ tt, λ three. absurd (omega arith))
+
+returns-2 : tie.Need-returns-2
+returns-2 c = (left _ (c .before .if1 .left) (taken _ (c .if2 .taken) refl) ∙ width-is (c .before .before), lit< tt, lit≤ tt, λ three. absurd (omega arith))
+
+returns-3 : tie.Need-returns-3
+returns-3 c = (left _ (c .before .if1 .left) (left _ (c .if2 .left) refl) ∙ width-is (c .before .before), lit< tt, lit≤ tt, λ three. absurd (omega arith))
 
 pub width-spec : {M : Type 1} → statement M
-width-spec = tie.close (tie.spec mul-result add-result mul-result-2 array-read-result returns)
+width-spec = tie.close (tie.spec returns returns-2 returns-3)

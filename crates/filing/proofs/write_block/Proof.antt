@@ -37,11 +37,11 @@ add-clear c = search needs
 clear-requires : tie.Need-clear-requires
 clear-requires c κs = search needs
 
-add-check-of : tie.Need-add-check-of
-add-check-of c = search needs
+add-check-due : tie.Need-add-check-due
+add-check-due c = search needs
 
-check-of-requires : tie.Need-check-of-requires
-check-of-requires c κs = search needs
+check-due-requires : tie.Need-check-due-requires
+check-due-requires c κs = search needs
 
 add-put-four : tie.Need-add-put-four
 add-put-four c = search needs
@@ -68,7 +68,7 @@ returns c =
     (at-head .write-head .ensures)
     (at-records .write-records .ensures)
     (at-clear .clear .ensures)
-    (at-check .check-of .ensures)
+    (at-check .check-due .ensures)
     (at-put .put-four .ensures)
 
 pub write-block-spec : {M : Type 1} → statement M
@@ -85,8 +85,8 @@ write-block-spec =
     write-records-requires
     add-clear
     clear-requires
-    add-check-of
-    check-of-requires
+    add-check-due
+    check-due-requires
     add-put-four
     put-four-requires
     same-length

@@ -1,30 +1,27 @@
 -- `form::stray_in` meets its contract. Assumes nothing.
-use Prim.Native.Nat.{_≤_, _-_, _*_}
+use Prim.Native.Nat.{_≤_, _-_}
 use mathlib.Core.Path.{_≡_, sym}
 use denote.Ref.{now}
-use Rattle.form.proofs.Numbers.{totalOf, total-zero, total-more, stray-total}
+use Rattle.form.proofs.Numbers.{bitsOf, bits-none, bits-more, stray-bits}
 use borrow.Author.Needs.{needs}
 use native.Mathlib.Omega.{arith}
 use Rattle.form.proofs.stray_in.Statement.{statement}
 use Rattle.form.proofs.stray_in.Tie as tie
 
 abbrev Inv-loop : tie.InvT-loop
-Inv-loop bytes at n sum₀ i₀ sum i = (i ≤ n) × (sum ≤ 255 * i) × (sum ≡ totalOf bytes at i)
+Inv-loop bytes at n bits₀ i₀ bits i = (i ≤ n) × (bits ≡ bitsOf bytes at i)
 
 abbrev μ-loop : tie.MeasureT-loop
-μ-loop bytes at n sum₀ i₀ sum i = n - i
+μ-loop bytes at n bits₀ i₀ bits i = n - i
 
 loop-holds : tie.Need-loop-holds Inv-loop μ-loop
-loop-holds c = (search needs, search needs, sym (total-zero _ _))
+loop-holds c = (search needs, sym (bits-none _ _))
 
 add-byte-at : tie.Need-add-byte-at Inv-loop μ-loop
 add-byte-at c = search needs
 
 byte-at-requires : tie.Need-byte-at-requires Inv-loop μ-loop
 byte-at-requires c κs = search needs
-
-add-sum : tie.Need-add-sum Inv-loop μ-loop
-add-sum c = search needs
 
 add-i : tie.Need-add-i Inv-loop μ-loop
 add-i c = search needs
@@ -35,13 +32,13 @@ loop-less c = search needs
 loop-again : tie.Need-loop-again Inv-loop μ-loop
 loop-again c =
     let a = c .before .before .before .before .args in
-    (search needs, search needs, cc (total-more (now (a .bytes)) (a .at) (c .before .before .loop .i)))
+    (search needs, cc (bits-more (now (a .bytes)) (a .at) (c .before .before .loop .i)))
 
 returns : tie.Need-returns Inv-loop μ-loop
 returns c =
     let a = c .before .before .before .args in
     let e : c .before .loop .i ≡ a .n = omega arith in
-    cc (stray-total (now (a .bytes)) (a .at) (a .n))
+    cc (stray-bits (now (a .bytes)) (a .at) (a .n))
 
 pub stray-in-spec : {M : Type 1} → statement M
 stray-in-spec =
@@ -52,7 +49,6 @@ stray-in-spec =
     loop-holds
     add-byte-at
     byte-at-requires
-    add-sum
     add-i
     loop-less
     loop-again

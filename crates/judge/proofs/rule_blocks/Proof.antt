@@ -42,15 +42,15 @@ past1 c q = kept _ _ (first-more _ 0 (first-zero _) (sym (c .before .bad-length 
 
 past2 : (c : tie.After-enum-told) {v : Ruling} → v ≡ from 2 (at2 c) → v ≡ from 0 (at2 c)
 unfolding blockRules
-past2 c q = past1 (c .before .before .before) (kept _ _ (sym (c .before .before .first-bad-check .ensures) ∙ c .enum-told .given .1) q)
+past2 c q = past1 (c .before .before .before) (kept _ _ (sym (c .before .before .first-broken .ensures) ∙ c .enum-told .given .1) q)
 
 past3 : (c : tie.After-enum-told2) {v : Ruling} → v ≡ from 3 (at3 c) → v ≡ from 0 (at3 c)
 unfolding blockRules
-past3 c q = past2 (c .before .before .before) (kept _ _ (sym (c .before .before .first-bad-header .ensures) ∙ c .enum-told2 .given .1) q)
+past3 c q = past2 (c .before .before .before) (kept _ _ (sym (c .before .before .first-broken2 .ensures) ∙ c .enum-told2 .given .1) q)
 
 past4 : (c : tie.After-enum-told3) {v : Ruling} → v ≡ from 4 (at4 c) → v ≡ from 0 (at4 c)
 unfolding blockRules
-past4 c q = past3 (c .before .before .before) (kept _ _ (sym (c .before .before .first-bad-block .ensures) ∙ c .enum-told3 .given .1) q)
+past4 c q = past3 (c .before .before .before) (kept _ _ (sym (c .before .before .first-broken3 .ensures) ∙ c .enum-told3 .given .1) q)
 
 bad-length-requires : tie.Need-bad-length-requires
 bad-length-requires c κs = search needs
@@ -59,41 +59,41 @@ returns : tie.Need-returns
 unfolding blockRules
 returns c = ruled _ _ (first-found _ 0 1 (first-zero _) (sym (c .before .bad-length .ensures) ∙ c .if1 .taken) (omega arith))
 
-first-bad-check-requires : tie.Need-first-bad-check-requires
-first-bad-check-requires c κs = fine c
+first-broken-requires : tie.Need-first-broken-requires
+first-broken-requires c κs = fine c
 
 enum-known-check : tie.Need-enum-known-check
 enum-known-check c = search needs
 
 returns-2 : tie.Need-returns-2
 unfolding blockRules
-returns-2 c = let e = c .before .before .before in past1 (e .before) (ruled _ _ (sym (e .first-bad-check .ensures) ∙ c .before .check .given .1))
+returns-2 c = let e = c .before .before .before in past1 (e .before) (ruled _ _ (sym (e .first-broken .ensures) ∙ c .before .check .given .1))
 
 enum-told : tie.Need-enum-told
 enum-told c = search needs
 
-first-bad-header-requires : tie.Need-first-bad-header-requires
-first-bad-header-requires c κs = fine (c .before .before .before)
+first-broken-requires-2 : tie.Need-first-broken-requires-2
+first-broken-requires-2 c κs = fine (c .before .before .before)
 
 enum-known-header : tie.Need-enum-known-header
 enum-known-header c = search needs
 
 returns-3 : tie.Need-returns-3
 unfolding blockRules
-returns-3 c = let e = c .before .before .before in past2 (e .before) (ruled _ _ (sym (e .first-bad-header .ensures) ∙ c .before .header .given .1))
+returns-3 c = let e = c .before .before .before in past2 (e .before) (ruled _ _ (sym (e .first-broken2 .ensures) ∙ c .before .header .given .1))
 
 enum-told-2 : tie.Need-enum-told-2
 enum-told-2 c = search needs
 
-first-bad-block-requires : tie.Need-first-bad-block-requires
-first-bad-block-requires c κs = fine (c .before .before .before .before .before .before)
+first-broken-requires-3 : tie.Need-first-broken-requires-3
+first-broken-requires-3 c κs = fine (c .before .before .before .before .before .before)
 
 enum-known-block : tie.Need-enum-known-block
 enum-known-block c = search needs
 
 returns-4 : tie.Need-returns-4
 unfolding blockRules
-returns-4 c = let e = c .before .before .before in past3 (e .before) (ruled _ _ (sym (e .first-bad-block .ensures) ∙ c .before .block .given .1))
+returns-4 c = let e = c .before .before .before in past3 (e .before) (ruled _ _ (sym (e .first-broken3 .ensures) ∙ c .before .block .given .1))
 
 enum-told-3 : tie.Need-enum-told-3
 enum-told-3 c = search needs
@@ -108,15 +108,15 @@ rule-blocks-spec =
     (tie.spec
     bad-length-requires
     returns
-    first-bad-check-requires
+    first-broken-requires
     enum-known-check
     returns-2
     enum-told
-    first-bad-header-requires
+    first-broken-requires-2
     enum-known-header
     returns-3
     enum-told-2
-    first-bad-block-requires
+    first-broken-requires-3
     enum-known-block
     returns-4
     enum-told-3

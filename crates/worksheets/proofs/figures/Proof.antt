@@ -9,11 +9,11 @@ use Rattle.worksheets.proofs.figures.Tie as tie
 judge-requires : tie.Need-judge-requires
 judge-requires c κs = search needs
 
-enum-known-c : tie.Need-enum-known-c
-enum-known-c c = search needs
+enum-known-counts : tie.Need-enum-known-counts
+enum-known-counts c = search needs
 
-work-out-requires : tie.Need-work-out-requires
-work-out-requires c κs = sym (c .before .before .before .judge .ensures) ∙ c .before .c .given .1
+figures-judged-requires : tie.Need-figures-judged-requires
+figures-judged-requires c κs = sym (c .before .before .before .judge .ensures) ∙ c .before .counts .given .1
 
 enum-known-number : tie.Need-enum-known-number
 enum-known-number c = search needs
@@ -22,7 +22,7 @@ returns : tie.Need-returns
 returns c =
     let e = c .before .before .before .before in
     let s = now (e .before .before .args .bytes) in
-    (ap worked (c .work-out .ensures .values) ∙ sym (ap (outcomeBy s) (sym (e .judge .ensures) ∙ c .before .before .c .given .1)), c .work-out .ensures .plain)
+    (ap worked (c .figures-judged .ensures .values) ∙ sym (ap (outcomeBy s) (sym (e .judge .ensures) ∙ c .before .before .counts .given .1)), c .figures-judged .ensures .plain)
 
 returns-2 : tie.Need-returns-2
 returns-2 c =
@@ -32,4 +32,4 @@ returns-2 c =
 pub figures-spec : {M : Type 1} → statement M
 figures-spec =
     tie.close
-    (tie.spec judge-requires enum-known-c work-out-requires enum-known-number returns returns-2)
+    (tie.spec judge-requires enum-known-counts figures-judged-requires enum-known-number returns returns-2)

@@ -1,0 +1,137 @@
+-- "Proved as a single table, under one claim about all of it": 01's cases (a) to (j), each a whole return with its complete answer, every figure of it.
+-- Where the case is about rows, the return is made of them by the definition of writing; where it is about bytes, the bytes stand here.
+use Prim.Native.Nat.{ℕ, zero, suc}
+use mathlib.Core.Path.{_≡_, refl}
+use mathlib.Core.List.{List, [], _∷_, _++_, map}
+use lib.ListN.{replicate}
+use lib.IntN.{ℤ, pos, negsuc}
+use lib.Ieee.{binary64, add, mul, ofInt, toBits}
+use Rattle.form.specs.Bytes.{number, littleEndian}
+use Rattle.form.specs.Layout.{rowFrom}
+use Rattle.form.specs.Block.{weighed}
+use Rattle.form.specs.Records.{rowsBelow}
+use Rattle.form.specs.Computed.{computed}
+use Rattle.filing.specs.Lists.{Lists, lists, filedList, behind, filedLists}
+use Rattle.filing.specs.Written.{recordFrom, inTurn, headOf, sealed, recordOn, usedFrom, bodyOf, blockOf, bytesOf}
+use Rattle.lists.specs.Examples.{dayRows}
+use Rattle.rows.specs.Writing.{written}
+use Rattle.wide.specs.Rounding.{settled}
+use Rattle.totals.specs.Columns.{sumOf, uptakePart, harvestPart, clearedPart, onsitePart, offsitePart, decayPart}
+use Rattle.worksheets.specs.Sheets.{Sheet51, Sheet52, Sheet53, stocksOf, conversionOf, gasesOf}
+use Rattle.worksheets.specs.Answers.{Outcome, worked, refusal, outcomeOf}
+use Rattle.doubles.specs.Subtotals.{onsiteDouble, offsiteDouble, decayDouble, addRows, answerOf}
+use Rattle.doubles.specs.declared.Answer.{Answer}
+use Rattle.doubles.specs.declared.Answer.the-variants.{Figures, Refused}
+
+-- a complete answer: the sheets, or the refusal; and the bits of the three doubles, on site, off site and decayed, or none
+pub record Complete : Type 0 where
+  pub sheets : Outcome
+  pub doubles : List ℕ
+
+abbrev pub bitsOf : Answer → List ℕ
+bitsOf (Figures d) = toBits binary64 (d .onsite) ∷ toBits binary64 (d .offsite) ∷ toBits binary64 (d .decay) ∷ []
+bitsOf (Refused n p) = []
+
+-- what is to be answered of any bytes
+abbrev pub completeOf : List ℕ → Complete
+completeOf s = record { sheets = outcomeOf s; doubles = bitsOf (answerOf s) }
+
+-- a return and its answer
+pub record Case : Type 0 where
+  pub bytes : List ℕ
+  pub answer : Complete
+
+abbrev pub worked-out : List ℕ → Sheet51 → Sheet52 → Sheet53 → List ℕ → Case
+worked-out s a b c d = record { bytes = s; answer = record { sheets = worked (record { stocks = a; conversion = b; gases = c }); doubles = d } }
+
+abbrev pub refused : List ℕ → ℕ → ℕ → Case
+refused s n p = record { bytes = s; answer = record { sheets = refusal n p; doubles = [] } }
+
+-- the lines of 01, in their order
+abbrev pub sheet51 : ℕ → ℕ → ℕ → ℤ → ℤ → ℤ → ℤ → ℤ → Sheet51
+sheet51 e k l m o p q r = record { e = e; k = k; l = l; m = m; o = o; p = p; q = q; report = r }
+
+abbrev pub sheet52 : ℕ → ℕ → ℕ → ℕ → ℕ → Sheet52
+sheet52 n f r d c = record { onsite = n; offsite = f; r = r; decay = d; co2 = c }
+
+abbrev pub sheet53 : ℕ → ℕ → ℕ → ℕ → Sheet53
+sheet53 h c n x = record { ch4 = h; co = c; n2o = n; nox = x }
+
+abbrev none51 : Sheet51
+none51 = sheet51 0 0 0 (pos 0) (pos 0) (pos 0) (pos 0) (pos 0)
+
+abbrev none52 : Sheet52
+none52 = sheet52 0 0 0 0 0
+
+abbrev none53 : Sheet53
+none53 = sheet53 0 0 0 0
+
+-- the bits of the double 0, three times
+abbrev zeros : List ℕ
+zeros = 0 ∷ 0 ∷ 0 ∷ []
+
+-- the lone parameter block of zero values, with a check
+abbrev lone : ℕ → List ℕ
+lone check = 4 ∷ 1 ∷ 0 ∷ 0 ∷ 1 ∷ 0 ∷ 1 ∷ 0 ∷ replicate 500 0 ++ (check ∷ 0 ∷ 0 ∷ 0 ∷ [])
+
+-- "N 500, CH4 12, CO 60, N/C 10, N2O 7, NOx 121"
+abbrev defaults : List ℕ
+defaults = 500 ∷ 12 ∷ 60 ∷ 10 ∷ 7 ∷ 121 ∷ []
+
+-- a conversion row with nothing decayed: id, area, densities, then on-site and off-site fractions with what is oxidised and carbon
+abbrev row : ℕ → ℕ → ℕ → ℕ → ℕ → List ℕ
+row i area before after onsite = i ∷ area ∷ before ∷ after ∷ onsite ∷ 1000 ∷ 1000 ∷ 0 ∷ 0 ∷ 0 ∷ 0 ∷ 0 ∷ 0 ∷ 0 ∷ 0 ∷ []
+
+-- its three fractions alone, on no area
+abbrev split : ℕ → ℕ → ℕ → List ℕ
+split onsite offsite decay = 1 ∷ 0 ∷ 0 ∷ 0 ∷ onsite ∷ 0 ∷ 0 ∷ offsite ∷ 0 ∷ 0 ∷ 0 ∷ 0 ∷ 0 ∷ decay ∷ 0 ∷ []
+
+-- n of the largest on-site rows, with the ids i, i + 1 and so on
+unfoldable pub largest : ℕ → ℕ → List ℕ
+largest i zero = []
+largest i (suc n) = row i 1000000 10000 0 1000 ++ largest (suc i) n
+
+-- a return of conversion rows alone, and of stock and harvest rows alone, with the default parameters
+abbrev converted : List ℕ → List ℕ
+converted c = written (lists c [] [] defaults)
+
+abbrev grown : List ℕ → List ℕ → List ℕ
+grown s h = written (lists [] s h defaults)
+
+abbrev pub table : List Case
+table =
+    -- (a) "this day"
+    worked-out (written dayRows)
+    (sheet51 340000000 775000 36000000 (pos 41500000) (pos 20750000000) (pos 13250000000) (pos 48583) (negsuc 48582))
+    (sheet52 32400000000000 16200000000000 48600000000000 40500000000000 326700)
+    (sheet53 518 4536 4 129)
+    (4809131602776948736 ∷ 4804628003149578240 ∷ 4810524802404319232 ∷ [])
+    -- (b) "the lone parameter block of zero values, check 18: all figures 0"
+    ∷ worked-out (lone 18) none51 none52 none53 zeros
+    -- (c) "P = 1,500,000 gives Q = 6": a stock row of 15 x 100 x 10
+    ∷ worked-out (grown (1 ∷ 0 ∷ 100 ∷ 15 ∷ 10 ∷ []) []) (sheet51 15000 0 0 (pos 0) (pos 0) (pos 1500000) (pos 6) (negsuc 5)) none52 none53 zeros
+    -- (d) "P = -1,500,000 gives -6": a harvest row with F 30 and G 1, at N 500
+    ∷ worked-out (grown [] (1 ∷ 30 ∷ 1 ∷ 0 ∷ 0 ∷ [])) (sheet51 0 30 0 (pos 3000) (pos 1500000) (negsuc 1499999) (negsuc 5) (pos 6)) none52 none53 zeros
+    -- (e) "1.5 x 10^9 units of conversion carbon give 6 tonnes": an area of 15, a difference of 100, a fraction of 1, all of it oxidised and carbon
+    ∷ worked-out (converted (row 1 15 100 0 1)) none51 (sheet52 1500000000 0 1500000000 0 6) none53 (4744078263993761792 ∷ 0 ∷ 0 ∷ [])
+    -- (f) "32 largest on-site rows give 3.2 x 10^20"
+    ∷ worked-out (converted (largest 1 32)) none51
+    (sheet52 320000000000000000000 0 320000000000000000000 0 1173333333333)
+    (sheet53 5120000000 44800000000 35200000 1272228571)
+    (4913806406333840640 ∷ 0 ∷ 0 ∷ [])
+    -- (g) "(b) with check 17 is refused 2, place 0"
+    ∷ refused (lone 17) 2 0
+    -- (h) "fractions 500, 300, 200 pass, and 500, 300, 201 are refused 7"
+    ∷ worked-out (converted (split 500 300 200)) none51 none52 none53 zeros
+    ∷ refused (converted (split 500 300 201)) 7 0
+    -- (i) "before 100, after 100 passes with zero, after 101 is refused 8"
+    ∷ worked-out (converted (row 1 1 100 100 1000)) none51 none52 none53 zeros
+    ∷ refused (converted (row 1 1 100 101 1000)) 8 0
+    -- (j) "511 bytes are refused 1"
+    ∷ refused (replicate 511 0) 1 0
+    ∷ []
+
+-- every return of the table has the answer beside it, as the checker computes them
+pub all-answered : map (λ (c : Case). completeOf (c .bytes)) table ≡ map (λ (c : Case). c .answer) table
+unfolding toBits ofInt mul add onsiteDouble offsiteDouble decayDouble addRows largest computed filedList behind filedLists littleEndian recordFrom inTurn headOf sealed weighed recordOn usedFrom bodyOf blockOf bytesOf rowsBelow rowFrom number settled sumOf uptakePart harvestPart clearedPart onsitePart offsitePart decayPart stocksOf conversionOf gasesOf
+all-answered = refl

@@ -1,0 +1,169 @@
+-- DEMAND 1. "Every input of every length gets its answer, or one refusal number with its place, chosen by the paper's fixed order: for reading, for the sheets,
+-- for writing. A refusal carries no figures, and nothing lent has changed."
+use Prim.Native.Nat.{ℕ, _+_, _*_, _<_}
+use mathlib.Core.Path.{_≡_, refl, ap}
+use mathlib.Core.List.{List, [], _∷_, _++_}
+use native.Mathlib.Omega.{arith}
+use lib.ListN.{length}
+use Rattle.form.specs.Ruling.{Rule, ruling}
+use Rattle.form.specs.Verdict.{blockRules, rules, rows, countsOf, verdictBy, verdictOf}
+use Rattle.form.specs.declared.Ruling.{Ruling}
+use Rattle.form.specs.declared.Ruling.the-variants.{Clean, Broken}
+use Rattle.form.specs.declared.Verdict.{Verdict}
+use Rattle.form.specs.declared.Verdict.the-variants as verdict
+use Rattle.form.proofs.Order.{Least, AllKept, least-ruling, clean-ruling}
+use Rattle.filing.specs.Lists.{Lists}
+use Rattle.lists.specs.Rules.{listRules}
+use Rattle.rows.specs.Reading.{readRules, readAnswer, roomAfter}
+use Rattle.rows.specs.Writing.{written, writeRules, writtenBy, writeAnswer, bytesAfter}
+use Rattle.rows.specs.declared.Written.{Written}
+use Rattle.rows.specs.declared.Written.the-variants as write
+use Rattle.worksheets.specs.Sheets.{Sheets, figuresOf}
+use Rattle.worksheets.specs.Answers.{Outcome, worked, refusal, outcomeBy, outcomeOf}
+use Rattle.doubles.specs.Subtotals.{subtotalsOf, answerBy, answerOf}
+use Rattle.doubles.specs.declared.Answer.{Answer}
+use Rattle.doubles.specs.declared.Answer.the-variants as doubles
+use Rattle.report.specs.Lines.{lines51, lines52, lines53, refusedLine, textOf, printed, putOf, roomAfter as textAfter}
+use Rattle.report.specs.declared.Put.the-variants.{Done, Short}
+use Rattle.door.specs.Door.{codeOf, judgeRules, countsAfter, subtotalRules, bitsAfter}
+use Rattle.door.specs.Figures.{figuresRules, figuresAfter}
+use Rattle.door.specs.Rows.{readRules as c-readRules, rowsAfter, writeRules as c-writeRules, blocksAfter, sizeAfter}
+use Rattle.promises.specs.Order.{numbers, ByOrder, Faithful, by-order}
+
+-- ---- the orders
+-- "Sheets and doubles: 1 to 8"
+pub sheets-numbers : (s : List ℕ) → numbers (rules s) ≡ 1 ∷ 2 ∷ 3 ∷ 4 ∷ 5 ∷ 6 ∷ 7 ∷ 8 ∷ []
+unfolding numbers blockRules
+sheets-numbers s = refl
+
+-- "Reading: 1 to 9"
+pub read-numbers : (s : List ℕ) (rooms : Lists) → numbers (readRules s rooms) ≡ 1 ∷ 2 ∷ 3 ∷ 4 ∷ 5 ∷ 6 ∷ 7 ∷ 8 ∷ 9 ∷ []
+unfolding numbers blockRules
+read-numbers s rooms = refl
+
+-- "Writing: 10, then 5 to 9"
+pub write-numbers : (l : Lists) (room : List ℕ) → numbers (writeRules l room) ≡ 10 ∷ 5 ∷ 6 ∷ 7 ∷ 8 ∷ 9 ∷ []
+unfolding numbers listRules
+write-numbers l room = refl
+
+-- ---- the answers
+verdict-faithful : (s : List ℕ) → Faithful (verdictBy s)
+verdict-faithful s = record {
+  same = λ n p m q e. (let a : n ≡ m = cc in let b : p ≡ q = cc in cc);
+  other = λ n p e. (let z : _≡_ {A = ℕ} 0 1 = cc in omega arith);
+}
+
+-- judge: the four counts, or a refusal
+pub judge-by-order : (s : List ℕ) → ByOrder (rules s) (λ n p. verdictOf s ≡ verdict.Refused n p) (verdictOf s ≡ verdict.Accepted (countsOf s))
+unfolding verdictOf
+judge-by-order s = by-order (verdictBy s) (verdict-faithful s) (rules s)
+
+-- read: the four counts, or a refusal
+pub read-by-order : (s : List ℕ) (rooms : Lists) → ByOrder (readRules s rooms) (λ n p. readAnswer s rooms ≡ verdict.Refused n p) (readAnswer s rooms ≡ verdict.Accepted (countsOf s))
+unfolding readAnswer
+read-by-order s rooms = by-order (verdictBy s) (verdict-faithful s) (readRules s rooms)
+
+-- figures: the sheets, or a refusal
+abbrev figuresBy : List ℕ → Ruling → Outcome
+figuresBy s u = outcomeBy s (verdictBy s u)
+
+figures-faithful : (s : List ℕ) → Faithful (figuresBy s)
+figures-faithful s = record {
+  same = λ n p m q e. (let a : n ≡ m = cc in let b : p ≡ q = cc in cc);
+  other = λ n p e. (let z : _≡_ {A = ℕ} 0 1 = cc in omega arith);
+}
+
+pub figures-by-order : (s : List ℕ) → ByOrder (rules s) (λ n p. outcomeOf s ≡ refusal n p) (outcomeOf s ≡ worked (figuresOf s))
+unfolding verdictOf
+figures-by-order s = by-order (figuresBy s) (figures-faithful s) (rules s)
+
+-- subtotals: the three doubles, or a refusal
+abbrev doublesBy : List ℕ → Ruling → Answer
+doublesBy s u = answerBy s (verdictBy s u)
+
+doubles-faithful : (s : List ℕ) → Faithful (doublesBy s)
+doubles-faithful s = record {
+  same = λ n p m q e. (let a : n ≡ m = cc in let b : p ≡ q = cc in cc);
+  other = λ n p e. (let z : _≡_ {A = ℕ} 0 1 = cc in omega arith);
+}
+
+pub subtotals-by-order : (s : List ℕ) → ByOrder (rules s) (λ n p. answerOf s ≡ doubles.Refused n p) (answerOf s ≡ doubles.Figures (subtotalsOf (rows 1 s)))
+unfolding verdictOf
+subtotals-by-order s = by-order (doublesBy s) (doubles-faithful s) (rules s)
+
+-- write: the number of bytes, or a refusal
+written-faithful : (l : Lists) → Faithful (writtenBy l)
+written-faithful l = record {
+  same = λ n p m q e. (let a : n ≡ m = cc in let b : p ≡ q = cc in cc);
+  other = λ n p e. (let z : _≡_ {A = ℕ} 0 1 = cc in omega arith);
+}
+
+pub write-by-order : (l : Lists) (room : List ℕ) → ByOrder (writeRules l room) (λ n p. writeAnswer l room ≡ write.Refused n p) (writeAnswer l room ≡ write.Done (length (written l)))
+unfolding writeAnswer
+write-by-order l room = by-order (writtenBy l) (written-faithful l) (writeRules l room)
+
+-- ---- from C
+-- "from C, then 11 and last 9"
+pub c-judge-numbers : (s counts : List ℕ) → numbers (judgeRules s counts) ≡ 1 ∷ 2 ∷ 3 ∷ 4 ∷ 5 ∷ 6 ∷ 7 ∷ 8 ∷ 9 ∷ []
+unfolding numbers blockRules
+c-judge-numbers s counts = refl
+
+pub c-subtotal-numbers : (s : List ℕ) (code : ℕ) (room : List ℕ) → numbers (subtotalRules s code room) ≡ 1 ∷ 2 ∷ 3 ∷ 4 ∷ 5 ∷ 6 ∷ 7 ∷ 8 ∷ 11 ∷ 9 ∷ []
+unfolding numbers blockRules
+c-subtotal-numbers s code room = refl
+
+pub c-figures-numbers : (s room : List ℕ) → numbers (figuresRules s room) ≡ 1 ∷ 2 ∷ 3 ∷ 4 ∷ 5 ∷ 6 ∷ 7 ∷ 8 ∷ 9 ∷ []
+unfolding numbers blockRules
+c-figures-numbers s room = refl
+
+pub c-read-numbers : (s : List ℕ) (rooms : Lists) (counts : List ℕ) → numbers (c-readRules s rooms counts) ≡ 1 ∷ 2 ∷ 3 ∷ 4 ∷ 5 ∷ 6 ∷ 7 ∷ 8 ∷ 9 ∷ []
+unfolding numbers blockRules
+c-read-numbers s rooms counts = refl
+
+pub c-write-numbers : (l : Lists) (room size : List ℕ) → numbers (c-writeRules l room size) ≡ 10 ∷ 5 ∷ 6 ∷ 7 ∷ 8 ∷ 9 ∷ []
+unfolding numbers listRules
+c-write-numbers l room size = refl
+
+-- "0; or 1,000 times the refusal number plus the place": of any list of rules, so of each C function's
+pub code-refused : (rs : List Rule) (n p : ℕ) → Least rs n p → codeOf (ruling rs) ≡ 1000 * n + p
+code-refused rs n p l = ap codeOf (least-ruling l)
+
+pub code-done : (rs : List Rule) → AllKept rs → codeOf (ruling rs) ≡ 0
+code-done rs k = ap codeOf (clean-ruling k)
+
+-- every place is below 1,000, so that a code is one refusal's alone
+pub code-one : (n p m q : ℕ) → p < 1000 → q < 1000 → 1000 * n + p ≡ 1000 * m + q → (n ≡ m) × (p ≡ q)
+code-one n p m q h k e = (omega arith, omega arith)
+
+-- ---- "nothing lent has changed"
+pub c-judge-unchanged : (s counts : List ℕ) (n p : ℕ) → countsAfter s counts (Broken n p) ≡ counts
+c-judge-unchanged s counts n p = refl
+
+pub c-subtotal-unchanged : (s : List ℕ) (code : ℕ) (room : List ℕ) (n p : ℕ) → bitsAfter s code room (Broken n p) ≡ room
+c-subtotal-unchanged s code room n p = refl
+
+pub c-figures-unchanged : (s room : List ℕ) (n p : ℕ) → figuresAfter s room (Broken n p) ≡ room
+c-figures-unchanged s room n p = refl
+
+pub c-read-unchanged : (kind : ℕ) (s room : List ℕ) (n p : ℕ) → rowsAfter kind s room (Broken n p) ≡ room
+c-read-unchanged kind s room n p = refl
+
+pub c-write-unchanged : (l : Lists) (room size : List ℕ) (n p : ℕ) → (blocksAfter l room (Broken n p) ≡ room) × (sizeAfter l size (Broken n p) ≡ size)
+c-write-unchanged l room size n p = (refl, refl)
+
+pub read-unchanged : (kind : ℕ) (s room : List ℕ) (n p : ℕ) → roomAfter kind s room (verdict.Refused n p) ≡ room
+read-unchanged kind s room n p = refl
+
+pub write-unchanged : (l : Lists) (room : List ℕ) (n p : ℕ) → bytesAfter l room (write.Refused n p) ≡ room
+write-unchanged l room n p = refl
+
+pub lines-unchanged : (text room : List ℕ) → textAfter text room Short ≡ room
+lines-unchanged text room = refl
+
+-- ---- "A refusal carries no figures": the text of one is one line, made of the number and the place
+pub refused-text : (s : List ℕ) (n p : ℕ) → outcomeOf s ≡ refusal n p → printed s ≡ refusedLine n p
+refused-text s n p e = ap textOf e
+
+-- and that of an answer is the seventeen lines of the figures
+pub worked-text : (s : List ℕ) (v : Sheets) → outcomeOf s ≡ worked v → printed s ≡ lines51 (v .stocks) ++ lines52 (v .conversion) ++ lines53 (v .gases)
+worked-text s v e = ap textOf e

@@ -1,0 +1,61 @@
+-- The functions themselves: each entry point, as its code is compiled, meets the contract that its source states. What the contracts say is the matter of the other pages.
+use Rattle.judge.proofs.judge.Statement as judge
+use Rattle.judge.proofs.judge.Met as judge-proof
+use Rattle.rows.proofs.read.Statement as read
+use Rattle.rows.proofs.read.Met as read-proof
+use Rattle.rows.proofs.write.Statement as write
+use Rattle.rows.proofs.write.Met as write-proof
+use Rattle.worksheets.proofs.figures.Statement as figures
+use Rattle.worksheets.proofs.figures.Met as figures-proof
+use Rattle.doubles.proofs.subtotals.Statement as subtotals
+use Rattle.doubles.proofs.subtotals.Met as subtotals-proof
+use Rattle.report.proofs.lines.Statement as lines
+use Rattle.report.proofs.lines.Met as lines-proof
+use Rattle.door.proofs.niloferq_judge.Statement as c-judge
+use Rattle.door.proofs.niloferq_judge.Met as c-judge-proof
+use Rattle.door.proofs.niloferq_subtotal.Statement as c-subtotal
+use Rattle.door.proofs.niloferq_subtotal.Met as c-subtotal-proof
+use Rattle.door.proofs.niloferq_lines.Statement as c-lines
+use Rattle.door.proofs.niloferq_lines.Met as c-lines-proof
+use Rattle.door.proofs.niloferq_read.Statement as c-read
+use Rattle.door.proofs.niloferq_read.Met as c-read-proof
+use Rattle.door.proofs.niloferq_write.Statement as c-write
+use Rattle.door.proofs.niloferq_write.Met as c-write-proof
+use Rattle.door.proofs.figures.niloferq_figures.Statement as c-figures
+use Rattle.door.proofs.figures.niloferq_figures.Met as c-figures-proof
+
+pub judge-meets : {M : Type 1} → judge.statement M
+judge-meets = judge-proof.met
+
+pub read-meets : {M : Type 1} → read.statement M
+read-meets = read-proof.met
+
+pub write-meets : {M : Type 1} → write.statement M
+write-meets = write-proof.met
+
+pub figures-meets : {M : Type 1} → figures.statement M
+figures-meets = figures-proof.met
+
+pub subtotals-meets : {M : Type 1} → subtotals.statement M
+subtotals-meets = subtotals-proof.met
+
+pub lines-meets : {M : Type 1} → lines.statement M
+lines-meets = lines-proof.met
+
+pub c-judge-meets : {M : Type 1} → c-judge.statement M
+c-judge-meets = c-judge-proof.met
+
+pub c-subtotal-meets : {M : Type 1} → c-subtotal.statement M
+c-subtotal-meets = c-subtotal-proof.met
+
+pub c-lines-meets : {M : Type 1} → c-lines.statement M
+c-lines-meets = c-lines-proof.met
+
+pub c-read-meets : {M : Type 1} → c-read.statement M
+c-read-meets = c-read-proof.met
+
+pub c-write-meets : {M : Type 1} → c-write.statement M
+c-write-meets = c-write-proof.met
+
+pub c-figures-meets : {M : Type 1} → c-figures.statement M
+c-figures-meets = c-figures-proof.met
