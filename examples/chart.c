@@ -131,11 +131,11 @@ static int refused(uint32_t answer) {
 
 /* Asks the library for the counts, the exact totals and the doubles. The answer is the program's status. */
 static int gather(const uint8_t *bytes, size_t length, struct figures *f) {
-    uint32_t counts[4];
-    uint32_t answer = niloferq_judge(bytes, length, counts, 4);
+    uint32_t counts[NILOFERQ_KINDS];
+    uint32_t answer = niloferq_judge(bytes, length, counts, NILOFERQ_KINDS);
     if (answer) return refused(answer);
     f->n = counts[0];
-    char text[1025]; /* 17 lines of a name and at most 40 characters stay below 1,024 */
+    char text[NILOFERQ_LINES_ROOM + 1]; /* and a zero byte behind them */
     size_t size = niloferq_lines(bytes, length, (uint8_t *)text, sizeof text - 1);
     if (size >= sizeof text) size = 0;
     text[size] = 0;
@@ -307,7 +307,7 @@ static int save(const char *text, size_t size, const char *path, const struct st
 }
 
 int main(int count, char **words) {
-    static uint8_t bytes[5121]; /* one byte more than the longest return, so that a longer file is refused for its length */
+    static uint8_t bytes[NILOFERQ_RETURN_ROOM + 1]; /* one byte more than the longest return, so that a longer file is refused for its length */
     bool check = count > 1 && strcmp(words[1], "--check") == 0;
     if (check ? count != 3 : count != 2 && count != 3) {
         fprintf(stderr, "usage: chart FILE [PICTURE]\n       chart --check FILE\n");

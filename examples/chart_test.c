@@ -18,10 +18,10 @@ static uint32_t subtotal_for_chart(const uint8_t *bytes, size_t length, uint32_t
 #include <dirent.h>
 #include <sys/resource.h>
 
-enum { FIELDS = 15, ROWS = 32, BIGGEST = 5120 };
+enum { FIELDS = NILOFERQ_CONVERSION_NUMBERS, ROWS = NILOFERQ_MOST_ROWS };
 typedef uint32_t row[FIELDS];
 struct bytes {
-    uint8_t b[BIGGEST];
+    uint8_t b[NILOFERQ_RETURN_ROOM];
     size_t length;
 };
 
@@ -59,7 +59,7 @@ static void put(uint8_t *at, uint32_t value, int width) {
 
 static void make(struct bytes *r, row *rows, uint32_t n) {
     static const int widths[FIELDS] = {4, 4, 2, 2, 2, 2, 2, 2, 2, 2, 4, 2, 2, 2, 2};
-    static const uint32_t defaults[6] = {500, 12, 60, 10, 7, 121};
+    static const uint32_t defaults[NILOFERQ_PARAMETERS_NUMBERS] = {500, 12, 60, 10, 7, 121};
     uint32_t blocks = (n + 11) / 12 + 1;
     memset(r->b, 0, sizeof r->b);
     r->length = 512 * blocks;
@@ -75,7 +75,7 @@ static void make(struct bytes *r, row *rows, uint32_t n) {
         for (uint32_t i = 0; i < count; i++) {
             uint8_t *at = block + 8 + 40 * i;
             if (last)
-                for (int k = 0; k < 6; k++) put(at + 4 + 2 * k, defaults[k], 2);
+                for (int k = 0; k < NILOFERQ_PARAMETERS_NUMBERS; k++) put(at + 4 + 2 * k, defaults[k], 2);
             else
                 for (int k = 0; k < FIELDS; at += widths[k++]) put(at, rows[12 * b + i][k], widths[k]);
         }

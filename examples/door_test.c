@@ -1,5 +1,5 @@
-/* Tries what the header says of areas of length 0, NULL among their pointers, each function on the worked day, reading into rooms that
- * are too short by one, and writing lists with a fault of each kind. */
+/* Tries what the header says: areas of length 0, NULL among their pointers; each function on the worked day; reading into rooms of every
+ * length; and writing rows with a fault of each kind. */
 #include "niloferq.h"
 #include <stdio.h>
 #include <string.h>
@@ -33,22 +33,24 @@ static void empty_areas(const uint8_t *day, size_t length) {
 }
 
 static void day_figures(const uint8_t *day, size_t length) {
-    static const uint64_t due[17] = {340000000, 775000, 36000000, 41500000, 20750000000, 13250000000, 48583, 48583, 32400000000000,
-        16200000000000, 48600000000000, 40500000000000, 326700, 518, 4536, 4, 129};
-    uint64_t room[53];
-    for (int i = 0; i < 53; i++) room[i] = 7;
-    must(niloferq_figures(day, length, room, 50) == 9000 && room[0] == 7 && room[49] == 7, "figures: room of 50");
-    must(niloferq_figures(day, length, room, 53) == 0 && room[51] == 7 && room[52] == 7, "the day's figures");
-    for (int i = 0; i < 17; i++) /* only the report is below zero */
+    enum { ROOM = NILOFERQ_FIGURES_ROOM };
+    static const uint64_t due[NILOFERQ_FIGURES] = {340000000, 775000, 36000000, 41500000, 20750000000, 13250000000, 48583, 48583,
+        32400000000000, 16200000000000, 48600000000000, 40500000000000, 326700, 518, 4536, 4, 129};
+    uint64_t room[ROOM + 2];
+    for (int i = 0; i < ROOM + 2; i++) room[i] = 7;
+    must(niloferq_figures(day, length, room, ROOM - 1) == 9000 && room[0] == 7 && room[ROOM - 2] == 7, "figures: room too short by one");
+    must(niloferq_figures(day, length, room, ROOM + 2) == 0 && room[ROOM] == 7 && room[ROOM + 1] == 7, "the day's figures");
+    for (int i = 0; i < NILOFERQ_FIGURES; i++) /* only the report is below zero */
         must(room[3 * i] == (i == 7) && room[3 * i + 1] == 0 && room[3 * i + 2] == due[i], "a figure's sign and words");
 }
 
 static void day_itself(const uint8_t *day, size_t length) {
     static const char first[] = "E 340000000\nK 775000\nL 36000000\n", last[] = "n2o 4\nnox 129\n";
     static const double due[3] = {32400000000000.0, 16200000000000.0, 40500000000000.0};
-    uint32_t counts[4];
-    uint8_t text[850];
-    must(niloferq_judge(day, length, counts, 4) == 0 && counts[0] == 1 && counts[1] == 1 && counts[2] == 1 && counts[3] == 1, "the day's counts");
+    uint32_t counts[NILOFERQ_KINDS] = {0};
+    uint8_t text[NILOFERQ_LINES_ROOM];
+    must(niloferq_judge(day, length, counts, NILOFERQ_KINDS) == 0, "the day is accepted");
+    for (int kind = 0; kind < NILOFERQ_KINDS; kind++) must(counts[kind] == 1, "the day's counts");
     size_t n = niloferq_lines(day, length, text, sizeof text);
     must(n > sizeof first + sizeof last, "the day's text");
     must(memcmp(text, first, sizeof first - 1) == 0 && memcmp(text + n - (sizeof last - 1), last, sizeof last - 1) == 0, "its first and last lines");
@@ -61,172 +63,262 @@ static void day_itself(const uint8_t *day, size_t length) {
     }
 }
 
-/* The worked day's rows, and the lengths of its lists. */
-enum { KINDS = 4, SPARE = 3 };
+/* Elements and bytes behind what is lent, which must keep their values. */
+enum { SPARE = 3 };
 static const uint32_t UNTOUCHED = 0xdeadbeef;
-static const size_t LENGTHS[KINDS] = {15, 5, 5, 6};
-static const uint32_t DAY[KINDS][15] = {
-    {7, 200, 1000, 100, 400, 900, 500, 200, 900, 500, 300, 1000, 100, 300, 500},
-    {1, 0, 680, 1000, 500},
-    {1, 500, 950, 300, 0},
-    {500, 12, 60, 10, 7, 121},
+
+/* A line for each kind: the numbers in a row, the most rows, and the worked day's row. */
+static const struct {
+    uint32_t numbers, most;
+    uint32_t day[NILOFERQ_CONVERSION_NUMBERS];
+} KINDS[NILOFERQ_KINDS] = {
+    {NILOFERQ_CONVERSION_NUMBERS, NILOFERQ_MOST_ROWS, {7, 200, 1000, 100, 400, 900, 500, 200, 900, 500, 300, 1000, 100, 300, 500}},
+    {NILOFERQ_STOCK_NUMBERS, NILOFERQ_MOST_ROWS, {1, 0, 680, 1000, 500}},
+    {NILOFERQ_HARVEST_NUMBERS, NILOFERQ_MOST_ROWS, {1, 500, 950, 300, 0}},
+    {NILOFERQ_PARAMETERS_NUMBERS, 1, {500, 12, 60, 10, 7, 121}},
+};
+enum { CONVERSION, STOCK, HARVEST, PARAMETERS };
+
+/* Rows as they lie in lent memory, with room for a row too many. */
+struct rows {
+    uint32_t area[NILOFERQ_ROWS_ROOM + NILOFERQ_CONVERSION_NUMBERS];
+    size_t area_len;
+    uint32_t lengths[NILOFERQ_KINDS + 1];
+    size_t lengths_len;
 };
 
-/* Four rooms for rows, one for the counts, and how much of each is lent. */
-struct rooms {
-    uint32_t of[KINDS + 1][15 + SPARE];
-    size_t lent[KINDS + 1];
-};
-
-static struct rooms day_rooms(void) {
-    struct rooms r;
-    for (int kind = 0; kind <= KINDS; kind++) {
-        r.lent[kind] = kind < KINDS ? LENGTHS[kind] : 4;
-        for (size_t i = 0; i < 15 + SPARE; i++) r.of[kind][i] = UNTOUCHED;
+/* The day's rows, of each kind so many; copies have rising ids, but for parameters, which have none. */
+static void fill_rows(struct rows *r, const uint32_t counts[NILOFERQ_KINDS]) {
+    memset(r, 0, sizeof *r);
+    r->lengths_len = NILOFERQ_KINDS;
+    for (int kind = 0; kind < NILOFERQ_KINDS; kind++) {
+        for (uint32_t i = 0; i < counts[kind]; i++) {
+            uint32_t *row = r->area + r->area_len;
+            memcpy(row, KINDS[kind].day, 4 * KINDS[kind].numbers);
+            if (kind != PARAMETERS) row[0] += i;
+            r->area_len += KINDS[kind].numbers;
+        }
+        r->lengths[kind] = KINDS[kind].numbers * counts[kind];
     }
-    return r;
 }
 
-static uint32_t read_into(const uint8_t *bytes, size_t length, struct rooms *r) {
-    return niloferq_read(bytes, length, r->of[0], r->lent[0], r->of[1], r->lent[1], r->of[2], r->lent[2], r->of[3], r->lent[3], r->of[4], r->lent[4]);
+/* A kind's row in the area, by the lengths. */
+static uint32_t *row_of(struct rows *r, int kind, uint32_t row) {
+    uint32_t *at = r->area + KINDS[kind].numbers * row;
+    while (kind > 0) at += r->lengths[--kind];
+    return at;
 }
 
-/* From an element on, a room has not changed. */
-static int untouched_from(const struct rooms *r, int kind, size_t from) {
-    for (size_t i = from; i < 15 + SPARE; i++)
-        if (r->of[kind][i] != UNTOUCHED) return 0;
-    return 1;
+static const uint32_t ONE_EACH[NILOFERQ_KINDS] = {1, 1, 1, 1};
+static const uint32_t FULL[NILOFERQ_KINDS] = {NILOFERQ_MOST_ROWS, NILOFERQ_MOST_ROWS, NILOFERQ_MOST_ROWS, 1};
+
+/* The answer due of a good return's rooms: the counts' first, then the lowest kind whose rows end behind the area. */
+static uint32_t due_of(const struct rows *r, size_t rows_len, size_t counts_len) {
+    size_t end = 0;
+    if (counts_len < NILOFERQ_KINDS) return 9000;
+    for (uint32_t kind = 0; kind < NILOFERQ_KINDS; kind++)
+        if ((end += r->lengths[kind]) > rows_len) return 9001 + kind;
+    return 0;
 }
 
-static int untouched(const struct rooms *r) {
-    int all = 1;
-    for (int kind = 0; kind <= KINDS; kind++) all &= untouched_from(r, kind, 0);
-    return all;
+/* Reads a return of these rows into rooms of these lengths. */
+static void read_into(const uint8_t *bytes, size_t length, const struct rows *r, size_t rows_len, size_t counts_len, const char *what) {
+    static uint32_t rows[NILOFERQ_ROWS_ROOM + SPARE], counts[NILOFERQ_KINDS + SPARE];
+    int good = 1, rows_due = 0, counts_due = 0;
+    for (int i = 0; i < NILOFERQ_ROWS_ROOM + SPARE; i++) rows[i] = UNTOUCHED;
+    for (int i = 0; i < NILOFERQ_KINDS + SPARE; i++) counts[i] = UNTOUCHED;
+    must(niloferq_read(bytes, length - 1, rows, rows_len, counts, counts_len) == 1000, "read: the bytes come before the rooms");
+    uint32_t due = due_of(r, rows_len, counts_len);
+    must(niloferq_read(bytes, length, rows, rows_len, counts, counts_len) == due, what);
+    if (due == 0) rows_due = (int)r->area_len, counts_due = NILOFERQ_KINDS;
+    for (int i = 0; i < NILOFERQ_ROWS_ROOM + SPARE; i++) good &= rows[i] == (i < rows_due ? r->area[i] : UNTOUCHED);
+    for (int i = 0; i < NILOFERQ_KINDS + SPARE; i++) good &= counts[i] == (i < counts_due ? r->lengths[i] / KINDS[i].numbers : UNTOUCHED);
+    must(good, due == 0 ? "read: rows and counts, and the elements behind them" : "read: a refusal changes nothing");
 }
 
 static void reading(const uint8_t *day, size_t length) {
-    struct rooms r = day_rooms();
-    for (int kind = 0; kind <= KINDS; kind++) r.lent[kind] += kind % 2 ? SPARE : 0; /* some rooms exact, some longer */
-    must(read_into(day, length, &r) == 0, "read: the day");
-    for (int kind = 0; kind < KINDS; kind++) {
-        must(memcmp(r.of[kind], DAY[kind], 4 * LENGTHS[kind]) == 0, "its rows");
-        must(untouched_from(&r, kind, LENGTHS[kind]), "elements behind its rows");
-        must(r.of[KINDS][kind] == 1, "its counts");
-    }
-    must(untouched_from(&r, KINDS, 4), "elements behind the counts");
+    static struct rows r;
+    static uint8_t full[NILOFERQ_RETURN_ROOM];
+    uint32_t size, counts[NILOFERQ_KINDS] = {UNTOUCHED};
+    fill_rows(&r, ONE_EACH);
+    for (size_t counts_len = 0; counts_len <= NILOFERQ_KINDS + SPARE; counts_len++)
+        for (size_t rows_len = 0; rows_len <= r.area_len + SPARE; rows_len++)
+            read_into(day, length, &r, rows_len, counts_len, "read: the day into rooms of every length");
+    /* by hand: the day's rows end at 15, 20, 25 and 31 */
+    must(due_of(&r, 31, 4) == 0 && due_of(&r, 30, 4) == 9004 && due_of(&r, 25, 4) == 9004 && due_of(&r, 24, 4) == 9003, "the places due");
+    must(due_of(&r, 19, 4) == 9002 && due_of(&r, 15, 4) == 9002 && due_of(&r, 14, 4) == 9001 && due_of(&r, 14, 3) == 9000, "the places due");
 
-    /* a room too short by one: kinds 1 to 4 are places 1 to 4, the counts place 0; the lowest place first */
-    for (int kind = 0; kind <= KINDS; kind++) {
-        uint32_t place = kind < KINDS ? (uint32_t)kind + 1 : 0;
-        r = day_rooms();
-        r.lent[kind]--;
-        must(read_into(day, length, &r) == 9000 + place && untouched(&r), "read: one room too short by one");
-        for (uint32_t later = place; later < KINDS; later++) r.lent[later] = 0; /* room i of the rows has place i + 1 */
-        must(read_into(day, length, &r) == 9000 + place && untouched(&r), "read: rooms of higher places shorter too");
-        must(read_into(day, length - 1, &r) == 1000 && untouched(&r), "read: the bytes come before the rooms");
+    fill_rows(&r, FULL);
+    must(r.area_len == NILOFERQ_ROWS_ROOM, "the room for the rows of a full return");
+    uint32_t answer = niloferq_write(r.area, r.area_len, r.lengths, NILOFERQ_KINDS, full, sizeof full, &size, 1);
+    must(answer == 0 && size == sizeof full, "write: a full return, to be read");
+    read_into(full, sizeof full, &r, NILOFERQ_ROWS_ROOM + SPARE, NILOFERQ_KINDS, "read: a full return");
+    for (size_t end = 0, kind = 0; kind < NILOFERQ_KINDS; kind++) {
+        end += r.lengths[kind];
+        read_into(full, sizeof full, &r, end - 1, NILOFERQ_KINDS, "read: a full return, up to a kind's last row but for one element");
+        read_into(full, sizeof full, &r, end, NILOFERQ_KINDS, "read: a full return, up to a kind's last row");
     }
-    r = day_rooms();
-    must(niloferq_read(NULL, 0, NULL, 0, NULL, 0, NULL, 0, NULL, 0, NULL, 0) == 1000, "read: NULL everywhere");
-    must(niloferq_read(day, length, NULL, 0, NULL, 0, NULL, 0, NULL, 0, NULL, 0) == 9000, "read: a good return and no rooms, NULL");
-    must(niloferq_read(day, length, NULL, 0, NULL, 0, NULL, 0, NULL, 0, r.of[4], 4) == 9001 && untouched(&r), "read: only the counts' room");
+
+    must(niloferq_read(NULL, 0, NULL, 0, NULL, 0) == 1000, "read: NULL everywhere");
+    must(niloferq_read(day, length, NULL, 0, NULL, 0) == 9000, "read: a good return and no rooms, NULL");
+    must(niloferq_read(day, length, NULL, 0, counts, NILOFERQ_KINDS) == 9001 && counts[0] == UNTOUCHED, "read: only the counts' room");
 }
 
-/* Four lists of up to 33 rows, and a room for their return. */
-struct sheet {
-    uint32_t list[KINDS][33 * 15];
-    size_t length[KINDS];
-    uint8_t room[5120 + SPARE];
-    uint32_t size[2];
-};
+static uint8_t room[NILOFERQ_RETURN_ROOM + SPARE];
+static uint32_t sizes[1 + SPARE];
 
-/* The day's rows; conversion, stock and harvest rows are then copied, with rising ids, up to `rows` of them. */
-static void fill_sheet(struct sheet *s, size_t rows) {
-    for (int kind = 0; kind < KINDS; kind++) {
-        size_t width = LENGTHS[kind], n = kind < 3 ? rows : 1;
-        for (size_t row = 0; row < n; row++) {
-            memcpy(s->list[kind] + width * row, DAY[kind], 4 * width);
-            if (kind < 3) s->list[kind][width * row] += (uint32_t)row;
-        }
-        s->length[kind] = width * n;
-    }
-    memset(s->room, 0xee, sizeof s->room);
-    s->size[0] = s->size[1] = UNTOUCHED;
+/* Writes these rows; rows and lengths must stay as they are, and so must the room and the size behind what is due. */
+static uint32_t write_rows(const struct rows *r, size_t room_len, size_t size_len, size_t due) {
+    static struct rows lent;
+    int good = 1;
+    lent = *r;
+    memset(room, 0xee, sizeof room);
+    for (int i = 0; i < 1 + SPARE; i++) sizes[i] = UNTOUCHED;
+    uint32_t answer = niloferq_write(lent.area, lent.area_len, lent.lengths, lent.lengths_len, room, room_len, sizes, size_len);
+    must(memcmp(lent.area, r->area, sizeof r->area) == 0, "write: the rows are only read");
+    must(memcmp(lent.lengths, r->lengths, sizeof r->lengths) == 0, "write: the lengths are only read");
+    for (size_t i = due; i < sizeof room; i++) good &= room[i] == 0xee;
+    for (int i = due != 0; i < 1 + SPARE; i++) good &= sizes[i] == UNTOUCHED;
+    must(good, due ? "write: what stands behind the blocks and the size" : "write: a refusal changes nothing");
+    return answer;
 }
 
-static uint32_t write_sheet(struct sheet *s, size_t room_len, size_t size_len) {
-    return niloferq_write(s->list[0], s->length[0], s->list[1], s->length[1], s->list[2], s->length[2], s->list[3], s->length[3], s->room, room_len, s->size, size_len);
+static void must_write(const struct rows *r, size_t room_len, size_t size_len, size_t due, const char *what) {
+    must(write_rows(r, room_len, size_len, due) == 0 && sizes[0] == due, what);
 }
 
 /* Refused by this answer, also with no room at all for a rule before 9, and nothing has changed. */
-static void must_refuse(struct sheet *s, size_t room_len, size_t size_len, uint32_t answer, const char *what) {
-    static uint8_t before[5120 + SPARE];
-    memset(before, 0xee, sizeof before);
-    must(write_sheet(s, room_len, size_len) == answer, what);
-    if (answer != 9000) {
-        must(write_sheet(s, 0, size_len) == answer, what);
-        must(write_sheet(s, room_len, 0) == answer, what);
-    }
-    must(memcmp(s->room, before, sizeof before) == 0 && s->size[0] == UNTOUCHED && s->size[1] == UNTOUCHED, what);
+static void must_refuse(const struct rows *r, size_t room_len, size_t size_len, uint32_t answer, const char *what) {
+    must(write_rows(r, room_len, size_len, 0) == answer, what);
+    if (answer == 9000) return;
+    must(write_rows(r, 0, size_len, 0) == answer, what);
+    must(write_rows(r, room_len, 0, 0) == answer, what);
 }
 
 static void writing(const uint8_t *day, size_t length) {
-    static struct sheet s;
-    fill_sheet(&s, 1);
-    must(write_sheet(&s, length, 1) == 0 && s.size[0] == length && s.size[1] == UNTOUCHED, "write: the day, its size");
-    must(memcmp(s.room, day, length) == 0, "its bytes");
-    must(s.room[length] == 0xee, "the byte behind them");
+    static struct rows r;
+    fill_rows(&r, ONE_EACH);
+    must_write(&r, length, 1, length, "write: the day");
+    must(memcmp(room, day, length) == 0, "its bytes");
+    must_write(&r, length + SPARE, 1 + SPARE, length, "write: the day, longer rooms");
+    fill_rows(&r, FULL);
+    must_write(&r, NILOFERQ_RETURN_ROOM, 1, NILOFERQ_RETURN_ROOM, "write: a full return");
+    uint32_t counts[NILOFERQ_KINDS];
+    must(niloferq_judge(room, NILOFERQ_RETURN_ROOM, counts, NILOFERQ_KINDS) == 0, "and it is accepted");
+    must(memcmp(counts, FULL, sizeof counts) == 0, "with its counts");
+    static const uint32_t alone[NILOFERQ_KINDS] = {0, 0, 0, 1};
+    fill_rows(&r, alone);
+    must_write(&r, 512, 1, 512, "write: the parameters alone");
 
-    fill_sheet(&s, 32);
-    must(write_sheet(&s, 5120 + SPARE, 2) == 0 && s.size[0] == 5120 && s.size[1] == UNTOUCHED, "write: 32 rows of each kind");
-    must(s.room[5120] == 0xee && niloferq_judge(s.room, 5120, s.list[0], 4) == 0 && s.list[0][0] == 32, "and they are accepted");
+    fill_rows(&r, ONE_EACH);
+    must_refuse(&r, length - 1, 1, 9000, "write: room too short by one");
+    must_refuse(&r, length, 0, 9000, "write: no room for the size");
+    must_refuse(&r, 0, 0, 9000, "write: no room at all");
+    must(niloferq_write(r.area, r.area_len, r.lengths, NILOFERQ_KINDS, NULL, 0, NULL, 0) == 9000, "write: no rooms, NULL");
+    memset(r.lengths, 0, sizeof r.lengths);
+    must(niloferq_write(NULL, 0, r.lengths, NILOFERQ_KINDS, NULL, 0, NULL, 0) == 10004, "write: no rows, NULL");
+    must(niloferq_write(NULL, 0, NULL, 0, NULL, 0, NULL, 0) == 10000, "write: NULL everywhere");
+}
 
-    fill_sheet(&s, 1);
-    must_refuse(&s, length - 1, 1, 9000, "write: room too short by one");
-    must_refuse(&s, length, 0, 9000, "write: no room for the size");
-    must_refuse(&s, 0, 0, 9000, "write: no room at all");
-    must(niloferq_write(s.list[0], 15, NULL, 0, NULL, 0, s.list[3], 6, NULL, 0, NULL, 0) == 9000, "write: no rooms, NULL");
-    must(niloferq_write(NULL, 0, NULL, 0, NULL, 0, s.list[3], 6, s.room, 512, s.size, 1) == 0 && s.size[0] == 512, "write: the parameters alone, NULL for the others");
-    must(niloferq_write(NULL, 0, NULL, 0, NULL, 0, NULL, 0, NULL, 0, NULL, 0) == 10004, "write: NULL everywhere");
+/* Number 10 at place 0. */
+static void adding_up(void) {
+    static struct rows r;
+    fill_rows(&r, ONE_EACH);
+    row_of(&r, CONVERSION, 0)[1] = 1000001; /* a limit as well: 10 comes first */
+    for (r.lengths_len = 0; r.lengths_len <= NILOFERQ_KINDS + 1; r.lengths_len++)
+        if (r.lengths_len != NILOFERQ_KINDS) must_refuse(&r, sizeof room, 1, 10000, "write: not a length for each kind");
+    r.lengths_len = NILOFERQ_KINDS - 1;
+    r.lengths[HARVEST] += r.lengths[PARAMETERS];
+    must_refuse(&r, sizeof room, 1, 10000, "write: three lengths that add up");
 
-    for (int kind = 0; kind < KINDS; kind++) {
-        fill_sheet(&s, 1);
-        s.length[kind]--;
-        s.list[0][1] = 1000001; /* a limit as well: 10 comes first */
-        must_refuse(&s, length, 1, 10001 + (uint32_t)kind, "write: a list that is no whole number of rows");
+    for (int kind = 0; kind < NILOFERQ_KINDS; kind++) {
+        fill_rows(&r, ONE_EACH);
+        r.lengths[kind]--;
+        must_refuse(&r, sizeof room, 1, 10000, "write: a length less by one");
+        r.lengths[kind] += 2;
+        must_refuse(&r, sizeof room, 1, 10000, "write: a length more by one");
+        r.lengths[kind] += KINDS[kind].numbers - 1;
+        must_refuse(&r, sizeof room, 1, 10000, "write: a length more by a row");
+        r.lengths[kind] = 0;
+        must_refuse(&r, sizeof room, 1, 10000, "write: a length of zero too little");
+        for (int other = 0; other < NILOFERQ_KINDS; other++) {
+            if (other == kind) continue;
+            uint32_t moved = KINDS[kind].numbers + KINDS[other].numbers; /* more than the other has: it goes below zero */
+            fill_rows(&r, ONE_EACH);
+            r.lengths[kind] += moved;
+            r.lengths[other] -= moved;
+            must_refuse(&r, sizeof room, 1, 10000, "write: a sum that is right only in 32 bits");
+            fill_rows(&r, ONE_EACH);
+            r.lengths[kind] += 0x80000000;
+            r.lengths[other] += 0x80000000;
+            must_refuse(&r, sizeof room, 1, 10000, "write: two halves of 2^32 more");
+        }
     }
-    for (int kind = 0; kind < 3; kind++) {
-        fill_sheet(&s, 33);
-        for (int other = 0; other < kind; other++) s.length[other] = 0;
-        must_refuse(&s, 5120, 1, 10001 + (uint32_t)kind, "write: 33 rows");
-    }
-    fill_sheet(&s, 1);
-    memcpy(s.list[3] + 6, DAY[3], 24);
-    s.length[3] = 12;
-    must_refuse(&s, length, 1, 10004, "write: two rows of parameters");
+    fill_rows(&r, ONE_EACH);
+    for (int kind = 0; kind < NILOFERQ_KINDS; kind++) r.lengths[kind] += 0x40000000;
+    must_refuse(&r, sizeof room, 1, 10000, "write: four quarters of 2^32 more");
+    fill_rows(&r, ONE_EACH);
+    r.area_len++;
+    must_refuse(&r, sizeof room, 1, 10000, "write: an area longer than its lengths");
+    r.area_len -= 2;
+    must_refuse(&r, sizeof room, 1, 10000, "write: an area shorter than its lengths");
+    r.area_len = 0;
+    must_refuse(&r, sizeof room, 1, 10000, "write: no area");
+}
 
-    /* 13 rows of each kind take two blocks each, so stock begins at place 24 and harvest at place 48 */
-    fill_sheet(&s, 13);
-    s.list[1][5 * 12] = s.list[1][5 * 11];
-    s.list[0][15 * 12 + 1] = 1000001; /* 5 comes before 6 */
-    must_refuse(&s, 5120, 1, 5024 + 12, "write: an id not above the one before");
-    fill_sheet(&s, 13);
-    s.list[2][5 * 12 + 4] = 10000001;
-    s.list[0][4] = 501; /* 6 comes before 7 */
-    must_refuse(&s, 5120, 1, 6048 + 12, "write: a field above its limit");
-    fill_sheet(&s, 13);
-    s.list[3][5] = 65536; /* its two bytes would be 0 */
-    must_refuse(&s, 5120, 1, 6072, "write: a field that its width has no room for");
-    fill_sheet(&s, 13);
-    s.list[0][15 * 12 + 4] = 501;
-    s.list[0][3] = 1001; /* 7 comes before 8 */
-    must_refuse(&s, 5120, 1, 7012, "write: fractions above 1,000");
-    fill_sheet(&s, 13);
-    s.list[0][15 * 11 + 12] = 1001;
-    must_refuse(&s, 5120, 1, 8011, "write: after above before");
+/* Number 10 at a kind. */
+static void lengths_of_kinds(void) {
+    static struct rows r;
+    for (int kind = 0; kind < NILOFERQ_KINDS; kind++) {
+        uint32_t counts[NILOFERQ_KINDS] = {1, 1, 1, 1};
+        fill_rows(&r, counts);
+        row_of(&r, CONVERSION, 0)[1] = 1000001; /* a limit as well: 10 comes first */
+        r.lengths[kind]--, r.area_len--;
+        must_refuse(&r, sizeof room, 1, 10001 + (uint32_t)kind, "write: a row less one element");
+        r.lengths[kind] += 2, r.area_len += 2;
+        must_refuse(&r, sizeof room, 1, 10001 + (uint32_t)kind, "write: a row and one element");
+        counts[kind] = KINDS[kind].most + 1;
+        fill_rows(&r, counts);
+        must_refuse(&r, sizeof room, 1, 10001 + (uint32_t)kind, "write: a row too many");
+        counts[PARAMETERS] = 0;
+        fill_rows(&r, counts);
+        must_refuse(&r, sizeof room, 1, 10001 + (uint32_t)kind, "write: no parameters, and the lowest kind at fault");
+    }
+    static const uint32_t none[NILOFERQ_KINDS] = {0, 0, 0, 0}, two[NILOFERQ_KINDS] = {0, 0, 0, 2};
+    fill_rows(&r, none);
+    must_refuse(&r, sizeof room, 1, 10004, "write: no rows at all");
+    fill_rows(&r, two);
+    must_refuse(&r, sizeof room, 1, 10004, "write: two rows of parameters");
+}
+
+/* Numbers 5 to 8. 13 rows of a kind take two blocks, so stock begins at place 24, harvest at 48, the parameters at 72. */
+static void rules(void) {
+    static struct rows r;
+    static const uint32_t thirteen[NILOFERQ_KINDS] = {13, 13, 13, 1};
+    fill_rows(&r, thirteen);
+    row_of(&r, STOCK, 12)[0] = row_of(&r, STOCK, 11)[0];
+    row_of(&r, CONVERSION, 12)[1] = 1000001; /* 5 comes before 6 */
+    must_refuse(&r, sizeof room, 1, 5024 + 12, "write: an id not above the one before");
+    fill_rows(&r, thirteen);
+    row_of(&r, HARVEST, 12)[4] = 10000001;
+    row_of(&r, CONVERSION, 0)[4] = 501; /* 6 comes before 7 */
+    must_refuse(&r, sizeof room, 1, 6048 + 12, "write: a field above its limit");
+    fill_rows(&r, thirteen);
+    row_of(&r, PARAMETERS, 0)[5] = 65536; /* its two bytes would be 0 */
+    must_refuse(&r, sizeof room, 1, 6072, "write: a field that its two bytes have no room for");
+    row_of(&r, STOCK, 1)[1] = 256; /* its byte would be 0 */
+    must_refuse(&r, sizeof room, 1, 6025, "write: a unit code that its byte has no room for");
+    fill_rows(&r, thirteen);
+    row_of(&r, CONVERSION, 12)[4] = 501;
+    row_of(&r, CONVERSION, 0)[3] = 1001; /* 7 comes before 8 */
+    must_refuse(&r, sizeof room, 1, 7012, "write: fractions above 1,000");
+    fill_rows(&r, thirteen);
+    row_of(&r, CONVERSION, 11)[12] = 1001;
+    must_refuse(&r, sizeof room, 1, 8011, "write: after above before");
 }
 
 int main(int count, char **words) {
-    static uint8_t day[5121];
+    static uint8_t day[NILOFERQ_RETURN_ROOM + 1];
     FILE *file = count == 2 ? fopen(words[1], "rb") : NULL;
     if (!file) {
         fprintf(stderr, "usage: door_test DAY.RETURN\n");
@@ -238,6 +330,9 @@ int main(int count, char **words) {
     day_itself(day, length);
     reading(day, length);
     writing(day, length);
+    adding_up();
+    lengths_of_kinds();
+    rules();
     day_figures(day, length);
     printf("door: %u tried, %u wrong\n", tried, wrong);
     return wrong != 0;

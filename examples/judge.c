@@ -5,7 +5,7 @@
 #include <string.h>
 
 /* one byte more than the longest return, so that a longer file is refused for its length */
-static uint8_t bytes[5121];
+static uint8_t bytes[NILOFERQ_RETURN_ROOM + 1];
 
 int main(int count, char **words) {
     if (count != 2) {
@@ -23,8 +23,8 @@ int main(int count, char **words) {
         return 2;
     }
     fclose(file);
-    uint32_t counts[4];
-    uint32_t answer = niloferq_judge(bytes, length, counts, 4);
+    uint32_t counts[NILOFERQ_KINDS];
+    uint32_t answer = niloferq_judge(bytes, length, counts, NILOFERQ_KINDS);
     if (answer != 0) {
         printf("refused %u %u\n", answer / 1000, answer % 1000);
         return 1;

@@ -2,7 +2,8 @@
 //!
 //! It is looked for in the folder named by NILOFERQ_LIB, or else in
 //! `../target/staticlib` beside this package. Without it the library and its
-//! unit tests still build; the programs that need it stop with a message.
+//! unit tests still build; the programs that need it stop with a message. An
+//! empty name says that it is not wanted, for the unit tests alone.
 //!
 //! The object file named by NILOFERQ_PLAIN, plain_returns.c compiled, goes into
 //! the benchmark; without it the lines against C are left out.
@@ -20,6 +21,10 @@ fn main() {
         PathBuf::from(env::var_os("CARGO_MANIFEST_DIR").expect("cargo names the package"));
     // `join` keeps an absolute NILOFERQ_LIB as it is.
     let folder = match env::var_os("NILOFERQ_LIB") {
+        Some(named) if named.is_empty() => {
+            println!("cargo:rustc-cfg=door_missing");
+            return;
+        }
         Some(named) => package.join(named),
         None => package.join("../target/staticlib"),
     };

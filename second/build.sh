@@ -7,6 +7,10 @@ comparisons="compare_lines compare_rows compare_doubles compare compare_sheets f
 
 . tools/machine.sh
 
+# the compiler that has a standard library for both processors, where two are needed
+second_rustc=rustc
+[ "$(uname -m)" = x86_64 ] || second_rustc=/usr/bin/rustc
+
 second_build() {
     local door=$PWD/target/staticlib target=x86_64-unknown-linux-gnu
     mkdir -p target
@@ -25,7 +29,7 @@ second_build() {
     # Debian's rustc has a standard library for x86-64 beside its own
     [ -d "/usr/lib/rustlib/$target" ] || machine_install rustc-web libstd-rust-web-dev:amd64
     command -v cargo >/dev/null || machine_install cargo-web
-    (cd second && NILOFERQ_LIB=$door RUSTC=/usr/bin/rustc CARGO_TARGET_X86_64_UNKNOWN_LINUX_GNU_LINKER=$machine_cc \
+    (cd second && NILOFERQ_LIB=$door RUSTC=$second_rustc CARGO_TARGET_X86_64_UNKNOWN_LINUX_GNU_LINKER=$machine_cc \
         cargo build --release --quiet --features "$second_features" --target "$target")
     second_folder=second/target/$target/release
 }
@@ -34,6 +38,11 @@ second_run() { # PROGRAM [ARGUMENT..]
     local program=$1
     shift
     NILOFERQ_SHEETS=$PWD/target/bin/sheets NILOFERQ_RUNNER=$machine_runner $machine_runner "$second_folder/$program" "$@"
+}
+
+# The second program's own tests. They need no library, so they are built for this processor and run without an emulator.
+second_test() {
+    (cd second && NILOFERQ_LIB= RUSTC=$second_rustc cargo test --lib --quiet)
 }
 
 second_build

@@ -130,11 +130,10 @@ uint32_t plain_subtotal(const uint8_t *bytes, size_t length, uint32_t code, doub
     return 0;
 }
 
-/* Rooms that are long enough for any return. */
-uint32_t plain_read(const uint8_t *bytes, size_t length, uint32_t *rooms[4], uint32_t counts[4]) {
+/* Rows of all kinds, kind after kind, as the blocks have them. The room is long enough for any return. */
+uint32_t plain_read(const uint8_t *bytes, size_t length, uint32_t *rows, uint32_t counts[4]) {
     uint32_t answer = plain_judge(bytes, length, counts);
     if (answer) return answer;
-    uint32_t *to[4] = {rooms[0], rooms[1], rooms[2], rooms[3]};
     for (uint32_t b = 0; 512 * b < length; b++) {
         uint32_t kind = bytes[512 * b];
         for (uint32_t r = 0; r < bytes[512 * b + 1]; r++) {
@@ -142,7 +141,7 @@ uint32_t plain_read(const uint8_t *bytes, size_t length, uint32_t *rooms[4], uin
             for (uint32_t i = 0; i < kinds[kind].count; i++) {
                 const struct field *f = &kinds[kind].fields[i];
                 p += f->zeros;
-                *to[kind - 1]++ = number(p, f->width);
+                *rows++ = number(p, f->width);
                 p += f->width;
             }
         }

@@ -3,9 +3,9 @@
 //! damaged inputs to compare all of it with the first program.
 //!
 //! It shares no code and no definition with the first program. The unit tests
-//! (`cargo test --lib`) need nothing else; the comparisons and the benchmark
-//! are linked with the first program's archive (see `build.rs`), each with the
-//! functions it uses and no others.
+//! (`NILOFERQ_LIB= cargo test --lib`) need nothing else; the comparisons and
+//! the benchmark are linked with the first program's archive (see `build.rs`),
+//! each with the functions it uses and no others.
 
 #![deny(unsafe_code)]
 
@@ -19,12 +19,14 @@ pub mod ffi;
 pub mod figures;
 pub mod inputs;
 pub mod judge;
+pub mod kinds;
 pub mod land;
 pub mod lent;
 pub mod make;
 pub mod mix;
 pub mod reader;
 pub mod rng;
+pub mod row_sweeps;
 pub mod rowlists;
 pub mod sheets;
 pub mod spoil;

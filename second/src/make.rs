@@ -49,14 +49,11 @@ pub const AFTER: [usize; 2] = [3, 12];
 /// On-site, off-site and decay: together at most 1,000.
 pub const SUMMED: [usize; 3] = [4, 7, 13];
 
+const RECORDS: [&[Part]; 4] = [&CONVERSION, &STOCK, &HARVEST, &PARAMETERS];
+
 /// The parts of a record of kind 1 to 4, in order; together 40 bytes.
 pub fn parts(kind: u8) -> &'static [Part] {
-    match kind {
-        1 => &CONVERSION,
-        2 => &STOCK,
-        3 => &HARVEST,
-        _ => &PARAMETERS,
-    }
+    RECORDS[usize::from(kind) - 1]
 }
 
 /// Width and limit of each field of a kind, in row order.
@@ -65,6 +62,33 @@ pub fn fields(kind: u8) -> impl Iterator<Item = (usize, u32)> {
         Part::Field { width, limit } => Some((width, limit)),
         Part::Zero(_) => None,
     })
+}
+
+/// How many fields of all kinds have a limit: every one but the ids.
+pub const LIMITED: usize = {
+    let (mut limited, mut kind) = (0, 0);
+    while kind < RECORDS.len() {
+        let mut part = 0;
+        while part < RECORDS[kind].len() {
+            if let Part::Field { limit, .. } = RECORDS[kind][part] {
+                limited += (limit < u32::MAX) as usize;
+            }
+            part += 1;
+        }
+        kind += 1;
+    }
+    limited
+};
+
+/// The kind of the `nth` field with a limit, and its position in the row.
+pub fn limited(nth: usize) -> (u8, usize) {
+    let of_kind = |kind| {
+        let fields = fields(kind).enumerate();
+        let limited = fields.filter(|(_, (_, limit))| *limit < u32::MAX);
+        limited.map(move |(position, _)| (kind, position))
+    };
+    let mut all = (1..=RECORDS.len() as u8).flat_map(of_kind);
+    all.nth(nth).expect("so many fields have a limit")
 }
 
 /// Where zero is due in a block of this kind and count, in order: each area of
@@ -115,6 +139,16 @@ impl Rows {
             3 => &mut self.harvest[row],
             _ => &mut self.parameters[row],
         }
+    }
+
+    /// Each kind's rows, one row's numbers after the other's.
+    pub fn lists(&self) -> [Vec<u32>; RECORDS.len()] {
+        [
+            self.conversion.concat(),
+            self.stock.concat(),
+            self.harvest.concat(),
+            self.parameters.concat(),
+        ]
     }
 
     /// The return of these rows, with right headers and checks.
@@ -301,6 +335,16 @@ mod tests {
             };
             assert_eq!(parts(kind).iter().map(width).sum::<usize>(), 40);
         }
+    }
+
+    /// "15, 5, 5 and 6" numbers, of which the first three have an id.
+    #[test]
+    fn limited_fields_come_once_each() {
+        let due = [(1, 1..15), (2, 1..5), (3, 1..5), (4, 0..6)];
+        let due = due.map(|(kind, positions)| positions.map(move |position| (kind, position)));
+        let due: Vec<(u8, usize)> = due.into_iter().flatten().collect();
+        let found: Vec<(u8, usize)> = (0..LIMITED).map(limited).collect();
+        assert_eq!(found, due);
     }
 
     #[test]

@@ -1,37 +1,36 @@
-//! A maker of row lists for the writer: good ones, lists that are no whole
-//! number of rows or too many, and each rule broken alone and beside others.
+//! A maker of rows for the writer: good ones, lengths that are no whole number
+//! of rows, too many or don't add up, and each rule broken alone and beside
+//! others.
 
 use crate::drive::Input;
-use crate::make::{fields, Rows, MOST_ROWS};
-use crate::reader::ROW_WIDTHS;
+use crate::kinds::KINDS;
+use crate::make::{fields, Rows};
 use crate::rng::Rng;
-use crate::spoil::{spoil, spoil_id, BAD_IDS};
-use crate::writer::Lists;
+use crate::row_sweeps::{value, VALUES};
+use crate::spoil::spoil;
 
-/// Four row lists and a short word on how they were made.
+/// An area of rows, kind after kind, with the length of each kind's part, and
+/// a short word on how they were made.
+#[derive(Clone)]
 pub struct RowLists {
     pub how: String,
-    pub lists: [Vec<u32>; 4],
+    pub rows: Vec<u32>,
+    pub lengths: Vec<u32>,
 }
+
+/// Each kind's part of the area by itself.
+pub type Lists = [Vec<u32>; KINDS.len()];
 
 impl RowLists {
     pub fn of(how: String, rows: &Rows) -> Self {
-        let lists = [
-            rows.conversion.concat(),
-            rows.stock.concat(),
-            rows.harvest.concat(),
-            rows.parameters.concat(),
-        ];
-        RowLists { how, lists }
+        Self::joined(how, &rows.lists())
     }
 
-    pub fn borrow(&self) -> Lists<'_> {
-        let [conversion, stock, harvest, parameters] = &self.lists;
-        Lists {
-            conversion,
-            stock,
-            harvest,
-            parameters,
+    pub fn joined(how: String, lists: &Lists) -> Self {
+        RowLists {
+            how,
+            rows: lists.concat(),
+            lengths: lists.iter().map(|list| list.len() as u32).collect(),
         }
     }
 }
@@ -41,156 +40,24 @@ impl Input for RowLists {
         &self.how
     }
 
-    /// One line for each kind, in decimal.
+    /// The lengths, then the area, in decimal.
     fn dump(&self) -> Vec<u8> {
-        let lines = self.lists.iter().map(|list| format!("{list:?}\n"));
-        lines.collect::<String>().into_bytes()
+        format!("{:?}\n{:?}\n", self.lengths, self.rows).into_bytes()
     }
 }
 
-type Family = (usize, fn(usize, &mut Rng) -> RowLists);
-
-/// More rows than are allowed, far enough to see 33, 34, 36 and 37.
-const COUNTS: usize = MOST_ROWS + 6;
-/// The longest list of a kind in the sweep over lengths, with 34 rows (of
-/// parameters 3) and a bit.
-const LENGTHS: [usize; 4] = [15 * 34 + 2, 5 * 34 + 2, 5 * 34 + 2, 6 * 3 + 2];
-/// Fields besides ids: 14, 4, 4 and 6.
-const FIELDS: usize = 14 + 4 + 4 + 6;
-const VALUES: usize = 20;
-
-const FAMILIES: [Family; 5] = [
-    (COUNTS * 3 * 2, counts),
-    (LENGTHS[0] + LENGTHS[1] + LENGTHS[2] + LENGTHS[3], lengths),
-    (FIELDS * MOST_ROWS * VALUES, values),
-    ((MOST_ROWS - 1) * 3 * BAD_IDS.len(), ids),
-    (PARAMETER_ROWS * 8, parameter_rows),
-];
-
-/// How many row lists the sweeps have together.
-pub fn sweep_size() -> usize {
-    FAMILIES.iter().map(|(size, _)| size).sum()
-}
-
-/// The `index`-th of the sweeps.
-pub fn sweep_case(mut index: usize, rng: &mut Rng) -> RowLists {
-    for (size, make) in FAMILIES {
-        if index < size {
-            return make(index, rng);
-        }
-        index -= size;
-    }
-    panic!("the sweeps have {} row lists", sweep_size())
-}
-
-/// Every count of each kind, the other kinds empty or of any count.
-fn counts(index: usize, rng: &mut Rng) -> RowLists {
-    let (count, kind, alone) = (index / 6, index / 2 % 3, index.is_multiple_of(2));
-    let mut counts = [0; 3].map(|_| if alone { 0 } else { rng.below(MOST_ROWS + 1) });
-    counts[kind] = count;
-    let rows = Rows::good(rng, counts);
-    RowLists::of(format!("row counts {counts:?}"), &rows)
-}
-
-/// Every length of each list: whole rows, cut in the middle of a row, above 32.
-fn lengths(mut index: usize, rng: &mut Rng) -> RowLists {
-    let mut kind = 0;
-    while index >= LENGTHS[kind] {
-        index -= LENGTHS[kind];
-        kind += 1;
-    }
-    let mut counts = [0; 3].map(|_| rng.below(4));
-    if kind < 3 {
-        counts[kind] = index.div_ceil(ROW_WIDTHS[kind]);
-    }
-    let rows = Rows::good(rng, counts);
-    let mut made = RowLists::of(format!("list {} of length {index}", kind + 1), &rows);
-    made.lists[kind].resize(index, 0);
-    made
-}
-
-/// A value to try in a field of this limit: good ones, one above, and some that
-/// would be good again were the field's width all that is looked at.
-fn value(which: usize, limit: u32, rng: &mut Rng) -> u32 {
-    match which {
-        0 => 0,
-        1 => 1,
-        2 => limit - 1,
-        3 => limit,
-        4 => limit + 1,
-        5 => 255,
-        6 => 256,
-        7 => 257,
-        8 => 65_535,
-        9 => 65_536,
-        10 => 65_537,
-        11 => 65_536 + limit,
-        12 => 256 + limit,
-        13 => 1 << 24,
-        14 => (1 << 31) - 1,
-        15 => 1 << 31,
-        16 => (1 << 31) + limit,
-        17 => u32::MAX,
-        18 => u32::MAX - limit,
-        _ => rng.from_to(limit + 1, u32::MAX),
-    }
-}
-
-/// Every field of every row with every value. Numbers 7 and 8 may be broken
-/// besides, or instead.
-fn values(index: usize, rng: &mut Rng) -> RowLists {
-    let (which, rest) = (index % VALUES, index / VALUES);
-    let (row, field) = (rest % MOST_ROWS, rest / MOST_ROWS);
-    let (kind, field) = match field {
-        0..14 => (1, field + 1),
-        14..18 => (2, field - 13),
-        18..22 => (3, field - 17),
-        _ => (4, field - 22),
-    };
-    let row = if kind == 4 { 0 } else { row };
-    let mut counts = [0; 3].map(|_| rng.below(14));
-    if kind != 4 {
-        counts[usize::from(kind) - 1] = row + 1 + rng.below(MOST_ROWS - row);
-    }
-    let mut rows = Rows::good(rng, counts);
-    let (_, limit) = fields(kind).nth(field).expect("a field of this kind");
-    let value = value(which, limit, rng);
-    rows.row(kind, row)[field] = value;
-    RowLists::of(
-        format!("kind {kind} row {row} field {field}: {value}"),
-        &rows,
-    )
-}
-
-/// Every row with an id not above the one before, in every way.
-fn ids(index: usize, rng: &mut Rng) -> RowLists {
-    let (way, rest) = (BAD_IDS[index % BAD_IDS.len()], index / BAD_IDS.len());
-    let (kind, row) = (1 + (rest % 3) as u8, 1 + rest / 3);
-    let mut counts = [0; 3].map(|_| rng.below(14));
-    counts[usize::from(kind) - 1] = row + 1 + rng.below(MOST_ROWS - row);
-    let mut rows = Rows::good(rng, counts);
-    spoil_id(&mut rows, kind, row, way);
-    RowLists::of(format!("id {way:?} at kind {kind} row {row}"), &rows)
-}
-
-/// None, one, two and more parameter rows.
-const PARAMETER_ROWS: usize = 5;
-
-fn parameter_rows(index: usize, rng: &mut Rng) -> RowLists {
-    let count = index % PARAMETER_ROWS;
-    let mut rows = Rows::any_good(rng);
-    let row = rows.parameters[0];
-    rows.parameters = vec![row; count];
-    RowLists::of(format!("{count} parameter rows"), &rows)
-}
-
-/// A random set of row lists.
+/// Random rows with their lengths.
 pub fn case(rng: &mut Rng) -> RowLists {
     match rng.below(20) {
         0..5 => RowLists::of("good".to_string(), &Rows::any_good(rng)),
-        5..13 => {
+        5..12 => {
             let number = rng.pick(&[5, 6, 7, 7, 8, 8, 10]);
             broken(rng, &[number])
+        }
+        12 => {
+            let mut made = RowLists::of("good".to_string(), &Rows::any_good(rng));
+            move_border(rng, &mut made);
+            made
         }
         13..18 => {
             let low = rng.pick(&[5, 6, 7, 8, 10]);
@@ -221,11 +88,19 @@ fn broken(rng: &mut Rng, numbers: &[u32]) -> RowLists {
             how += &format!(", {}", spoil(rng, &mut rows, number));
         }
     }
-    let mut made = RowLists::of(how, &rows);
-    if numbers.contains(&10) {
-        for _ in 0..1 + rng.below(2) {
-            break_list(rng, &mut made);
-        }
+    let mut lists = rows.lists();
+    if !numbers.contains(&10) {
+        return RowLists::joined(how, &lists);
+    }
+    // One kind, two of them, the lengths as a whole, or one and the whole.
+    let ways = rng.below(5);
+    let kinds = [1, 1, 2, 0, 1][ways];
+    for _ in 0..kinds {
+        how += &break_list(rng, &mut lists);
+    }
+    let mut made = RowLists::joined(how, &lists);
+    if ways >= 3 {
+        break_lengths(rng, &mut made);
     }
     made
 }
@@ -242,21 +117,21 @@ fn far_above(rng: &mut Rng, rows: &mut Rows) -> String {
     format!(", 6: {value} at kind {kind} row {row} field {field}")
 }
 
-/// Breaks number 10 in one list.
-fn break_list(rng: &mut Rng, made: &mut RowLists) {
-    let kind = rng.below(4);
-    let (list, width) = (&mut made.lists[kind], ROW_WIDTHS[kind]);
-    let rows = list.len() / width;
+/// Breaks number 10 at one kind, by the length of its list alone.
+fn break_list(rng: &mut Rng, lists: &mut Lists) -> String {
+    let kind = rng.below(KINDS.len());
+    let (list, layout) = (&mut lists[kind], &KINDS[kind]);
+    let (width, rows) = (layout.numbers, list.len() / layout.numbers);
+    let one_more = width * (layout.most_rows + 1);
     let length = match rng.below(4) {
         // Elements too many, or too few, for whole rows.
         0 => width * rows + 1 + rng.below(width - 1),
         1 => (width * rows)
             .saturating_sub(1 + rng.below(width - 1))
             .max(1),
-        2 if kind == 3 => 0,
-        2 => width * (MOST_ROWS + 1),
-        _ if kind == 3 => width * 2,
-        _ => width * (MOST_ROWS + 1 + rng.below(40)) + rng.below(2),
+        2 if layout.least_rows > 0 && rng.one_in(2) => 0,
+        2 => one_more,
+        _ => one_more + rng.below(40) * width + rng.below(2),
     };
     // Copies of a good row: the ids don't rise, but that is tried later.
     let pattern = list.clone();
@@ -265,7 +140,84 @@ fn break_list(rng: &mut Rng, made: &mut RowLists) {
         list.push(more.copied().unwrap_or(1));
     }
     list.truncate(length);
-    made.how += &format!(", 10: list {} of length {length}", kind + 1);
+    format!(", 10: {} of length {length}", layout.name)
+}
+
+/// Breaks number 10 at place 0: not one length for each kind, or lengths that
+/// don't add up to the area.
+pub fn break_lengths(rng: &mut Rng, made: &mut RowLists) {
+    let how = match rng.below(7) {
+        0 => {
+            made.lengths.truncate(rng.below(KINDS.len()));
+            "lengths left out"
+        }
+        1 => {
+            // The last kind's elements are counted with the one before it.
+            let last = made.lengths.pop().expect("a length for each kind");
+            *made.lengths.last_mut().expect("more than one kind") += last;
+            "a length left out, the sum right"
+        }
+        2 => {
+            let more = 1 + rng.below(3);
+            made.lengths.resize(made.lengths.len() + more, 0);
+            "lengths of zero more"
+        }
+        3 => {
+            let more = 1 + rng.below(20);
+            made.lengths.push(more as u32);
+            made.rows.resize(made.rows.len() + more, 1);
+            "a length more, the sum right"
+        }
+        4 => {
+            let length = made.rows.len() + 1 + rng.below(20);
+            made.rows.resize(length, 1);
+            "an area too long"
+        }
+        5 if !made.rows.is_empty() => {
+            let less = if rng.one_in(2) {
+                1
+            } else {
+                1 + rng.below(made.rows.len())
+            };
+            made.rows.truncate(made.rows.len() - less);
+            "an area too short"
+        }
+        _ => {
+            wrap_sum(rng, &mut made.lengths);
+            "a sum right in 32 bits only"
+        }
+    };
+    made.how += &format!(", 10: {how}, lengths {:?}", made.lengths);
+}
+
+/// Other lengths whose sum is the same in 32 bits, but larger by 2^32 or more.
+pub fn wrap_sum(rng: &mut Rng, lengths: &mut [u32]) {
+    let wrapping = |sum: u32, &length: &u32| sum.wrapping_add(length);
+    let right = lengths.iter().fold(0, wrapping);
+    let last = rng.below(lengths.len());
+    // One of the others at least so large that the last must go over the top.
+    let large = (last + 1 + rng.below(lengths.len() - 1)) % lengths.len();
+    let any = rng.one_in(2);
+    for at in (0..lengths.len()).filter(|&at| at != last) {
+        if at == large {
+            lengths[at] = rng.from_to(right + 1, u32::MAX);
+        } else if any {
+            lengths[at] = rng.word();
+        }
+    }
+    lengths[last] = 0;
+    lengths[last] = right.wrapping_sub(lengths.iter().fold(0, wrapping));
+}
+
+/// Elements of one kind counted with a neighbour: the sum stays right. Between
+/// stock and harvest the rows may stay whole, and be good.
+fn move_border(rng: &mut Rng, made: &mut RowLists) {
+    let border = rng.below(KINDS.len() - 1);
+    let both = made.lengths[border] + made.lengths[border + 1];
+    let step = rng.pick(&[1, KINDS[border].numbers as u32]);
+    made.lengths[border] = rng.from_to(0, both / step) * step;
+    made.lengths[border + 1] = both - made.lengths[border];
+    made.how += &format!(", border moved: lengths {:?}", made.lengths);
 }
 
 #[cfg(test)]

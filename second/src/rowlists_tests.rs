@@ -1,33 +1,39 @@
 use super::*;
+use crate::row_sweeps;
 use crate::writer::write;
 
 fn answer(made: &RowLists) -> u32 {
-    write(made.borrow(), &mut [0; 5_120], &mut [0])
+    write(&made.rows, &made.lengths, &mut [0; 5_120], &mut [0])
 }
 
 #[test]
 fn every_index_makes_lists() {
     let mut given = [0; 12];
-    for index in 0..sweep_size() {
-        let made = sweep_case(index, &mut Rng::for_input(41, index as u64));
+    for index in 0..row_sweeps::size() {
+        let made = row_sweeps::case(index, &mut Rng::for_input(41, index as u64));
         given[(answer(&made) / 1000) as usize] += 1;
     }
     for number in [0, 5, 6, 7, 8, 10] {
         assert!(given[number] > 20, "{given:?}");
     }
-    assert_eq!(given.iter().sum::<usize>(), sweep_size());
+    assert_eq!(given.iter().sum::<usize>(), row_sweeps::size());
 }
 
 #[test]
 fn every_answer_comes_often() {
     let mut given = [0; 12];
+    let mut places = [0; 5];
     for index in 0..20_000 {
-        let made = case(&mut Rng::for_input(42, index));
-        given[(answer(&made) / 1000) as usize] += 1;
+        let answer = answer(&case(&mut Rng::for_input(42, index)));
+        given[(answer / 1000) as usize] += 1;
+        if answer / 1000 == 10 {
+            places[(answer % 1000) as usize] += 1;
+        }
     }
     for number in [0, 5, 6, 7, 8, 10] {
         assert!(given[number] > 600, "{given:?}");
     }
+    assert!(places.iter().all(|&times| times > 200), "{places:?}");
 }
 
 #[test]
@@ -72,11 +78,64 @@ fn order_and_places() {
     assert_eq!(judged(&rows), 5001);
     rows.parameters.push([1; 6]);
     assert_eq!(judged(&rows), 10_004);
-    let mut made = RowLists::of(String::new(), &rows);
-    made.lists[2].pop();
-    assert_eq!(answer(&made), 10_003);
-    made.lists[0].extend([0; 20 * 15]);
+    let mut lists = rows.lists();
+    lists[2].pop();
+    assert_eq!(answer(&RowLists::joined(String::new(), &lists)), 10_003);
+    lists[0].extend([0; 20 * 15]);
+    let mut made = RowLists::joined(String::new(), &lists);
     assert_eq!(answer(&made), 10_001);
+    made.rows.pop();
+    assert_eq!(answer(&made), 10_000);
+}
+
+/// By hand: number 10 at place 0, and beside it what is no fault of it.
+#[test]
+fn lengths_add_up() {
+    let rows: Vec<u32> = (0..31).map(|i| if i == 0 { 9 } else { 0 }).collect();
+    let answer = |rows: &[u32], lengths: &[u32]| write(rows, lengths, &mut [0; 5_120], &mut [0; 1]);
+    assert_eq!(answer(&rows, &[15, 5, 5, 6]), 0);
+    // Each sum is 31, or would be in 32 bits.
+    for lengths in [
+        &[15, 5, 11][..],
+        &[15, 5, 5, 6, 0],
+        &[15, 5, 5, 5, 1],
+        &[31],
+        &[15, 5, u32::MAX, 12],
+        &[15, 5, 5, 5],
+        &[15, 5, 5, 12],
+        &[0, 0, 0, 0],
+        &[1 << 31, 1 << 31, 25, 6],
+        &[1 << 30, 1 << 30, 1 << 30, (1 << 30) + 31],
+        &[u32::MAX, u32::MAX, u32::MAX, 34],
+    ] {
+        assert_eq!(answer(&rows, lengths), 10_000, "{lengths:?}");
+    }
+    assert_eq!(answer(&[], &[]), 10_000);
+    // The sum is right: the kinds come next.
+    assert_eq!(answer(&[], &[0, 0, 0, 0]), 10_004);
+    assert_eq!(answer(&rows, &[15, 5, 6, 5]), 10_003);
+    assert_eq!(answer(&rows, &[16, 4, 5, 6]), 10_001);
+    assert_eq!(answer(&rows, &[0, 20, 5, 6]), 5001);
+    assert_eq!(answer(&rows[15..], &[0, 10, 0, 6]), 5001);
+    assert_eq!(answer(&rows[20..], &[0, 5, 0, 6]), 0);
+    assert_eq!(answer(&rows[20..], &[0, 0, 5, 6]), 0);
+}
+
+/// Right in 32 bits and wrong by 2^32 or more.
+#[test]
+fn sums_wrap() {
+    let mut over = [0; 4];
+    for index in 0..2_000 {
+        let made = row_sweeps::case(row_sweeps::size() - 1, &mut Rng::for_input(45, index));
+        let sum: u64 = made.lengths.iter().map(|&length| u64::from(length)).sum();
+        assert_eq!(sum as u32 as usize, made.rows.len());
+        over[(sum >> 32) as usize] += 1;
+        assert_eq!(answer(&made), 10_000);
+    }
+    assert!(
+        over[0] == 0 && over[1..].iter().all(|&times| times > 20),
+        "{over:?}"
+    );
 }
 
 #[test]
@@ -90,7 +149,7 @@ fn rooms() {
         (0, 3, 9000),
     ] {
         let (mut room, mut size) = (vec![0xAA; room], vec![7; size]);
-        assert_eq!(write(made.borrow(), &mut room, &mut size), due);
+        assert_eq!(write(&made.rows, &made.lengths, &mut room, &mut size), due);
         let untouched = room.iter().all(|&byte| byte == 0xAA) && size.iter().all(|&s| s == 7);
         assert_eq!(untouched, due != 0);
     }

@@ -2,49 +2,40 @@
 
 use super::*;
 use crate::inputs;
+use crate::kinds::ROWS_ROOM;
 use crate::make::{Rows, MOST_ROWS};
 use crate::rng::Rng;
-use crate::writer::{write, Lists};
+use crate::writer::write;
 
 /// Rooms of these lengths, filled with a pattern.
-struct Memory([Vec<u32>; 5]);
+struct Memory {
+    rows: Vec<u32>,
+    counts: Vec<u32>,
+}
 
 const PATTERN: u32 = 0xDEAD_BEEF;
 
 impl Memory {
-    fn new(lengths: [usize; 5]) -> Self {
-        Memory(lengths.map(|length| vec![PATTERN; length]))
+    fn new(rows: usize, counts: usize) -> Self {
+        Memory {
+            rows: vec![PATTERN; rows],
+            counts: vec![PATTERN; counts],
+        }
     }
 
     fn read(&mut self, bytes: &[u8]) -> u32 {
-        let [conversion, stock, harvest, parameters, counts] = &mut self.0;
-        let rooms = Rooms {
-            conversion,
-            stock,
-            harvest,
-            parameters,
-            counts,
-        };
-        read(bytes, rooms)
+        read(bytes, &mut self.rows, &mut self.counts)
     }
 
     fn untouched(&self) -> bool {
-        self.0.iter().flatten().all(|&element| element == PATTERN)
+        let mut all = self.rows.iter().chain(&self.counts);
+        all.all(|&element| element == PATTERN)
     }
 }
 
-fn lists(lists: &[Vec<u32>]) -> Lists<'_> {
-    Lists {
-        conversion: &lists[0],
-        stock: &lists[1],
-        harvest: &lists[2],
-        parameters: &lists[3],
-    }
-}
-
-fn exact(counts: [u32; 4]) -> [usize; 5] {
-    let [a, b, c, d] = [0, 1, 2, 3].map(|i| ROW_WIDTHS[i] * counts[i] as usize);
-    [a, b, c, d, 4]
+/// Elements, from numbers of rows.
+fn lengths(counts: [u32; 4]) -> [u32; 4] {
+    [0, 1, 2, 3].map(|kind| KINDS[kind].numbers as u32 * counts[kind])
 }
 
 /// "An accepted return, read and written again, is the same bytes."
@@ -57,12 +48,13 @@ fn read_then_written_is_the_same() {
             continue;
         };
         accepted += 1;
-        let mut memory = Memory::new(exact(checked.counts));
+        let lengths = lengths(checked.counts);
+        let mut memory = Memory::new(lengths.iter().sum::<u32>() as usize, 4);
         assert_eq!(memory.read(&case.bytes), 0);
-        assert_eq!(memory.0[4], checked.counts);
+        assert_eq!(memory.counts, checked.counts);
         let mut room = vec![0xAA; case.bytes.len()];
         let mut size = [0];
-        assert_eq!(write(lists(&memory.0), &mut room, &mut size), 0);
+        assert_eq!(write(&memory.rows, &lengths, &mut room, &mut size), 0);
         assert!(room == case.bytes, "{}", case.how);
         assert_eq!(size[0] as usize, case.bytes.len());
     }
@@ -78,52 +70,54 @@ fn written_then_read_is_the_same() {
         let count = turn / 4;
         let counts = [[count, 0, 0], [0, count, 5], [31, 32, count], [count; 3]][turn % 4];
         let rows = Rows::good(&mut rng, counts);
-        let flat = [
-            rows.conversion.concat(),
-            rows.stock.concat(),
-            rows.harvest.concat(),
-            rows.parameters.concat(),
-        ];
+        let lists = rows.lists();
+        let (area, lengths) = (lists.concat(), lists.map(|list| list.len() as u32));
         let mut room = vec![0xAA; 5_130];
         let mut size = [0, 77];
-        assert_eq!(write(lists(&flat), &mut room, &mut size), 0);
+        assert_eq!(write(&area, &lengths, &mut room, &mut size), 0);
         let bytes = rows.to_bytes();
         assert_eq!(size, [bytes.len() as u32, 77]);
         assert!(room[..bytes.len()] == bytes);
         assert!(room[bytes.len()..].iter().all(|&byte| byte == 0xAA));
 
-        let mut memory = Memory::new([500, 170, 170, 9, 6]);
+        let mut memory = Memory::new(ROWS_ROOM + 9, 6);
         assert_eq!(memory.read(&bytes), 0);
-        for (kind, flat) in flat.iter().enumerate() {
-            let (front, rest) = memory.0[kind].split_at(flat.len());
-            assert_eq!(front, flat);
-            assert!(rest.iter().all(|&element| element == PATTERN));
-        }
+        let (front, rest) = memory.rows.split_at(area.len());
+        assert_eq!(front, area);
+        assert!(rest.iter().all(|&element| element == PATTERN));
+        let [c, s, h] = counts.map(|count| count as u32);
+        assert_eq!(memory.counts, [c, s, h, 1, PATTERN, PATTERN]);
     }
 }
 
+/// By hand: 2, 3, 1 and 1 rows end at elements 30, 45, 50 and 56.
 #[test]
 fn short_rooms_are_refused_by_kind() {
-    let rows = Rows::good(&mut Rng::new(93), [2, 3, 1]);
-    let bytes = rows.to_bytes();
-    let enough = exact([2, 3, 1, 1]);
-    for (short, due) in [
-        (vec![0], 9001),
-        (vec![1], 9002),
-        (vec![2], 9003),
-        (vec![3], 9004),
-        (vec![4], 9000),
-        (vec![2, 1], 9002),
-        (vec![4, 3], 9000),
-        (vec![4, 0], 9000),
+    let bytes = Rows::good(&mut Rng::new(93), [2, 3, 1]).to_bytes();
+    for (rows, counts, due) in [
+        (56, 4, 0),
+        (57, 5, 0),
+        (55, 4, 9004),
+        (50, 4, 9004),
+        (49, 4, 9003),
+        (45, 9, 9003),
+        (44, 4, 9002),
+        (30, 4, 9002),
+        (29, 4, 9001),
+        (0, 4, 9001),
+        (56, 3, 9000),
+        (29, 3, 9000),
+        (0, 0, 9000),
     ] {
-        let mut lengths = enough;
-        short.iter().for_each(|&at| lengths[at] -= 1);
-        let mut memory = Memory::new(lengths);
-        assert_eq!(memory.read(&bytes), due);
-        assert!(memory.untouched());
+        let mut memory = Memory::new(rows, counts);
+        assert_eq!(memory.read(&bytes), due, "{rows} and {counts}");
+        assert_eq!(memory.untouched(), due != 0);
+    }
+    // A kind without rows needs no room: the place is a kind that has some.
+    let bytes = Rows::good(&mut Rng::new(94), [0, 0, 2]).to_bytes();
+    for (rows, due) in [(16, 0), (15, 9004), (10, 9004), (9, 9003), (0, 9003)] {
+        assert_eq!(Memory::new(rows, 4).read(&bytes), due, "{rows}");
     }
     // A refusal of the bytes comes before.
-    let mut memory = Memory::new([0; 5]);
-    assert_eq!(memory.read(&bytes[1..]), 1000);
+    assert_eq!(Memory::new(0, 0).read(&bytes[1..]), 1000);
 }

@@ -2,8 +2,8 @@
 //! Only what a sweep doesn't name is left to the generator.
 
 use crate::damage::{block, block_count};
-use crate::make::{fields, repair_checks, seal, zero_areas, Rows};
-use crate::make::{AFTER, BEFORE, BLOCK, CHECK_AT, MOST_ROWS, SUMMED};
+use crate::make::{fields, limited, repair_checks, seal, zero_areas, Rows};
+use crate::make::{AFTER, BEFORE, BLOCK, CHECK_AT, LIMITED, MOST_ROWS, SUMMED};
 use crate::rng::Rng;
 use crate::spoil::{spoil_id, spoil_limit, ABOVES, BAD_IDS};
 
@@ -32,7 +32,7 @@ const FAMILIES: [Family; 8] = [
     (8 * 256, header_bytes),
     (4 * 256, check_bytes),
     ((MOST_ROWS + 5) * 3 * 2, counts),
-    (MOST_ROWS * (14 + 4 + 4 + 6) * WAYS, limits),
+    (MOST_ROWS * LIMITED * WAYS, limits),
     ((MOST_ROWS - 1) * 3 * BAD_IDS.len(), ids),
 ];
 
@@ -177,13 +177,8 @@ fn counts(index: usize, rng: &mut Rng) -> Case {
 fn limits(index: usize, rng: &mut Rng) -> Case {
     let (way, rest) = (index % WAYS, index / WAYS);
     let (row, field) = (rest % MOST_ROWS, rest / MOST_ROWS);
-    // Fields from 1: an id has no limit. Parameters have no id, and one row.
-    let (kind, field) = match field {
-        0..14 => (1, field + 1),
-        14..18 => (2, field - 13),
-        18..22 => (3, field - 17),
-        _ => (4, field - 22),
-    };
+    let (kind, field) = limited(field);
+    // There is one row of parameters.
     let row = if kind == 4 { 0 } else { row };
     let mut counts = [0; 3].map(|_| rng.below(4));
     if kind != 4 {
@@ -245,7 +240,7 @@ mod tests {
 
     #[test]
     fn limits_are_met_and_broken() {
-        for index in 0..MOST_ROWS * 28 * WAYS {
+        for index in 0..MOST_ROWS * LIMITED * WAYS {
             let verdict = judge(&limits(index, &mut Rng::for_input(2, index as u64)).bytes);
             if index % WAYS == ABOVES.len() {
                 assert!(

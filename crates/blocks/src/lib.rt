@@ -1,15 +1,20 @@
 // Rules 1 to 4: the length, and each block's check, header, kind, count and zero bytes.
 ghost use mathlib.Core.Path.{_≡_};
-ghost use Prim.Native.Nat.{_+_, _*_, _≤_, _<_};
+ghost use Prim.Native.Nat.{_+_, _*_, _^_, _≤_, _<_};
 ghost use lib.ListN.{length};
 ghost use Rattle.form.specs.First.{first, any};
 ghost use Rattle.form.specs.Layout.{layout, strayAt};
 ghost use Rattle.form.specs.Block.{blocks, badLength, badCheck, badHeader, kindFalls, wrongEnd, blocksBelow, badCount, notFilled, strayRecord, stray, badBlock};
 ghost use Rattle.blocks.specs.Steps.{blockTest};
+use form::LONGEST;
+use form::PARAMETERS;
 use form::Spot;
 use form::byte_at;
 use form::check_due;
 use form::four_at;
+use form::last_kind;
+use form::layout::field;
+use form::layout::numbers;
 use form::stray_in;
 use form::two_at;
 use form::where_same;
@@ -18,7 +23,7 @@ pub fn bad_length(bytes: &[u8]) -> bool
     ensures { λ r. ⌜ r ≡ badLength (now (bytes .entry)) ⌝ }
 {
     let n = bytes.len();
-    (n == 0) | (5120 < n) | (n % 512 != 0)
+    (n == 0) | (LONGEST < n) | (n % 512 != 0)
 }
 
 fn bad_check(bytes: &[u8], b: usize) -> bool
@@ -33,11 +38,13 @@ fn bad_header(bytes: &[u8], b: usize) -> bool
     ensures { λ r. ⌜ r ≡ badHeader (now (bytes .entry)) b ⌝ }
 {
     let kind = byte_at(bytes, 512 * b);
+    let edition = two_at(bytes, 512 * b + 6);
+    let last = last_kind(edition);
     (kind < 1)
-        | (4 < kind)
+        | (last < kind)
         | (two_at(bytes, 512 * b + 2) as usize != b)
         | (two_at(bytes, 512 * b + 4) as usize != bytes.len() / 512)
-        | (two_at(bytes, 512 * b + 6) != 1)
+        | !(0 < last)
 }
 
 fn kind_falls(bytes: &[u8], b: usize) -> bool
@@ -54,13 +61,13 @@ fn wrong_end(bytes: &[u8], b: usize) -> bool
     requires { ⌜ b < blocks (now bytes) ⌝ }
     ensures { λ r. ⌜ r ≡ wrongEnd (now (bytes .entry)) b ⌝ }
 {
-    let four = byte_at(bytes, 512 * b) == 4;
+    let parameters = byte_at(bytes, 512 * b) == PARAMETERS as u32;
     let last = b + 1 == bytes.len() / 512;
-    (four & !last) | (last & !four)
+    (parameters & !last) | (last & !parameters)
 }
 
 fn blocks_below(bytes: &[u8], kind: u32, b: usize) -> u32
-    requires { ⌜ (b < blocks (now bytes)) × (length (now bytes) ≤ 5120) ⌝ }
+    requires { ⌜ (b < blocks (now bytes)) × (length (now bytes) < 2 ^ 24) ⌝ }
     ensures { λ r. ⌜ r ≡ blocksBelow kind (now (bytes .entry)) b ⌝ }
 {
     let mut n: u32 = 0;
@@ -78,7 +85,7 @@ fn bad_count(bytes: &[u8], b: usize) -> bool
 {
     let count = byte_at(bytes, 512 * b + 1);
     let kind = byte_at(bytes, 512 * b);
-    (count < 1) | (12 < count) | ((kind == 4) & (count != 1))
+    (count < 1) | (12 < count) | ((kind == PARAMETERS as u32) & (count != 1))
 }
 
 fn not_filled(bytes: &[u8], b: usize) -> bool
@@ -93,16 +100,34 @@ fn not_filled(bytes: &[u8], b: usize) -> bool
 }
 
 // In a used record: before a field and after the last.
+fn stray_fields(bytes: &[u8], kind: usize, at: usize) -> bool
+    requires { ⌜ at + 40 ≤ length (now bytes) ⌝ }
+    ensures { λ r. ⌜ r ≡ strayAt (layout kind) (now (bytes .entry)) at ⌝ }
+{
+    let n = numbers(kind);
+    let mut stray = false;
+    let mut k: usize = 0;
+    let mut i: usize = 0;
+    while i < n {
+        let f = field(kind, i);
+        stray = stray | stray_in(bytes, at + k, f.zeros);
+        k = k + f.zeros + f.width;
+        i += 1;
+    }
+    stray | stray_in(bytes, at + k, 40 - k)
+}
+
+// The kind by its number, so that the compiler makes straight code of each kind's fields; another number has none, as 0 has. A new kind is a new line.
 fn stray_at(bytes: &[u8], kind: u32, at: usize) -> bool
     requires { ⌜ at + 40 ≤ length (now bytes) ⌝ }
     ensures { λ r. ⌜ r ≡ strayAt (layout kind) (now (bytes .entry)) at ⌝ }
 {
     match kind {
-        1 => stray_in(bytes, at + 36, 4),
-        2 => stray_in(bytes, at + 5, 1) | stray_in(bytes, at + 14, 26),
-        3 => stray_in(bytes, at + 10, 2) | stray_in(bytes, at + 20, 20),
-        4 => stray_in(bytes, at, 4) | stray_in(bytes, at + 16, 24),
-        _ => stray_in(bytes, at, 40),
+        1 => stray_fields(bytes, 1, at),
+        2 => stray_fields(bytes, 2, at),
+        3 => stray_fields(bytes, 3, at),
+        4 => stray_fields(bytes, 4, at),
+        _ => stray_fields(bytes, 0, at),
     }
 }
 
@@ -132,7 +157,7 @@ fn stray_records(bytes: &[u8], b: usize) -> bool
 }
 
 fn bad_block(bytes: &[u8], b: usize) -> bool
-    requires { ⌜ (b < blocks (now bytes)) × (length (now bytes) ≤ 5120) ⌝ }
+    requires { ⌜ (b < blocks (now bytes)) × (length (now bytes) < 2 ^ 24) ⌝ }
     ensures { λ r. ⌜ r ≡ badBlock (now (bytes .entry)) b ⌝ }
 {
     let earlier = blocks_below(bytes, byte_at(bytes, 512 * b), b);
@@ -148,7 +173,7 @@ fn bad_block(bytes: &[u8], b: usize) -> bool
 
 // Rule 2, 3 or 4 of a block.
 fn breaks(bytes: &[u8], number: u32, b: usize) -> bool
-    requires { ⌜ (b < blocks (now bytes)) × (length (now bytes) ≤ 5120) ⌝ }
+    requires { ⌜ (b < blocks (now bytes)) × (length (now bytes) < 2 ^ 24) ⌝ }
     ensures { λ r. ⌜ r ≡ blockTest number (now (bytes .entry)) b ⌝ }
 {
     if number == 2 {
@@ -162,7 +187,7 @@ fn breaks(bytes: &[u8], number: u32, b: usize) -> bool
 
 // Rule 2, 3 or 4 over all blocks.
 pub fn first_broken(bytes: &[u8], number: u32) -> Spot
-    requires { ⌜ length (now bytes) ≤ 5120 ⌝ }
+    requires { ⌜ length (now bytes) < 2 ^ 24 ⌝ }
     ensures { λ r. ⌜ r ≡ first (blockTest number (now (bytes .entry))) (blocks (now (bytes .entry))) ⌝ }
 {
     let n = bytes.len() / 512;

@@ -2,4 +2,3 @@ mod Rooms
 mod Bits
 mod Reading
 mod Writing
-mod Numbers

@@ -1,26 +1,28 @@
 -- The ways out of reading from C. Assumes nothing.
-use Prim.Native.Nat.{ℕ, _+_, _*_, _≤_, _<_}
+use Prim.Native.Nat.{ℕ, zero, suc, _+_, _*_, _≤_, _<_}
 use mathlib.Core.Path.{_≡_, refl, sym, ap, _∙_}
 use mathlib.Core.List.{List, [], _∷_, _++_}
 use native.Mathlib.Omega.{arith}
 use borrow.Author.Tests.{lt-ltb, le-ltb}
 use lib.ListN.{length}
 use Rattle.form.specs.First.{first}
+use Rattle.form.specs.Layout.{kinds}
 use Rattle.form.specs.Ruling.{rule, refuse, ruling}
-use Rattle.form.specs.Verdict.{rules, countsOf, verdictBy, verdictOf}
+use Rattle.form.specs.Verdict.{rules, countsOf, countList, verdictBy, verdictOf}
 use Rattle.form.specs.declared.Spot.{Spot}
 use Rattle.form.specs.declared.Spot.the-variants.{At, Nowhere}
 use Rattle.form.specs.declared.Ruling.{Ruling}
 use Rattle.form.specs.declared.Ruling.the-variants.{Clean, Broken}
 use Rattle.form.specs.declared.Verdict.{Verdict}
 use Rattle.form.specs.declared.Verdict.the-variants.{Accepted, Refused}
-use Rattle.form.proofs.Search.{first-at}
-use Rattle.form.proofs.Order.{orRule, ruling-append}
+use Rattle.form.proofs.Search.{first-zero, first-found, first-at, first-same}
+use Rattle.form.proofs.Order.{orRule, ruling-append, ruled, one-broken}
+use Rattle.form.proofs.EachKind.{few-kinds}
 use Rattle.form.proofs.Meaning.{small}
-use Rattle.filing.specs.Lists.{Lists}
 use Rattle.rows.specs.Reading as rows
-use Rattle.door.specs.Door.{codeOf, tooShort, judgeRules, four, countsAfter}
-use Rattle.door.specs.Rows.{shortAt, readRules, rowsAfter}
+use Rattle.rows.proofs.Rows.{need-none}
+use Rattle.door.specs.Door.{codeOf, tooShort, judgeCall, countsAfter}
+use Rattle.door.specs.Rows.{shortAt, readCall, rowsAfter}
 
 -- the code and the counts' room by the verdict that the code has at hand
 abbrev pub codeBy : Verdict → ℕ
@@ -28,7 +30,7 @@ codeBy (Accepted c) = 0
 codeBy (Refused n p) = 1000 * n + p
 
 abbrev pub countsBy : List ℕ → Verdict → List ℕ
-countsBy room (Accepted c) = rows.onFront (four c) room
+countsBy room (Accepted c) = rows.onFront (countList c) room
 countsBy room (Refused n p) = room
 
 code-said : (s : List ℕ) (v : Ruling) → codeBy (verdictBy s v) ≡ codeOf v
@@ -39,90 +41,70 @@ counts-said : (s room : List ℕ) (v : Ruling) → countsBy room (verdictBy s v)
 counts-said s room Clean = refl
 counts-said s room (Broken n p) = refl
 
--- a refusal leaves a room as it was, whichever rule it is by
-as-it-was : (kind : ℕ) (s room : List ℕ) (u : Ruling) → room ≡ rowsAfter kind s room (orRule u (Broken 9 0))
-as-it-was kind s room Clean = refl
-as-it-was kind s room (Broken n p) = refl
+-- a refusal leaves the room as it was, whichever rule it is by
+as-it-was : (s room : List ℕ) (u : Ruling) → room ≡ rowsAfter s room (orRule u (Broken 9 0))
+as-it-was s room Clean = refl
+as-it-was s room (Broken n p) = refl
 
-module _ (s : List ℕ) (rooms : Lists) (counts : List ℕ) where
-  -- room for the counts: the rule of the four rooms is left
-  four-left : 4 ≤ length counts → ruling (rule 9 5 (shortAt (countsOf s) rooms counts) ∷ []) ≡ ruling (rule 9 5 (rows.tooShort (countsOf s) rooms) ∷ [])
-  unfolding ruling first
-  four-left h = rw (le-ltb (length counts) 4 h)
+module _ (s room counts : List ℕ) where
+  -- room for the counts: the rule of the rows' room is left
+  rows-left : kinds ≤ length counts → ruling (rule 9 (suc kinds) (shortAt s (length room) (length counts)) ∷ []) ≡ ruling (rule 9 (suc kinds) (rows.outgrown s (length room)) ∷ [])
+  unfolding ruling
+  rows-left h = ap (λ (t : Spot). refuse 9 t Clean) (first-same (shortAt s (length room) (length counts)) (rows.outgrown s (length room)) (suc kinds) same)
+    where
+      same : (k : ℕ) → k < suc kinds → shortAt s (length room) (length counts) k ≡ rows.outgrown s (length room) k
+      same zero l = le-ltb (length counts) kinds h ∙ sym (le-ltb (length room) (length (rows.areaTo s 0)) (omega (arith, need-none s)))
+      same (suc k) l = refl
 
-  enough : 4 ≤ length counts → ruling (readRules s rooms counts) ≡ ruling (rows.readRules s rooms)
+  enough : kinds ≤ length counts → readCall s room counts ≡ ruling (rows.readRules s room)
   enough h =
-      ruling-append (rules s) (rule 9 5 (shortAt (countsOf s) rooms counts) ∷ [])
-      ∙ ap (orRule (ruling (rules s))) (four-left h)
-      ∙ sym (ruling-append (rules s) (rule 9 5 (rows.tooShort (countsOf s) rooms) ∷ []))
+      ruling-append (rules s) (rule 9 (suc kinds) (shortAt s (length room) (length counts)) ∷ [])
+      ∙ ap (orRule (ruling (rules s))) (rows-left h)
+      ∙ sym (ruling-append (rules s) (rule 9 (suc kinds) (rows.outgrown s (length room)) ∷ []))
 
   -- none: place 0, as from the judge
-  none-left : length counts < 4 → ruling (rule 9 5 (shortAt (countsOf s) rooms counts) ∷ []) ≡ Broken 9 0
-  unfolding ruling first
-  none-left h = rw (lt-ltb (length counts) 4 h)
+  none-left : length counts < kinds → ruling (rule 9 (suc kinds) (shortAt s (length room) (length counts)) ∷ []) ≡ Broken 9 0
+  none-left h =
+      sym (ruled (rule 9 (suc kinds) (shortAt s (length room) (length counts))) []
+      (first-found (shortAt s (length room) (length counts)) 0 (suc kinds) (first-zero _) (lt-ltb (length counts) kinds h) (omega arith)))
 
-  judge-left : length counts < 4 → ruling (tooShort 4 counts ∷ []) ≡ Broken 9 0
-  unfolding ruling first
-  judge-left h = rw (lt-ltb (length counts) 4 h)
+  -- what the answer and the two rooms are, for a ruling
+  abbrev Out : ℕ → List ℕ → List ℕ → Ruling → Type 0
+  Out r o z v = (r ≡ codeOf v) × ((o ≡ rowsAfter s room v) × (z ≡ countsAfter s counts v))
 
-  -- what the answer and the five rooms are, for a ruling
-  abbrev Out : ℕ → List ℕ → List ℕ → List ℕ → List ℕ → List ℕ → Ruling → Type 0
-  Out r o₁ o₂ o₃ o₄ o v =
-      (r ≡ codeOf v) × ((o₁ ≡ rowsAfter 1 s (rooms .conversion) v) × ((o₂ ≡ rowsAfter 2 s (rooms .stock) v)
-      × ((o₃ ≡ rowsAfter 3 s (rooms .harvest) v) × ((o₄ ≡ rowsAfter 4 s (rooms .parameters) v) × (o ≡ countsAfter s counts v)))))
-
-  pub judged-out : {r : ℕ} {o : List ℕ} → length counts < 4 → r ≡ codeOf (ruling (judgeRules s counts)) → o ≡ countsAfter s counts (ruling (judgeRules s counts))
-      → Out r (rooms .conversion) (rooms .stock) (rooms .harvest) (rooms .parameters) o (ruling (readRules s rooms counts))
+  pub judged-out : {r : ℕ} {z : List ℕ} → length counts < kinds → r ≡ codeOf (judgeCall s counts) → z ≡ countsAfter s counts (judgeCall s counts)
+      → Out r room z (readCall s room counts)
   judged-out h q k =
       let u = ruling (rules s) in
-      let j : ruling (judgeRules s counts) ≡ orRule u (Broken 9 0) = ruling-append (rules s) (tooShort 4 counts ∷ []) ∙ ap (orRule u) (judge-left h) in
-      let e : ruling (readRules s rooms counts) ≡ orRule u (Broken 9 0) =
-      ruling-append (rules s) (rule 9 5 (shortAt (countsOf s) rooms counts) ∷ []) ∙ ap (orRule u) (none-left h) in
-      rw e (
-        q ∙ ap codeOf j,
-        (
-          as-it-was 1 s (rooms .conversion) u,
-          (as-it-was 2 s (rooms .stock) u, (as-it-was 3 s (rooms .harvest) u, (as-it-was 4 s (rooms .parameters) u, k ∙ ap (countsAfter s counts) j))),
-        ),
-      )
+      let j : judgeCall s counts ≡ orRule u (Broken 9 0) = ruling-append (rules s) (tooShort kinds counts ∷ []) ∙ ap (orRule u) (one-broken 9 _ [] (lt-ltb (length counts) kinds h)) in
+      let e : readCall s room counts ≡ orRule u (Broken 9 0) =
+      ruling-append (rules s) (rule 9 (suc kinds) (shortAt s (length room) (length counts)) ∷ []) ∙ ap (orRule u) (none-left h) in
+      rw e (q ∙ ap codeOf j, (as-it-was s room u, k ∙ ap (countsAfter s counts) j))
 
-  pub read-out : (v : Verdict) {r : ℕ} {o₁ o₂ o₃ o₄ o : List ℕ} → 4 ≤ length counts → v ≡ rows.readAnswer s rooms → r ≡ codeBy v
-      → o₁ ≡ rows.roomAfter 1 s (rooms .conversion) v → o₂ ≡ rows.roomAfter 2 s (rooms .stock) v
-      → o₃ ≡ rows.roomAfter 3 s (rooms .harvest) v → o₄ ≡ rows.roomAfter 4 s (rooms .parameters) v → o ≡ countsBy counts v
-      → Out r o₁ o₂ o₃ o₄ o (ruling (readRules s rooms counts))
+  pub read-out : (v : Verdict) {r : ℕ} {o z : List ℕ} → kinds ≤ length counts → v ≡ rows.readAnswer s room → r ≡ codeBy v
+      → o ≡ rows.roomAfter s room v → z ≡ countsBy counts v → Out r o z (readCall s room counts)
   unfolding rows.readAnswer
-  read-out v h a q e₁ e₂ e₃ e₄ k =
-      let w : v ≡ verdictBy s (ruling (readRules s rooms counts)) = a ∙ ap (verdictBy s) (sym (enough h)) in (
-        q ∙ ap codeBy w ∙ code-said s (ruling (readRules s rooms counts)),
-        (
-          e₁ ∙ ap (rows.roomAfter 1 s (rooms .conversion)) w,
-          (
-            e₂ ∙ ap (rows.roomAfter 2 s (rooms .stock)) w,
-            (
-              e₃ ∙ ap (rows.roomAfter 3 s (rooms .harvest)) w,
-              (e₄ ∙ ap (rows.roomAfter 4 s (rooms .parameters)) w, k ∙ ap (countsBy counts) w ∙ counts-said s counts (ruling (readRules s rooms counts))),
-            ),
-          ),
-        ),
-      )
+  read-out v h a q e k =
+      let w : v ≡ verdictBy s (readCall s room counts) = a ∙ ap (verdictBy s) (sym (enough h)) in
+      (q ∙ ap codeBy w ∙ code-said s (readCall s room counts), (e ∙ ap (rows.roomAfter s room) w, k ∙ ap (countsBy counts) w ∙ counts-said s counts (readCall s room counts)))
 
 -- ---- a refusal's place is small
 
-module _ (s : List ℕ) (rooms : Lists) where
-  of-rooms : (t : Spot) {n p : ℕ} → first (rows.tooShort (countsOf s) rooms) 5 ≡ t → verdictBy s (refuse 9 t Clean) ≡ Refused n p → p < 1000
-  of-rooms (At i) {n} {p} e h =
+module _ (s room : List ℕ) where
+  of-room : (t : Spot) {n p : ℕ} → first (rows.outgrown s (length room)) (suc kinds) ≡ t → verdictBy s (refuse 9 t Clean) ≡ Refused n p → p < 1000
+  of-room (At i) {n} {p} e h =
       let q : i ≡ p = cc in
-      omega (arith, first-at (rows.tooShort (countsOf s) rooms) e .0)
-  of-rooms Nowhere e h = let z : _≡_ {A = ℕ} 0 1 = cc in absurd (omega arith)
+      omega (arith, first-at (rows.outgrown s (length room)) e .0, few-kinds)
+  of-room Nowhere e h = let z : _≡_ {A = ℕ} 0 1 = cc in absurd (omega arith)
 
-  of-bytes : (u : Ruling) {n p : ℕ} → ruling (rules s) ≡ u → verdictBy s (orRule u (ruling (rule 9 5 (rows.tooShort (countsOf s) rooms) ∷ []))) ≡ Refused n p → p < 1000
+  of-bytes : (u : Ruling) {n p : ℕ} → ruling (rules s) ≡ u → verdictBy s (orRule u (ruling (rule 9 (suc kinds) (rows.outgrown s (length room)) ∷ []))) ≡ Refused n p → p < 1000
   unfolding ruling verdictOf
   of-bytes (Broken m i) {n} {p} e h =
       let q : i ≡ p = cc in
-      omega (arith, small s m i (ap (verdictBy s) e) .1)
-  of-bytes Clean e h = of-rooms (first (rows.tooShort (countsOf s) rooms) 5) refl h
+      omega (arith, small s m i (ap (verdictBy s) e) .1, few-kinds)
+  of-bytes Clean e h = of-room (first (rows.outgrown s (length room)) (suc kinds)) refl h
 
-  pub read-small : {n p : ℕ} → rows.readAnswer s rooms ≡ Refused n p → p < 1000
+  pub read-small : {n p : ℕ} → rows.readAnswer s room ≡ Refused n p → p < 1000
   unfolding rows.readAnswer
   read-small e =
-      of-bytes (ruling (rules s)) refl (ap (verdictBy s) (sym (ruling-append (rules s) (rule 9 5 (rows.tooShort (countsOf s) rooms) ∷ []))) ∙ e)
+      of-bytes (ruling (rules s)) refl (ap (verdictBy s) (sym (ruling-append (rules s) (rule 9 (suc kinds) (rows.outgrown s (length room)) ∷ []))) ∙ e)

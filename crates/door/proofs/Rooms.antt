@@ -4,9 +4,13 @@ use mathlib.Core.Path.{_≡_, refl, sym, ap, _∙_}
 use mathlib.Core.List.{List, [], _∷_}
 use native.Mathlib.Omega.{arith}
 use borrow.Author.Tests.{lt-ltb, le-ltb}
-use lib.ListN.{length, set}
+use lib.ListN.{length, getD, drop, set, length-set, drop-of-length-le}
+use lib.Seq.{sets, drop-cons}
+use native.Mathlib.Numerals.{add-one}
+use Rattle.filing.proofs.Stores.{sets-front}
 use Rattle.form.specs.Ruling.{ruling}
-use Rattle.form.specs.Verdict.{rules, countsOf, verdictOf}
+use Rattle.form.specs.Layout.{kinds}
+use Rattle.form.specs.Verdict.{rules, countsOf, countList, verdictOf}
 use Rattle.form.specs.declared.Counts.{Counts}
 use Rattle.form.specs.declared.Ruling.{Ruling}
 use Rattle.form.specs.declared.Ruling.the-variants.{Clean, Broken}
@@ -15,7 +19,7 @@ use Rattle.form.proofs.Order.{ruled-before, kept-before, one-broken, one-kept}
 use Rattle.form.proofs.Meaning.{refused-ruling}
 use Rattle.form.proofs.Accepted.{accepted-ruling, accepted-counts}
 use Rattle.rows.specs.Reading.{onFront}
-use Rattle.door.specs.Door.{codeOf, tooShort, judgeRules, four, countsAfter}
+use Rattle.door.specs.Door.{codeOf, tooShort, judgeCall, countsAfter}
 
 pub one-store : (l : List ℕ) (a : ℕ) → 1 ≤ length l → set l 0 a ≡ onFront (a ∷ []) l
 one-store (_ ∷ l) a h = refl
@@ -27,6 +31,22 @@ four-stores [] a b c d h = absurd (omega arith)
 four-stores (_ ∷ []) a b c d h = absurd (omega arith)
 four-stores (_ ∷ _ ∷ []) a b c d h = absurd (omega arith)
 four-stores (_ ∷ _ ∷ _ ∷ []) a b c d h = absurd (omega arith)
+
+-- numbers handed over one by one: the first k stand at the front
+pub record Handing (vs d₀ d : List ℕ) (k : ℕ) : Type 0 where
+  pub within : k ≤ length vs
+  pub same : length d ≡ length d₀
+  pub whole : sets d k (drop k vs) ≡ sets d₀ 0 vs
+
+pub handing-none : {vs d : List ℕ} → Handing vs d d 0
+handing-none = record { within = omega arith; same = refl; whole = refl }
+
+pub handing-more : {vs d₀ d : List ℕ} {k v : ℕ} → Handing vs d₀ d k → k < length vs → v ≡ getD vs k 0 → Handing vs d₀ (set d k v) (k + 1)
+handing-more {vs} {d₀} {d} {k} {v} h l e =
+    record { within = omega arith; same = length-set d k v ∙ h .same; whole = rw (add-one k, e) (rw (drop-cons vs k 0 l) at (h .whole)) }
+
+pub handing-all : {vs d₀ d : List ℕ} {k : ℕ} → Handing vs d₀ d k → length vs ≤ k → length vs ≤ length d₀ → d ≡ onFront vs d₀
+handing-all {vs} {d₀} {d} {k} h l r = rw (drop-of-length-le vs {i = k} l) at (h .whole) ∙ sets-front d₀ vs r
 
 pub eight-stores : (l : List ℕ) (a b c d e f g h : ℕ) → 8 ≤ length l
     → set (set (set (set (set (set (set (set l 0 a) 1 b) 2 c) 3 d) 4 e) 5 f) 6 g) 7 h ≡ onFront (a ∷ b ∷ c ∷ d ∷ e ∷ f ∷ g ∷ h ∷ []) l
@@ -43,15 +63,15 @@ module _ (s room : List ℕ) where
   abbrev Out : ℕ → List ℕ → Ruling → Type 0
   Out r l v = (r ≡ codeOf v) × (l ≡ countsAfter s room v)
 
-  pub refused-out : (n p r : ℕ) → verdictOf s ≡ Refused n p → r ≡ 1000 * n + p → Out r room (ruling (judgeRules s room))
-  refused-out n p r e q = rw (ruled-before (rules s) (tooShort 4 room ∷ []) (refused-ruling s n p e)) (q, refl)
+  pub refused-out : (n p r : ℕ) → verdictOf s ≡ Refused n p → r ≡ 1000 * n + p → Out r room (judgeCall s room)
+  refused-out n p r e q = rw (ruled-before (rules s) (tooShort kinds room ∷ []) (refused-ruling s n p e)) (q, refl)
 
-  pub short-out : (c : Counts) (r : ℕ) → verdictOf s ≡ Accepted c → length room < 4 → r ≡ 1000 * 9 + 0 → Out r room (ruling (judgeRules s room))
+  pub short-out : (c : Counts) (r : ℕ) → verdictOf s ≡ Accepted c → length room < kinds → r ≡ 1000 * 9 + 0 → Out r room (judgeCall s room)
   short-out c r e l q =
-      rw (kept-before (rules s) (tooShort 4 room ∷ []) (accepted-ruling s c e), one-broken 9 _ [] (lt-ltb (length room) 4 l)) (q, refl)
+      rw (kept-before (rules s) (tooShort kinds room ∷ []) (accepted-ruling s c e), one-broken 9 _ [] (lt-ltb (length room) kinds l)) (q, refl)
 
-  pub done-out : (c : Counts) (l : List ℕ) → verdictOf s ≡ Accepted c → 4 ≤ length room → l ≡ onFront (four c) room → Out 0 l (ruling (judgeRules s room))
+  pub done-out : (c : Counts) (l : List ℕ) → verdictOf s ≡ Accepted c → kinds ≤ length room → l ≡ onFront (countList c) room → Out 0 l (judgeCall s room)
   unfolding ruling
   done-out c l e h q =
-      rw (kept-before (rules s) (tooShort 4 room ∷ []) (accepted-ruling s c e), one-kept 9 _ [] (le-ltb (length room) 4 h))
-      (refl, q ∙ ap (λ (x : Counts). onFront (four x) room) (accepted-counts s c e))
+      rw (kept-before (rules s) (tooShort kinds room ∷ []) (accepted-ruling s c e), one-kept 9 _ [] (le-ltb (length room) kinds h))
+      (refl, q ∙ ap (λ (x : Counts). onFront (countList x) room) (accepted-counts s c e))

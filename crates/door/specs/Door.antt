@@ -7,13 +7,14 @@ use lib.Dec.{ltb, eqb}
 use lib.Ieee.{Float, binary64, toBits}
 use Rattle.form.specs.Ruling.{Rule, rule, ruling}
 use Rattle.form.specs.Bytes.{littleEndian}
-use Rattle.form.specs.Verdict.{rules, rows, countsOf}
+use Rattle.form.specs.Layout.{kinds}
+use Rattle.form.specs.Verdict.{rules, rows, countsOf, countList}
 use Rattle.rows.specs.Reading.{onFront}
+use Rattle.report.specs.Lines.{printed, putOf, roomAfter}
 use Rattle.report.specs.declared.Put.{Put}
 use Rattle.report.specs.declared.Put.the-variants.{Done, Short}
 use Rattle.doubles.specs.Subtotals.{subtotalsOf}
 use Rattle.doubles.specs.declared.Doubles.{Doubles}
-use Rattle.form.specs.declared.Counts.{Counts}
 use Rattle.form.specs.declared.Ruling.{Ruling}
 use Rattle.form.specs.declared.Ruling.the-variants.{Clean, Broken}
 
@@ -26,16 +27,16 @@ codeOf (Broken n p) = 1000 * n + p
 abbrev pub tooShort : ℕ → List ℕ → Rule
 tooShort n room = rule 9 1 (λ p. ltb (length room) n)
 
--- the judge from C: the return's rules, last the room for the four counts
+-- the judge from C: the return's rules, last the room for the counts, one for each kind
 abbrev pub judgeRules : List ℕ → List ℕ → List Rule
-judgeRules s room = rules s ++ (tooShort 4 room ∷ [])
+judgeRules s room = rules s ++ (tooShort kinds room ∷ [])
 
-abbrev pub four : Counts → List ℕ
-four c = c .conversion ∷ c .stock ∷ c .harvest ∷ c .parameters ∷ []
+abbrev pub judgeCall : List ℕ → List ℕ → Ruling
+judgeCall s room = ruling (judgeRules s room)
 
--- the room afterwards: the four counts at the front and "later elements keep their values"; on a refusal "lent memory is unchanged"
+-- the room afterwards: "the four row counts" at the front and "later elements keep their values"; on a refusal "lent memory is unchanged"
 abbrev pub countsAfter : List ℕ → List ℕ → Ruling → List ℕ
-countsAfter s room Clean = onFront (four (countsOf s)) room
+countsAfter s room Clean = onFront (countList (countsOf s)) room
 countsAfter s room (Broken n p) = room
 
 -- the charting program's subtotal: 11 for "a subtotal's code above 2", after the return's rules and before the room for eight bytes
@@ -45,6 +46,9 @@ wrongCode code = rule 11 1 (λ p. ltb 2 code)
 abbrev pub subtotalRules : List ℕ → ℕ → List ℕ → List Rule
 subtotalRules s code room = rules s ++ (wrongCode code ∷ tooShort 8 room ∷ [])
 
+abbrev pub subtotalCall : List ℕ → ℕ → List ℕ → Ruling
+subtotalCall s code room = ruling (subtotalRules s code room)
+
 -- "a subtotal's code: 0 on-site, 1 off-site, 2 decay"
 abbrev pub byCode : ℕ → Doubles → Float
 byCode code d = cond (eqb code 0) (d .onsite) (cond (eqb code 1) (d .offsite) (d .decay))
@@ -53,6 +57,10 @@ byCode code d = cond (eqb code 0) (d .onsite) (cond (eqb code 1) (d .offsite) (d
 abbrev pub bitsAfter : List ℕ → ℕ → List ℕ → Ruling → List ℕ
 bitsAfter s code room Clean = onFront (littleEndian 8 (toBits binary64 (byCode code (subtotalsOf (rows 1 s))))) room
 bitsAfter s code room (Broken n p) = room
+
+-- the room after the lines from C
+abbrev pub linesAfter : List ℕ → List ℕ → List ℕ
+linesAfter s room = roomAfter (printed s) room (putOf (printed s) room)
 
 -- the lines from C: the text's length, which is never 0, or 0 for a room too short
 abbrev pub sizeOf : Put → ℕ

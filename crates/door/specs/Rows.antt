@@ -4,37 +4,63 @@ use mathlib.Core.Bool.{Bool, _||_}
 use mathlib.Core.List.{List, [], _∷_, _++_}
 use lib.ListN.{length}
 use lib.Dec.{ltb}
-use Rattle.form.specs.Ruling.{Rule, rule}
-use Rattle.form.specs.Verdict.{rules, countsOf, verdictBy}
-use Rattle.form.specs.declared.Counts.{Counts}
+use Rattle.form.specs.Layout.{kinds}
+use Rattle.form.specs.Ruling.{Rule, rule, ruling}
+use Rattle.form.specs.Verdict.{rules, verdictBy}
 use Rattle.form.specs.declared.Ruling.{Ruling}
 use Rattle.form.specs.declared.Ruling.the-variants.{Clean, Broken}
-use Rattle.filing.specs.Lists.{Lists}
+use Rattle.filing.specs.Lists.{cut}
 use Rattle.lists.specs.Rules.{listRules}
-use Rattle.rows.specs.Reading.{tooShort, onFront, roomAfter}
+use Rattle.rows.specs.Reading.{outgrown, onFront, roomAfter}
+use Rattle.door.specs.Door.{countsAfter}
 use Rattle.rows.specs.Writing.{written, writtenBy, bytesAfter}
 
--- 9: "lent room too short": place 0 the room for the four counts, 1 to 4 that for the rows of a kind
-abbrev pub shortAt : Counts → Lists → List ℕ → ℕ → Bool
-shortAt c rooms counts zero = ltb (length counts) 4
-shortAt c rooms counts (suc k) = tooShort c rooms (suc k)
+-- 9: "lent room too short": place 0 the room of n elements for the counts, then the lowest kind whose rows no longer fit room of m numbers
+abbrev pub shortAt : List ℕ → ℕ → ℕ → ℕ → Bool
+shortAt s m n zero = ltb n kinds
+shortAt s m n (suc k) = outgrown s m (suc k)
 
-abbrev pub readRules : List ℕ → Lists → List ℕ → List Rule
-readRules s rooms counts = rules s ++ (rule 9 5 (shortAt (countsOf s) rooms counts) ∷ [])
+-- the rules of a read from C, into these rooms, and their ruling
+abbrev pub readRulesC : List ℕ → List ℕ → List ℕ → List Rule
+readRulesC s rows counts = rules s ++ (rule 9 (suc kinds) (shortAt s (length rows) (length counts)) ∷ [])
 
--- the room of a kind afterwards: "exactly the rows at the front", or as it was; the counts' room is `countsAfter`, as after the judge
-abbrev pub rowsAfter : ℕ → List ℕ → List ℕ → Ruling → List ℕ
-rowsAfter kind s room v = roomAfter kind s room (verdictBy s v)
+abbrev pub readCall : List ℕ → List ℕ → List ℕ → Ruling
+readCall s rows counts = ruling (readRulesC s rows counts)
+
+-- the room of the rows afterwards: "exactly the rows at the front", or as it was; the counts' room is `countsAfter`, as after the judge
+abbrev pub rowsAfter : List ℕ → List ℕ → Ruling → List ℕ
+rowsAfter s room v = roomAfter s room (verdictBy s v)
+
+-- both rooms after a read from C
+abbrev pub rowsRead : List ℕ → List ℕ → List ℕ → List ℕ
+rowsRead s rows counts = rowsAfter s rows (readCall s rows counts)
+
+abbrev pub countsRead : List ℕ → List ℕ → List ℕ → List ℕ
+countsRead s rows counts = countsAfter s counts (readCall s rows counts)
 
 -- 9, place 0: the room for the blocks, or that for their number of bytes
-abbrev pub writeRules : Lists → List ℕ → List ℕ → List Rule
-writeRules l room size = listRules l ++ (rule 9 1 (λ p. ltb (length room) (length (written l)) || ltb (length size) 1) ∷ [])
+abbrev pub writeRooms : List ℕ → List ℕ → List ℕ → List ℕ → Rule
+writeRooms lengths area room size = rule 9 1 (λ p. ltb (length room) (length (written 1 (cut lengths area))) || ltb (length size) 1)
+
+-- the rules of a write from C, of these rows into these rooms, and their ruling
+abbrev pub writeRulesC : List ℕ → List ℕ → List ℕ → List ℕ → List Rule
+writeRulesC area lengths room size = listRules 1 lengths area ++ (writeRooms lengths area room size ∷ [])
+
+abbrev pub writeCall : List ℕ → List ℕ → List ℕ → List ℕ → Ruling
+writeCall area lengths room size = ruling (writeRulesC area lengths room size)
 
 -- the room afterwards: "exactly the blocks at the front", or as it was
-abbrev pub blocksAfter : Lists → List ℕ → Ruling → List ℕ
-blocksAfter l room v = bytesAfter l room (writtenBy l v)
+abbrev pub blocksAfter : List ℕ → List ℕ → List ℕ → Ruling → List ℕ
+blocksAfter area lengths room v = bytesAfter 1 lengths area room (writtenBy 1 (cut lengths area) v)
 
 -- and that of the size: "a write answers the number of bytes written"
-abbrev pub sizeAfter : Lists → List ℕ → Ruling → List ℕ
-sizeAfter l size Clean = onFront (length (written l) ∷ []) size
-sizeAfter l size (Broken n p) = size
+abbrev pub sizeAfter : List ℕ → List ℕ → List ℕ → Ruling → List ℕ
+sizeAfter area lengths size Clean = onFront (length (written 1 (cut lengths area)) ∷ []) size
+sizeAfter area lengths size (Broken n p) = size
+
+-- both rooms after a write from C
+abbrev pub blocksWritten : List ℕ → List ℕ → List ℕ → List ℕ → List ℕ
+blocksWritten area lengths room size = blocksAfter area lengths room (writeCall area lengths room size)
+
+abbrev pub sizeWritten : List ℕ → List ℕ → List ℕ → List ℕ → List ℕ
+sizeWritten area lengths room size = sizeAfter area lengths size (writeCall area lengths room size)

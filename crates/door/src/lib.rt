@@ -5,18 +5,20 @@ ghost use mathlib.Core.Path.{_≡_};
 ghost use Prim.Native.Nat.{_+_, _*_, _≤_, _<_};
 ghost use mathlib.Core.List.{[]};
 ghost use lib.ListN.{length};
-ghost use Rattle.form.specs.Ruling.{ruling};
+ghost use Rattle.form.specs.Layout.{kinds};
+ghost use Rattle.form.specs.Verdict.{countList};
 ghost use lib.Ieee.{binary64, toBits};
 ghost use Rattle.form.specs.Bytes.{littleEndian};
-ghost use Rattle.door.specs.Door.{codeOf, judgeRules, four, countsAfter, subtotalRules, byCode, bitsAfter, sizeOf};
-ghost use Rattle.door.specs.Rows.{readRules, rowsAfter, writeRules, blocksAfter, sizeAfter};
-ghost use Rattle.filing.specs.Lists.{lists};
+ghost use Rattle.door.specs.Door.{codeOf, judgeCall, countsAfter, subtotalCall, byCode, bitsAfter, linesAfter, sizeOf};
+ghost use Rattle.door.specs.Rows.{readCall, rowsRead, countsRead, writeCall, blocksWritten, sizeWritten};
 ghost use Rattle.rows.specs.Reading.{onFront};
-ghost use Rattle.report.specs.Lines.{printed, putOf, roomAfter};
+ghost use Rattle.report.specs.Lines.{printed, putOf};
 use doubles::Answer;
 use doubles::Doubles;
 use form::Counts;
+use form::KINDS;
 use form::Verdict;
+use form::count_of;
 use report::Put;
 use rows::Written;
 
@@ -27,26 +29,28 @@ fn refusal(number: u8, place: u32) -> u32
     1000 * (number as u32) + place
 }
 
+// One count for each kind.
 fn put_counts(c: Counts, room: &mut [u32])
-    requires { ⌜ 4 ≤ length (now room) ⌝ }
-    ensures { λ _. ⌜ now (room .exit) ≡ onFront (four c) (now (room .entry)) ⌝ }
+    requires { ⌜ kinds ≤ length (now room) ⌝ }
+    ensures { λ _. ⌜ now (room .exit) ≡ onFront (countList c) (now (room .entry)) ⌝ }
 {
-    room[0] = c.conversion;
-    room[1] = c.stock;
-    room[2] = c.harvest;
-    room[3] = c.parameters;
+    let mut k: usize = 0;
+    while k < KINDS {
+        room[k] = count_of(c, k + 1);
+        k += 1;
+    }
 }
 
-// 0 and the four counts at the front of the room; or the refusal, and the room as it was.
+// 0 and the counts at the front of the room; or the refusal, and the room as it was.
 #[no_mangle]
 pub extern "C" fn niloferq_judge(bytes: &[u8], counts: &mut [u32]) -> u32
-    ensures { λ r. ⌜ r ≡ codeOf (ruling (judgeRules (now (bytes .entry)) (now (counts .entry)))) ⌝ }
-    ensures { λ _. ⌜ now (counts .exit) ≡ countsAfter (now (bytes .entry)) (now (counts .entry)) (ruling (judgeRules (now (bytes .entry)) (now (counts .entry)))) ⌝ }
+    ensures { λ r. ⌜ r ≡ codeOf (judgeCall (now (bytes .entry)) (now (counts .entry))) ⌝ }
+    ensures { λ _. ⌜ now (counts .exit) ≡ countsAfter (now (bytes .entry)) (now (counts .entry)) (judgeCall (now (bytes .entry)) (now (counts .entry))) ⌝ }
 {
     match judge::judge(bytes) {
         Verdict::Refused { number, place } => refusal(number, place),
         Verdict::Accepted(c) => {
-            if counts.len() < 4 {
+            if counts.len() < KINDS {
                 return refusal(9, 0);
             }
             put_counts(c, counts);
@@ -89,8 +93,8 @@ fn put_bits(bits: u64, room: &mut [u8])
 // 0 and the subtotal's bits at the front of the room; or the refusal, and the room as it was.
 #[no_mangle]
 pub extern "C" fn niloferq_subtotal(bytes: &[u8], code: u32, room: &mut [u8]) -> u32
-    ensures { λ r. ⌜ r ≡ codeOf (ruling (subtotalRules (now (bytes .entry)) code (now (room .entry)))) ⌝ }
-    ensures { λ _. ⌜ now (room .exit) ≡ bitsAfter (now (bytes .entry)) code (now (room .entry)) (ruling (subtotalRules (now (bytes .entry)) code (now (room .entry)))) ⌝ }
+    ensures { λ r. ⌜ r ≡ codeOf (subtotalCall (now (bytes .entry)) code (now (room .entry))) ⌝ }
+    ensures { λ _. ⌜ now (room .exit) ≡ bitsAfter (now (bytes .entry)) code (now (room .entry)) (subtotalCall (now (bytes .entry)) code (now (room .entry))) ⌝ }
 {
     match doubles::subtotals(bytes) {
         Answer::Refused { number, place } => refusal(number, place),
@@ -111,7 +115,7 @@ pub extern "C" fn niloferq_subtotal(bytes: &[u8], code: u32, room: &mut [u8]) ->
 #[no_mangle]
 pub extern "C" fn niloferq_lines(bytes: &[u8], room: &mut [u8]) -> usize
     ensures { λ r. ⌜ r ≡ sizeOf (putOf (printed (now (bytes .entry))) (now (room .entry))) ⌝ }
-    ensures { λ _. ⌜ now (room .exit) ≡ roomAfter (printed (now (bytes .entry))) (now (room .entry)) (putOf (printed (now (bytes .entry))) (now (room .entry))) ⌝ }
+    ensures { λ _. ⌜ now (room .exit) ≡ linesAfter (now (bytes .entry)) (now (room .entry)) ⌝ }
 {
     match report::lines(bytes, room) {
         Put::Done(n) => n,
@@ -119,28 +123,18 @@ pub extern "C" fn niloferq_lines(bytes: &[u8], room: &mut [u8]) -> usize
     }
 }
 
-// 0, the rows at the front of the four rooms and the four counts at the front of theirs; or the refusal, and all rooms as they were.
+// 0, the rows, kind after kind, at the front of their room and the counts at the front of theirs; or the refusal, and both rooms as they were.
 #[no_mangle]
-pub extern "C" fn niloferq_read(
-    bytes: &[u8],
-    conversion: &mut [u32],
-    stock: &mut [u32],
-    harvest: &mut [u32],
-    parameters: &mut [u32],
-    counts: &mut [u32],
-) -> u32
-    ensures { λ r. ⌜ r ≡ codeOf (ruling (readRules (now (bytes .entry)) (lists (now (conversion .entry)) (now (stock .entry)) (now (harvest .entry)) (now (parameters .entry))) (now (counts .entry)))) ⌝ }
-    ensures { λ _. ⌜ now (conversion .exit) ≡ rowsAfter 1 (now (bytes .entry)) (now (conversion .entry)) (ruling (readRules (now (bytes .entry)) (lists (now (conversion .entry)) (now (stock .entry)) (now (harvest .entry)) (now (parameters .entry))) (now (counts .entry)))) ⌝ }
-    ensures { λ _. ⌜ now (stock .exit) ≡ rowsAfter 2 (now (bytes .entry)) (now (stock .entry)) (ruling (readRules (now (bytes .entry)) (lists (now (conversion .entry)) (now (stock .entry)) (now (harvest .entry)) (now (parameters .entry))) (now (counts .entry)))) ⌝ }
-    ensures { λ _. ⌜ now (harvest .exit) ≡ rowsAfter 3 (now (bytes .entry)) (now (harvest .entry)) (ruling (readRules (now (bytes .entry)) (lists (now (conversion .entry)) (now (stock .entry)) (now (harvest .entry)) (now (parameters .entry))) (now (counts .entry)))) ⌝ }
-    ensures { λ _. ⌜ now (parameters .exit) ≡ rowsAfter 4 (now (bytes .entry)) (now (parameters .entry)) (ruling (readRules (now (bytes .entry)) (lists (now (conversion .entry)) (now (stock .entry)) (now (harvest .entry)) (now (parameters .entry))) (now (counts .entry)))) ⌝ }
-    ensures { λ _. ⌜ now (counts .exit) ≡ countsAfter (now (bytes .entry)) (now (counts .entry)) (ruling (readRules (now (bytes .entry)) (lists (now (conversion .entry)) (now (stock .entry)) (now (harvest .entry)) (now (parameters .entry))) (now (counts .entry)))) ⌝ }
+pub extern "C" fn niloferq_read(bytes: &[u8], rows: &mut [u32], counts: &mut [u32]) -> u32
+    ensures { λ r. ⌜ r ≡ codeOf (readCall (now (bytes .entry)) (now (rows .entry)) (now (counts .entry))) ⌝ }
+    ensures { λ _. ⌜ now (rows .exit) ≡ rowsRead (now (bytes .entry)) (now (rows .entry)) (now (counts .entry)) ⌝ }
+    ensures { λ _. ⌜ now (counts .exit) ≡ countsRead (now (bytes .entry)) (now (rows .entry)) (now (counts .entry)) ⌝ }
 {
     // too little room for the counts is the lowest place of 9: the judge's answer is the whole answer
-    if counts.len() < 4 {
+    if counts.len() < KINDS {
         return niloferq_judge(bytes, counts);
     }
-    match rows::read(bytes, conversion, stock, harvest, parameters) {
+    match rows::read(bytes, rows) {
         Verdict::Refused { number, place } => refusal(number, place),
         Verdict::Accepted(c) => {
             put_counts(c, counts);
@@ -150,12 +144,12 @@ pub extern "C" fn niloferq_read(
 }
 
 // Rows that can't be written, as there is no room for the size: the first rule that they break, or else 9.
-fn without_size(conversion: &[u32], stock: &[u32], harvest: &[u32], parameters: &[u32]) -> u32
-    ensures { λ r. ⌜ r ≡ codeOf (ruling (writeRules (lists (now (conversion .entry)) (now (stock .entry)) (now (harvest .entry)) (now (parameters .entry))) [] [])) ⌝ }
+fn without_size(rows: &[u32], lengths: &[u32]) -> u32
+    ensures { λ r. ⌜ r ≡ codeOf (writeCall (now (rows .entry)) (now (lengths .entry)) [] []) ⌝ }
 {
     // no return fits room for no byte, so this only refuses
     let mut none: [u8; 0] = [0; 0];
-    match rows::write(conversion, stock, harvest, parameters, &mut none) {
+    match rows::write(lengths, rows, &mut none) {
         Written::Refused { number, place } => refusal(number, place),
         Written::Done(_) => refusal(9, 0),
     }
@@ -164,21 +158,19 @@ fn without_size(conversion: &[u32], stock: &[u32], harvest: &[u32], parameters: 
 // 0, the blocks at the front of the room and their number of bytes as the first size; or the refusal, and both rooms as they were.
 #[no_mangle]
 pub extern "C" fn niloferq_write(
-    conversion: &[u32],
-    stock: &[u32],
-    harvest: &[u32],
-    parameters: &[u32],
+    rows: &[u32],
+    lengths: &[u32],
     room: &mut [u8],
     size: &mut [u32],
 ) -> u32
-    ensures { λ r. ⌜ r ≡ codeOf (ruling (writeRules (lists (now (conversion .entry)) (now (stock .entry)) (now (harvest .entry)) (now (parameters .entry))) (now (room .entry)) (now (size .entry)))) ⌝ }
-    ensures { λ _. ⌜ now (room .exit) ≡ blocksAfter (lists (now (conversion .entry)) (now (stock .entry)) (now (harvest .entry)) (now (parameters .entry))) (now (room .entry)) (ruling (writeRules (lists (now (conversion .entry)) (now (stock .entry)) (now (harvest .entry)) (now (parameters .entry))) (now (room .entry)) (now (size .entry)))) ⌝ }
-    ensures { λ _. ⌜ now (size .exit) ≡ sizeAfter (lists (now (conversion .entry)) (now (stock .entry)) (now (harvest .entry)) (now (parameters .entry))) (now (size .entry)) (ruling (writeRules (lists (now (conversion .entry)) (now (stock .entry)) (now (harvest .entry)) (now (parameters .entry))) (now (room .entry)) (now (size .entry)))) ⌝ }
+    ensures { λ r. ⌜ r ≡ codeOf (writeCall (now (rows .entry)) (now (lengths .entry)) (now (room .entry)) (now (size .entry))) ⌝ }
+    ensures { λ _. ⌜ now (room .exit) ≡ blocksWritten (now (rows .entry)) (now (lengths .entry)) (now (room .entry)) (now (size .entry)) ⌝ }
+    ensures { λ _. ⌜ now (size .exit) ≡ sizeWritten (now (rows .entry)) (now (lengths .entry)) (now (room .entry)) (now (size .entry)) ⌝ }
 {
     if size.len() < 1 {
-        return without_size(conversion, stock, harvest, parameters);
+        return without_size(rows, lengths);
     }
-    match rows::write(conversion, stock, harvest, parameters, room) {
+    match rows::write(lengths, rows, room) {
         Written::Refused { number, place } => refusal(number, place),
         Written::Done(n) => {
             size[0] = n as u32;

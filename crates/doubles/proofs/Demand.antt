@@ -9,6 +9,7 @@ use lib.ListN.{length}
 use Rattle.form.specs.Verdict.{rows, verdictOf}
 use Rattle.form.specs.declared.Counts.{Counts}
 use Rattle.form.specs.declared.Verdict.the-variants.{Accepted}
+use Rattle.form.proofs.EachKind.{one-kind}
 use Rattle.form.proofs.Accepted.{few-rows, rows-length, within}
 use Rattle.totals.specs.Columns.{onsiteTotal, offsiteTotal, decayTotal}
 use Rattle.doubles.specs.Double.{Near}
@@ -26,7 +27,7 @@ module _ (s : List ℕ) (c : Counts) (accepted : verdictOf s ≡ Accepted c) whe
   few = rw (rows-length s c accepted 1) (few-rows s c accepted 1)
 
   all-within : Each Within (rows 1 s)
-  all-within i l = within s c accepted 1 i (omega arith) (omega arith) (omega (arith, rows-length s c accepted 1))
+  all-within i l = within s c accepted 1 i (omega arith) one-kind (omega (arith, rows-length s c accepted 1))
 
   pub onsite-demand : Near (c .conversion) (subtotalsOf (rows 1 s) .onsite) (onsiteTotal s)
   onsite-demand = rw (← counted s c accepted) (onsite-near (rows 1 s) few all-within)

@@ -18,6 +18,7 @@ use Rattle.form.specs.Verdict.{rows, rowCount, verdictOf}
 use Rattle.form.specs.Standing.{startBlock}
 use Rattle.form.specs.declared.Counts.{Counts}
 use Rattle.form.specs.declared.Verdict.the-variants.{Accepted}
+use Rattle.form.proofs.EachKind.{one-kind}
 use Rattle.form.proofs.Accepted as form
 use Rattle.doubles.specs.Subtotals.{addRows, addAll}
 use Rattle.doubles.specs.Steps.{partsOf, plusOf}
@@ -44,10 +45,10 @@ module _ (s : List ℕ) (c : Counts) (accepted : verdictOf s ≡ Accepted c) whe
   pub standing : (i : ℕ) → i < c .conversion → Stands s i
   standing i h =
       let l : i < rowCount 1 s = rw (← form.rows-length s c accepted 1, counted) h in
-      let row : getD (rows 1 s) i [] ≡ rowAt conversion s (placeOf i) = form.row-is s c accepted 1 i (omega arith) (omega arith) l ∙ ap (rowAt conversion s) (place s i) in
+      let row : getD (rows 1 s) i [] ≡ rowAt conversion s (placeOf i) = form.row-is s c accepted 1 i (omega arith) one-kind l ∙ ap (rowAt conversion s) (place s i) in
       record {
         row = row;
-        inside = rw (← place s i) (form.inside s c accepted 1 i (omega arith) (omega arith) l);
+        inside = rw (← place s i) (form.inside s c accepted 1 i (omega arith) one-kind l);
         falls = rw (← row) (form.shrunk s c accepted i l);
       }
 

@@ -73,9 +73,10 @@ used-alike (suc n) {f} {g} {i} {j} a =
     rw (here, more)
 
 -- the same number, of as many blocks
-pub block-alike : {f g : Filed} (b c start first n : ℕ) → Alike f (12 * b) g (12 * c) 12 → start + b ≡ first + c → blockOf f start n b ≡ blockOf g first n c
+pub block-alike : {f g : Filed} (ed b c start first n : ℕ) → Alike f (12 * b) g (12 * c) 12 → start + b ≡ first + c
+    → blockOf ed f start n b ≡ blockOf ed g first n c
 unfolding bodyOf blockOf
-block-alike {f} {g} b c start first n a e =
+block-alike {f} {g} ed b c start first n a e =
     let k : f .kind (12 * b) ≡ g .kind (12 * c) = rw (add-zero (12 * b), add-zero (12 * c)) at (a .kind 0 (omega arith)) in
     rw (k, used-alike 12 a, e, turn-same (recordOn f) (recordOn g) (12 * b) (12 * c) 12 (record-alike a))
 
@@ -101,13 +102,13 @@ module _ (f g : Filed) where
       }
 
   -- a and b blocks, of n in all
-  pub blocks-behind : (a b start n : ℕ) → f .places ≡ 12 * a
-      → inTurn (blockOf (behind f g) start n) 0 (a + b) ≡ inTurn (blockOf f start n) 0 a ++ inTurn (blockOf g (start + a) n) 0 b
-  blocks-behind a b start n e =
-      let h = blockOf (behind f g) start n in
+  pub blocks-behind : (ed a b start n : ℕ) → f .places ≡ 12 * a
+      → inTurn (blockOf ed (behind f g) start n) 0 (a + b) ≡ inTurn (blockOf ed f start n) 0 a ++ inTurn (blockOf ed g (start + a) n) 0 b
+  blocks-behind ed a b start n e =
+      let h = blockOf ed (behind f g) start n in
       turn-add h 0 a b
       ∙ ap₂ (λ (x y : List ℕ). x ++ y)
-      (turn-same h (blockOf f start n) 0 0 a
-      (λ k l. block-alike (0 + k) (0 + k) start start n (alike-part front-alike (12 * (0 + k)) 12 (omega arith) (omega arith) (omega arith)) refl))
-      (turn-same h (blockOf g (start + a) n) (0 + a) 0 b
-      (λ k l. block-alike (0 + a + k) (0 + k) start (start + a) n (alike-part (back-alike (12 * (0 + k) + 12)) (12 * (0 + k)) 12 (omega arith) (omega arith) (omega arith)) (omega arith)))
+      (turn-same h (blockOf ed f start n) 0 0 a
+      (λ k l. block-alike ed (0 + k) (0 + k) start start n (alike-part front-alike (12 * (0 + k)) 12 (omega arith) (omega arith) (omega arith)) refl))
+      (turn-same h (blockOf ed g (start + a) n) (0 + a) 0 b
+      (λ k l. block-alike ed (0 + a + k) (0 + k) start (start + a) n (alike-part (back-alike (12 * (0 + k) + 12)) (12 * (0 + k)) 12 (omega arith) (omega arith) (omega arith)) (omega arith)))

@@ -1,6 +1,7 @@
-pub mod Table
 pub mod Stands
 pub mod Stores
 pub mod Fields
 pub mod Parts
 pub mod Alike
+pub mod Cut
+pub mod Laying

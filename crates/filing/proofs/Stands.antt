@@ -6,8 +6,7 @@ use Prim.Native.Nat.{ℕ, zero, suc, _+_, _-_, _*_, _/_, _%_, _^_, _<_, _≤_}
 use mathlib.Core.Path.{_≡_, refl, sym, ap, ap₂, subst, _∙_}
 use mathlib.Core.Bool.{Bool, false}
 use mathlib.Core.List.{List, [], _∷_, _++_, append-assoc, append-nil}
-use mathlib.Core.Logic.{⊎-elim}
-use native.Mathlib.Nat.{add-zero, pow-suc, not-suc-le-zero, le-of-suc-le-suc, zero-lt-suc, eq-or-lt-of-le}
+use native.Mathlib.Nat.{add-zero, pow-suc, not-suc-le-zero, zero-lt-suc}
 use native.Mathlib.Omega.{arith}
 use lib.ListN.{length, getD, drop, length-append, length-replicate, getD-replicate, List·getD-append}
 use lib.Seq.{drop-cons, drop-drop, drop-at, getD-drop}
@@ -15,7 +14,9 @@ use borrow.Author.Tests.{eqb-true, eq-eqb, not-false}
 use Rattle.form.specs.First.{any}
 use Rattle.form.specs.Bytes.{byteAt, number, strayIn}
 use Rattle.form.specs.Layout.{Layout, rowFrom, strayFrom}
+use Rattle.form.proofs.Fields.{ends, ends-from}
 use Rattle.form.proofs.Tests.{or-none}
+use Rattle.form.proofs.Search.{any-none, any-each}
 use Rattle.filing.specs.Written.{zeros, recordFrom}
 use Rattle.form.specs.Bytes.{littleEndian}
 
@@ -112,20 +113,6 @@ number-stands (suc w) s p b l =
 pub length-zeros : (n : ℕ) → length (zeros n) ≡ n
 length-zeros n = length-replicate n 0
 
-pub any-none : (p : ℕ → Bool) (n : ℕ) → ((i : ℕ) → i < n → p i ≡ false) → any p n ≡ false
-unfolding any
-any-none p zero h = refl
-any-none p (suc n) h = rw (any-none p n (λ i l. h i (omega arith)), h n (omega arith))
-
-pub any-each : (p : ℕ → Bool) (n : ℕ) → any p n ≡ false → (i : ℕ) → i < n → p i ≡ false
-unfolding any
-any-each p zero e i l = absurd (not-suc-le-zero l)
-any-each p (suc n) e i l =
-    ⊎-elim
-    (λ q. rw q (or-none (any p n) (p n) e .1))
-    (λ lt. any-each p n (or-none (any p n) (p n) e .0) i lt)
-    (eq-or-lt-of-le (le-of-suc-le-suc l))
-
 pub zeros-read : (n : ℕ) (s : List ℕ) (p : ℕ) → Stands s p (zeros n) → strayIn s p n ≡ false
 unfolding strayIn
 zeros-read n s p h =
@@ -143,16 +130,6 @@ zeros-stand n s p l h =
     eqb-true (byteAt s (p + i)) 0 (not-false _ (any-each _ n h i lt)) ∙ sym (getD-replicate n i 0 0 lt))
 
 -- ---- a record
-
--- where the last field ends
-unfoldable pub ends : ℕ → Layout → ℕ
-ends k [] = k
-ends k (f ∷ l) = ends (k + f .zeros + f .width) l
-
-pub ends-from : (k : ℕ) (l : Layout) → k ≤ ends k l
-unfolding ends
-ends-from k [] = omega arith
-ends-from k (f ∷ l) = omega (arith, ends-from (k + f .zeros + f .width) l)
 
 -- each number of a row fits the width of its field
 unfoldable pub Fits : Layout → List ℕ → Type 0

@@ -1,13 +1,8 @@
 -- The layouts by number, as the code asks for them.
 use Prim.Native.Nat.{ℕ, _/_, _%_}
 use mathlib.Core.List.{List}
-use lib.ListN.{getD}
-use Rattle.form.specs.Layout.{Field, field, Layout, layout, rowAt}
+use Rattle.form.specs.Layout.{layout, rowAt}
 use Rattle.form.specs.Block.{recordAt}
-
--- field i of a layout; past the last there is none
-abbrev pub fieldAt : Layout → ℕ → Field
-fieldAt l i = getD l i (field 0 0 0)
 
 -- the row of the record at a place, read as one of a kind
 unfoldable pub rowOn : ℕ → List ℕ → ℕ → List ℕ

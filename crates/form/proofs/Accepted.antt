@@ -1,25 +1,26 @@
 -- What acceptance says of a return. Each law takes `verdictOf s ≡ Accepted c` and nothing else. Assumes nothing.
---     accepted-counts    the counts are the sums of the kinds' counts
---     whole-blocks       one block to ten, and no byte more
+--     accepted-counts    the counts are the sums of the kinds' counts; counted, kind by kind
+--     whole-blocks       one block or more, not more than a return can have, and no byte more
 --     few-rows           at most 32 rows of a kind; one-row, one parameter row
---     blocks-are         the blocks of the four kinds are all
+--     blocks-are         the blocks of the kinds are all; first-block, a kind's first, by the counts
 --     rows-are           the rows of a kind stand one after the other from the place that the counts give; row-is, each by its bytes; inside, in the bytes
---     within             each field is within its limit (limit-of, a field of a row); spent, shrunk, rules 7 and 8 of a conversion row
+--     row-kept           every rule of one row: within, 6 (limit-of, a field of a row); spent, shrunk, 7 and 8 of a conversion row
 use Prim.Native.Nat.{ℕ, zero, suc, _+_, _-_, _*_, _/_, _%_, _<_, _≤_, min}
-use mathlib.Core.Path.{_≡_, refl, sym, ap, subst, _∙_}
+use mathlib.Core.Path.{_≡_, refl, sym, ap, ap₂, subst, _∙_}
 use mathlib.Core.Bool.{Bool, true, false, not, _&&_, _||_, true≢false}
 use mathlib.Core.List.{List, [], _∷_, _++_}
+use native.Mathlib.Decide.{decLt}
 use native.Mathlib.Omega.{arith}
 use borrow.Author.Tests.{lt-ltb, eq-eqb, ltb-false, eqb-false, eqb-true, not-false}
-use lib.ListN.{length, getD, drop}
+use lib.ListN.{length, getD, drop, List·getD-eq-default}
 use lib.Seq.{getD-drop}
 use lib.Dec.{ltb, eqb}
 use Rattle.form.specs.Ruling.{Rule, ruling}
-use Rattle.form.specs.Layout.{Field, Layout, layout, rowAt, aboveLimit}
-use Rattle.form.specs.Block.{blocks, kindOf, countOf, recordAt, blocksBelow, badLength}
-use Rattle.form.specs.Records.{Filed, filed, badId, badField, badFractions, badDensities, recordRules, overspent, grown}
-use Rattle.form.specs.Verdict.{blockRules, rules, rowCount, rows, countsOf, verdictBy, verdictOf}
-use Rattle.form.specs.Standing.{blocksFor, startBlock, startPlace, rowsFrom}
+use Rattle.form.specs.Layout.{Field, Layout, kinds, parametersKind, layout, rowAt, aboveLimit}
+use Rattle.form.specs.Block.{mostBlocks, longest, blocks, kindOf, countOf, edition, recordAt, blocksBelow, badLength}
+use Rattle.form.specs.Records.{Filed, filed, RowTest, RowRule, rowRules, brokenBy, overPlaces, recordRules, overspent, grown}
+use Rattle.form.specs.Verdict.{blockRules, rules, rowCount, rows, countsOf, countList, countIn, verdictBy, verdictOf}
+use Rattle.form.specs.Standing.{blocksFor, startBlock, firstBlock, startPlace, rowsFrom}
 use Rattle.form.specs.declared.Counts.{Counts}
 use Rattle.form.specs.declared.Ruling.{Ruling}
 use Rattle.form.specs.declared.Ruling.the-variants.{Clean, Broken}
@@ -27,8 +28,9 @@ use Rattle.form.specs.declared.Verdict.{Verdict}
 use Rattle.form.specs.declared.Verdict.the-variants.{Accepted, Refused}
 use Rattle.form.proofs.Tests.{and-rest, or-none}
 use Rattle.form.proofs.Order.{AllKept, Kept, none, more, ruling-clean}
-use Rattle.form.proofs.Places.{rowIn, field-at, fractions-at, densities-at}
-use Rattle.form.proofs.Stand.{Ordered, ordered, needed, four-last, kind-blocks, start-5, start-le, at-start, kind-in, count-in}
+use Rattle.form.proofs.Places.{rowIn, broken-at}
+use Rattle.form.proofs.EachKind.{one-kind}
+use Rattle.form.proofs.Stand.{Ordered, ordered, needed, none-inner, kind-blocks, start-all, start-le, at-start, kind-in, count-in}
 use Rattle.form.proofs.StandRows.{from-at, from-length, row-at, rows-stand}
 
 -- where row i of a kind stands
@@ -60,6 +62,31 @@ limit-of (x ∷ l) r (suc i) f h e =
     let q : 1 + i ≡ suc i = omega arith in
     subst (λ (y : ℕ). y ≤ getD l i f .limit) (getD-drop 1 r i 0 ∙ ap (λ (y : ℕ). getD r y 0) q) g
 
+-- f i, f (i + 1) and so on, n of them
+unfoldable pub eachFrom : (ℕ → ℕ) → ℕ → ℕ → List ℕ
+eachFrom f i zero = []
+eachFrom f i (suc n) = f i ∷ eachFrom f (suc i) n
+
+each-at : (f : ℕ → ℕ) (n i k : ℕ) → k < n → getD (eachFrom f i n) k 0 ≡ f (i + k)
+unfolding eachFrom
+each-at f zero i k h = absurd (omega arith)
+each-at f (suc n) i zero h = let e : i + 0 ≡ i = omega arith in rw e
+each-at f (suc n) i (suc k) h = let e : i + suc k ≡ suc i + k = omega arith in rw e (each-at f n (suc i) k (omega arith))
+
+-- the counts, listed kind by kind
+pub counts-listed : (s : List ℕ) → countList (countsOf s) ≡ eachFrom (λ k. rowCount k s) 1 kinds
+unfolding kinds eachFrom
+counts-listed s = refl
+
+counts-length : (c : Counts) → length (countList c) ≡ kinds
+unfolding kinds
+counts-length c = refl
+
+-- a row keeps some rules of one row
+abbrev pub RowKept : List RowRule → ℕ → ℕ → List ℕ → Type 0
+RowKept [] e k r = Unit {0}
+RowKept (q ∷ qs) e k r = (q .breaks e k r ≡ false) × RowKept qs e k r
+
 module _ (s : List ℕ) (c : Counts) (acc : verdictOf s ≡ Accepted c) where
   clean : (ruling (rules s) ≡ Clean) × (countsOf s ≡ c)
   unfolding verdictOf
@@ -71,8 +98,16 @@ module _ (s : List ℕ) (c : Counts) (acc : verdictOf s ≡ Accepted c) where
   pub accepted-counts : c ≡ countsOf s
   accepted-counts = sym (clean .1)
 
-  kept : AllKept (blockRules s) × AllKept (recordRules (filed s))
-  kept = append-kept (blockRules s) (recordRules (filed s)) (ruling-clean (clean .0))
+  -- the count of each kind
+  pub counted : (k : ℕ) → k < kinds → countIn c (suc k) ≡ rowCount (suc k) s
+  counted k h =
+      ap (λ (x : Counts). countIn x (suc k)) accepted-counts
+      ∙ ap (λ (x : List ℕ). getD x k 0) (counts-listed s)
+      ∙ each-at (λ x. rowCount x s) kinds 1 k h
+      ∙ ap (λ (x : ℕ). rowCount x s) (let e : 1 + k ≡ suc k = omega arith in e)
+
+  kept : AllKept (blockRules s) × AllKept (recordRules (edition s 0) (filed s))
+  kept = append-kept (blockRules s) (recordRules (edition s 0) (filed s)) (ruling-clean (clean .0))
 
   pub in-order : Ordered s (blocks s)
   in-order = ordered s (kept .0)
@@ -84,21 +119,37 @@ module _ (s : List ℕ) (c : Counts) (acc : verdictOf s ≡ Accepted c) where
       elim-first : AllKept (blockRules s) → badLength s ≡ false
       elim-first (more h a) = h 0 (omega arith)
 
-  pub whole-blocks : (1 ≤ blocks s) × (blocks s ≤ 10) × (length s ≡ 512 * blocks s)
+  pub whole-blocks : (1 ≤ blocks s) × (blocks s ≤ mostBlocks) × (length s ≡ 512 * blocks s)
   unfolding badLength
   whole-blocks =
-      let f = or-none (eqb (length s) 0 || ltb 5120 (length s)) _ length-rule in
+      let f = or-none (eqb (length s) 0 || ltb longest (length s)) _ length-rule in
       let g = or-none (eqb (length s) 0) _ (f .0) in
       let z : length s ≡ 0 → ⊥ = eqb-false (length s) 0 (g .0) in
-      let h = ltb-false 5120 (length s) (g .1) in
+      let h = ltb-false longest (length s) (g .1) in
       let m = eqb-true (length s % 512) 0 (not-false _ (f .1)) in
       (omega arith, omega arith, omega arith)
 
   pub few-rows : (k : ℕ) → rowCount k s ≤ 32
   few-rows k = needed s (blocks s) in-order k (blocks s) (omega arith) .rows
 
-  pub blocks-are : blocks s ≡ startBlock 5 s
-  blocks-are = sym (start-5 s in-order)
+  pub blocks-are : blocks s ≡ startBlock (suc kinds) s
+  blocks-are = sym (start-all s in-order)
+
+  -- a kind's first block, by the counts
+  pub first-block : (k : ℕ) → k ≤ suc kinds → firstBlock k c ≡ startBlock k s
+  unfolding firstBlock startBlock
+  first-block zero h = refl
+  first-block (suc zero) h = refl
+  first-block (suc (suc k)) h = ap₂ (λ (x y : ℕ). x + blocksFor y) (first-block (suc k) (omega arith)) (counted k (omega arith))
+
+  -- at most 32 rows of each kind, by the counts
+  pub few-counted : (k : ℕ) → countIn c k ≤ 32
+  few-counted zero = omega arith
+  few-counted (suc k) = go (decLt k kinds)
+    where
+      go : Dec (k < kinds) → countIn c (suc k) ≤ 32
+      go (yes h) = rw (counted k h) (few-rows (suc k))
+      go (no h) = let z : countIn c (suc k) ≡ 0 = List·getD-eq-default (countList c) 0 {n = k} (omega (arith, counts-length c)) in omega arith
 
   pub rows-are : (k : ℕ) → rows k s ≡ rowsFrom (filed s) (startPlace k s) (rowCount k s)
   rows-are k = rows-stand s in-order k
@@ -106,32 +157,32 @@ module _ (s : List ℕ) (c : Counts) (acc : verdictOf s ≡ Accepted c) where
   pub rows-length : (k : ℕ) → length (rows k s) ≡ rowCount k s
   rows-length k = ap length (rows-are k) ∙ from-length (filed s) (startPlace k s) (rowCount k s)
 
-  lies-next : (k i : ℕ) → k < 4 → i < rowCount (suc k) s → Lies s (suc k) i
+  lies-next : (k i : ℕ) → k < kinds → i < rowCount (suc k) s → Lies s (suc k) i
   lies-next k i h l =
       let more : startBlock (suc (suc k)) s ≡ startBlock (suc k) s + blocksFor (rowCount (suc k) s) = next-start s k in
       let b : startBlock (suc k) s + i / 12 < startBlock (suc (suc k)) s = omega arith in
-      let n : startBlock (suc k) s + i / 12 < blocks s = omega (arith, start-le s in-order (suc (suc k)) 5 (omega arith), start-5 s in-order) in
+      let n : startBlock (suc k) s + i / 12 < blocks s = omega (arith, start-le s in-order (suc (suc k)) (suc kinds) (omega arith), start-all s in-order) in
       let e : kindOf s (startBlock (suc k) s + i / 12) ≡ suc k = kind-in s in-order k (startBlock (suc k) s + i / 12) (omega arith) b h in
       let p = at-start s in-order (suc k) (startBlock (suc k) s + i / 12) n e in
       let q = count-in s in-order (suc k) (startBlock (suc k) s + i / 12) n e in
       record { below = n; kind = e; used = omega arith }
 
   -- row i of a kind stands in one of the kind's blocks, in a used record
-  pub lies : (k i : ℕ) → 1 ≤ k → k ≤ 4 → i < rowCount k s → Lies s k i
+  pub lies : (k i : ℕ) → 1 ≤ k → k ≤ kinds → i < rowCount k s → Lies s k i
   lies zero i lo hi l = absurd (omega arith)
   lies (suc k) i lo hi l = lies-next k i hi l
 
-  pub one-row : rowCount 4 s ≡ 1
+  pub one-row : rowCount parametersKind s ≡ 1
   one-row =
       let w = whole-blocks in
       let e : blocks s ≡ suc (blocks s - 1) = omega arith in
       let k = in-order .ends (blocks s - 1) (sym e) in
-      let q = count-in s in-order 4 (blocks s - 1) (omega arith) k in
+      let q = count-in s in-order parametersKind (blocks s - 1) (omega arith) k in
       let o = in-order .one (blocks s - 1) (omega arith) k in
-      let z = four-last s (blocks s) in-order (blocks s - 1) (omega arith) in
+      let z = none-inner s (blocks s) in-order (blocks s - 1) (omega arith) in
       omega arith
 
-  module _ (k i : ℕ) (lo : 1 ≤ k) (hi : k ≤ 4) (l : i < rowCount k s) where
+  module _ (k i : ℕ) (lo : 1 ≤ k) (hi : k ≤ kinds) (l : i < rowCount k s) where
     position : 12 * startBlock k s + i ≡ 12 * (startBlock k s + i / 12) + i % 12
     position = omega arith
 
@@ -151,46 +202,44 @@ module _ (s : List ℕ) (c : Counts) (acc : verdictOf s ≡ Accepted c) where
     used : ltb (i % 12) (countOf s (startBlock k s + i / 12)) ≡ true
     used = lt-ltb _ _ (lies k i lo hi l .used)
 
-    -- what the rules of records say at its place
-    record Kept-there : Type 0 where
-      field₆ : aboveLimit (layout (kindOf s (startBlock k s + i / 12))) (rowIn s (startBlock k s + i / 12) (i % 12)) ≡ false
-      field₇ : (eqb (kindOf s (startBlock k s + i / 12)) 1 && overspent (rowIn s (startBlock k s + i / 12) (i % 12))) ≡ false
-      field₈ : (eqb (kindOf s (startBlock k s + i / 12)) 1 && grown (rowIn s (startBlock k s + i / 12) (i % 12))) ≡ false
-
-    kept-there : Kept-there
-    unfolding Kept
-    kept-there = go (kept .1)
-      where
-        go : AllKept (recordRules (filed s)) → Kept-there
-        go (more h₅ (more h₆ (more h₇ (more h₈ none)))) =
-            let p = lies k i lo hi l in
-            let b = startBlock k s + i / 12 in
-            let r : i % 12 < 12 = omega arith in
-            let j : 12 * b + i % 12 < 12 * blocks s = omega arith in
-            record {
-              field₆ = and-rest _ _ used (sym (field-at s b (i % 12) r) ∙ h₆ (12 * b + i % 12) j);
-              field₇ = and-rest _ _ used (sym (fractions-at s b (i % 12) r) ∙ h₇ (12 * b + i % 12) j);
-              field₈ = and-rest _ _ used (sym (densities-at s b (i % 12) r) ∙ h₈ (12 * b + i % 12) j);
-            }
-
     -- where a test of the row's kind and bytes fails, it fails of the row
-    moved : (t : ℕ → List ℕ → Bool) → t (kindOf s (startBlock k s + i / 12)) (rowIn s (startBlock k s + i / 12) (i % 12)) ≡ false → t k (getD (rows k s) i []) ≡ false
+    moved : (t : RowTest) → t (edition s 0) (kindOf s (startBlock k s + i / 12)) (rowIn s (startBlock k s + i / 12) (i % 12)) ≡ false
+        → t (edition s 0) k (getD (rows k s) i []) ≡ false
     moved t e =
-        ap (t k) row-is
-        ∙ ap (λ (x : ℕ). t x (rowAt (layout x) s (recordAt (startBlock k s + i / 12) (i % 12)))) (sym (lies k i lo hi l .kind))
+        ap (t (edition s 0) k) row-is
+        ∙ ap (λ (x : ℕ). t (edition s 0) x (rowAt (layout x) s (recordAt (startBlock k s + i / 12) (i % 12)))) (sym (lies k i lo hi l .kind))
         ∙ e
 
+    -- a rule of one row that is kept at every place is kept by the row
+    row-rule : (t : RowTest) → ((j : ℕ) → j < 12 * blocks s → brokenBy (filed s) (edition s 0) t j ≡ false) → t (edition s 0) k (getD (rows k s) i []) ≡ false
+    row-rule t h =
+        let p = lies k i lo hi l in
+        let b = startBlock k s + i / 12 in
+        let r : i % 12 < 12 = omega arith in
+        let j : 12 * b + i % 12 < 12 * blocks s = omega arith in
+        moved t (and-rest _ _ used (sym (broken-at s b (i % 12) r (edition s 0) t) ∙ h (12 * b + i % 12) j))
+
+    rows-kept : (qs : List RowRule) → AllKept (overPlaces (edition s 0) (filed s) qs) → RowKept qs (edition s 0) k (getD (rows k s) i [])
+    unfolding Kept
+    rows-kept [] none = tt
+    rows-kept (q ∷ qs) (more h a) = (row-rule (q .breaks) h, rows-kept qs a)
+
+    -- every rule of one row
+    pub row-kept : RowKept rowRules (edition s 0) k (getD (rows k s) i [])
+    row-kept = go (kept .1)
+      where
+        go : AllKept (recordRules (edition s 0) (filed s)) → RowKept rowRules (edition s 0) k (getD (rows k s) i [])
+        go (more h a) = rows-kept rowRules a
+
     pub within : aboveLimit (layout k) (getD (rows k s) i []) ≡ false
-    within = moved (λ x r. aboveLimit (layout x) r) (kept-there .field₆)
+    within = row-kept .0
 
-    spent-at : (eqb k 1 && overspent (getD (rows k s) i [])) ≡ false
-    spent-at = moved (λ x r. eqb x 1 && overspent r) (kept-there .field₇)
+  module _ (i : ℕ) (l : i < rowCount 1 s) where
+    conversion-kept : RowKept rowRules (edition s 0) 1 (getD (rows 1 s) i [])
+    conversion-kept = row-kept 1 i (omega arith) one-kind l
 
-    shrunk-at : (eqb k 1 && grown (getD (rows k s) i [])) ≡ false
-    shrunk-at = moved (λ x r. eqb x 1 && grown r) (kept-there .field₈)
+    pub spent : overspent (getD (rows 1 s) i []) ≡ false
+    spent = conversion-kept .1 .0
 
-  pub spent : (i : ℕ) → i < rowCount 1 s → overspent (getD (rows 1 s) i []) ≡ false
-  spent i l = spent-at 1 i (omega arith) (omega arith) l
-
-  pub shrunk : (i : ℕ) → i < rowCount 1 s → grown (getD (rows 1 s) i []) ≡ false
-  shrunk i l = shrunk-at 1 i (omega arith) (omega arith) l
+    pub shrunk : grown (getD (rows 1 s) i []) ≡ false
+    shrunk = conversion-kept .1 .1 .0

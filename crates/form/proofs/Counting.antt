@@ -1,14 +1,15 @@
 -- Laws of the blocks and rows of a kind, counted block by block. Assumes nothing.
-use Prim.Native.Nat.{ℕ, zero, suc, _+_, _*_, _≤_, _<_}
+use Prim.Native.Nat.{ℕ, zero, suc, _+_, _≤_}
 use mathlib.Core.Path.{_≡_, refl}
-use mathlib.Core.Bool.{Bool, true, false, cond}
+use mathlib.Core.Bool.{cond}
 use mathlib.Core.List.{List}
 use lib.Dec.{eqb}
 use native.Mathlib.Numerals.{add-one}
 use native.Mathlib.Omega.{arith}
 use Rattle.form.specs.Block.{kindOf, countOf, blocksBelow}
-use Rattle.form.specs.Verdict.{countBelow}
-use Rattle.form.proofs.Numbers.{Bytes}
+use Rattle.form.specs.Verdict.{countBelow, countIn}
+use Rattle.form.specs.Standing.{blocksFor, firstBlock}
+use Rattle.form.specs.declared.Counts.{Counts}
 
 pub blocks-none : (k : ℕ) (s : List ℕ) → blocksBelow k s 0 ≡ 0
 unfolding blocksBelow
@@ -26,12 +27,12 @@ pub count-more : (k : ℕ) (s : List ℕ) (n : ℕ) → countBelow k s (n + 1) �
 unfolding countBelow
 count-more k s n = rw add-one
 
-at-most : (t : Bool) (n : ℕ) → cond t n 0 ≤ n
-at-most true n = omega arith
-at-most false n = omega arith
+-- a kind's first block, by the counts: one kind more
+pub first-next : (k : ℕ) (c : Counts) → 1 ≤ k → firstBlock (k + 1) c ≡ firstBlock k c + blocksFor (countIn c k)
+unfolding firstBlock
+first-next zero c h = absurd (omega arith)
+first-next (suc k) c h = rw (add-one (suc k))
 
--- a count is a byte
-pub count-le : (k : ℕ) (s : List ℕ) → Bytes s → (n : ℕ) → countBelow k s n ≤ 255 * n
-unfolding countBelow Bytes
-count-le k s h zero = omega arith
-count-le k s h (suc n) = omega (arith, count-le k s h n, at-most (eqb (kindOf s n) k) (countOf s n), h (512 * n + 1))
+pub first-one : (c : Counts) → firstBlock 1 c ≡ 0
+unfolding firstBlock
+first-one c = refl

@@ -1,9 +1,11 @@
+pub mod Tests
 pub mod Search
 pub mod Order
 pub mod Numbers
 pub mod Sums
 pub mod Check
-pub mod Tests
+pub mod EachKind
+pub mod Fields
 pub mod Tables
 pub mod Counting
 pub mod Places

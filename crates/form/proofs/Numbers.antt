@@ -1,26 +1,19 @@
 -- Laws of little-endian numbers and of bytes that are zero. Assumes nothing.
---     number-1, -2, -4      a number in one, two or four bytes, as the code adds it up
---     number-lt             it is below 256 to the power of its width
---     stray-none            no byte, none that is not zero
+--     number-2, number-4    a number in two or four bytes, as the code adds it up
 --     stray-bits            some byte is not zero just where the bytes, or-ed together, are not zero
-use Prim.Native.Nat.{ℕ, zero, suc, _+_, _*_, _^_, _<_, _≤_}
-use mathlib.Core.Path.{_≡_, refl, sym, ap, _∙_}
-use mathlib.Core.Bool.{Bool, true, false, not, _||_, or-true, or-false}
+use Prim.Native.Nat.{ℕ, zero, suc, _+_, _*_, _<_, _≤_}
+use mathlib.Core.Path.{_≡_, refl, ap, _∙_}
+use mathlib.Core.Bool.{Bool, not, _||_}
 use mathlib.Core.List.{List}
-use native.Mathlib.Nat.{add-assoc, not-suc-le-zero, pow-suc}
+use native.Mathlib.Nat.{add-assoc, not-suc-le-zero}
 use native.Mathlib.Numerals.{add-one}
 use native.Mathlib.Omega.{arith}
-use borrow.Author.Tests.{eq-eqb, ne-eqb}
 use lib.Bits.{bitAnd, bitOr, or-add-and, and-le-l, and-le-r}
 use lib.Dec.{eqb, eqb·suc-zero}
 use mir.Val.{Fits}
 use mir.Syntax.{w8}
 use Rattle.form.specs.First.{any}
 use Rattle.form.specs.Bytes.{byteAt, number, strayIn}
-
-pub number-1 : (s : List ℕ) (at : ℕ) → number 1 s at ≡ byteAt s at
-unfolding number
-number-1 s at = omega arith
 
 pub number-2 : (s : List ℕ) (at : ℕ) → number 2 s at ≡ byteAt s at + 256 * byteAt s (at + 1)
 unfolding number
@@ -39,11 +32,6 @@ pub known : (s : List ℕ) → ((i : ℕ) → Fits w8 (byteAt s i)) → Bytes s
 unfolding Bytes
 known s h = λ i. h i .fits
 
-pub number-lt : (w : ℕ) (s : List ℕ) (at : ℕ) → Bytes s → number w s at < 256 ^ w
-unfolding number Bytes
-number-lt zero s at h = omega arith
-number-lt (suc w) s at h = omega (arith, pow-suc 256 w, number-lt w s (at + 1) h, h at)
-
 -- the bytes or-ed together
 unfoldable pub bitsOf : List ℕ → ℕ → ℕ → ℕ
 bitsOf s at zero = 0
@@ -56,10 +44,6 @@ bits-none s at = refl
 pub bits-more : (s : List ℕ) (at n : ℕ) → bitsOf s at (n + 1) ≡ bitOr (bitsOf s at n) (byteAt s (at + n))
 unfolding bitsOf
 bits-more s at n = rw add-one
-
-pub stray-none : (s : List ℕ) (at : ℕ) → strayIn s at 0 ≡ false
-unfolding strayIn any
-stray-none s at = refl
 
 -- a number not below either of two and not above their sum is zero just where both are
 both-zero : (a b n : ℕ) → a ≤ n → b ≤ n → n ≤ a + b → (not (eqb a 0) || not (eqb b 0)) ≡ not (eqb n 0)

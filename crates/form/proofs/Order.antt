@@ -3,8 +3,9 @@
 --     ruling-append     one list of rules tried after another; ruled-before, kept-before, by what the first list says
 --     one-broken, one-kept    a rule of one place
 --     ruling-least      what it refuses is broken there, at no lower place, and no earlier rule is broken anywhere; least-ruling, the other way
+--     least-place       how high a refusal's place can be
 --     ruling-clean      where it is clean, no rule is broken anywhere; clean-ruling, the other way
-use Prim.Native.Nat.{ℕ, _<_}
+use Prim.Native.Nat.{ℕ, _<_, _≤_}
 use mathlib.Core.Path.{_≡_, refl, sym, ap, subst, _∙_}
 use mathlib.Core.Bool.{Bool, true, false}
 use mathlib.Core.List.{List, [], _∷_, _++_}
@@ -40,6 +41,15 @@ ruling-append [] qs = refl
 ruling-append (r ∷ rs) qs =
     ap (λ (v : Ruling). refuse (r .number) (first (r .broken) (r .places)) v) (ruling-append rs qs)
     ∙ or-refuse (r .number) (first (r .broken) (r .places)) (ruling rs) (ruling qs)
+
+-- where both are clean
+pub or-clean : (u v : Ruling) → orRule u v ≡ Clean → u ≡ Clean
+or-clean Clean v e = refl
+or-clean (Broken n i) v e = e
+
+pub or-second : (u v : Ruling) → orRule u v ≡ Clean → v ≡ Clean
+or-second Clean v e = e
+or-second (Broken n i) v e = let z : _≡_ {A = ℕ} 0 1 = cc in absurd (omega arith)
 
 -- rules behind a broken one are not tried
 pub ruled-before : (rs qs : List Rule) {n i : ℕ} → ruling rs ≡ Broken n i → ruling (rs ++ qs) ≡ Broken n i
@@ -99,3 +109,12 @@ pub clean-ruling : {rs : List Rule} → AllKept rs → ruling rs ≡ Clean
 unfolding Kept ruling
 clean-ruling none = refl
 clean-ruling (more {r} {rs} h m) = sym (kept r rs (first-is-none (r .broken) _ h) (sym (clean-ruling m)))
+
+-- every rule of a list has at most m places: a refusal's place is below m
+abbrev pub FewPlaces : ℕ → List Rule → Type 0
+FewPlaces m [] = Unit {0}
+FewPlaces m (r ∷ rs) = (r .places ≤ m) × FewPlaces m rs
+
+pub least-place : {rs : List Rule} {n p : ℕ} (m : ℕ) → FewPlaces m rs → Least rs n p → p < m
+least-place m h (this l e k) = omega (arith, h .0)
+least-place m h (later k q) = least-place m (h .1) q

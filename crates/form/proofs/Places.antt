@@ -1,6 +1,6 @@
 -- Laws of places: record r of block b stands at place 12 b + r. Assumes nothing.
 --     block-of, position-of    the block and the position of a place
---     id-first, id-later, field-at, fractions-at, densities-at    rules 5 to 8 there, by block and position
+--     id-first, id-later, broken-at    rule 5 and a rule of one row there, by block and position
 use Prim.Native.Nat.{ℕ, zero, suc, _+_, _-_, _*_, _/_, _%_, _<_, _≤_}
 use mathlib.Core.Path.{_≡_, refl, sym, ap, ap₂, subst, _∙_}
 use mathlib.Core.Bool.{Bool, true, false, _&&_, and-false}
@@ -10,11 +10,11 @@ use native.Mathlib.Omega.{arith}
 use borrow.Author.Tests.{lt-ltb, eq-eqb, eqb-true}
 use lib.Dec.{ltb, leb, eqb}
 use Rattle.form.specs.Bytes.{number}
-use Rattle.form.specs.Layout.{layout, rowAt, aboveLimit}
+use Rattle.form.specs.Layout.{layout, rowAt}
 use Rattle.form.specs.Block.{kindOf, countOf, recordAt}
 use Rattle.form.proofs.Tests.{guarded}
 use Rattle.form.proofs.Tables.{id-number}
-use Rattle.form.specs.Records.{filed, hasId, idOf, badId, badField, badFractions, badDensities, overspent, grown}
+use Rattle.form.specs.Records.{RowTest, filed, hasId, idOf, badId, brokenBy}
 
 pub block-of : (b r : ℕ) → r < 12 → (12 * b + r) / 12 ≡ b
 block-of b r l = omega arith
@@ -27,17 +27,10 @@ abbrev pub rowIn : List ℕ → ℕ → ℕ → List ℕ
 rowIn s b r = rowAt (layout (kindOf s b)) s (recordAt b r)
 
 module _ (s : List ℕ) (b r : ℕ) (l : r < 12) where
-  pub field-at : badField (filed s) (12 * b + r) ≡ (ltb r (countOf s b) && aboveLimit (layout (kindOf s b)) (rowIn s b r))
-  unfolding badField
-  field-at = rw (block-of b r l, position-of b r l)
-
-  pub fractions-at : badFractions (filed s) (12 * b + r) ≡ (ltb r (countOf s b) && (eqb (kindOf s b) 1 && overspent (rowIn s b r)))
-  unfolding badFractions
-  fractions-at = rw (block-of b r l, position-of b r l)
-
-  pub densities-at : badDensities (filed s) (12 * b + r) ≡ (ltb r (countOf s b) && (eqb (kindOf s b) 1 && grown (rowIn s b r)))
-  unfolding badDensities
-  densities-at = rw (block-of b r l, position-of b r l)
+  -- a rule of one row
+  pub broken-at : (e : ℕ) (t : RowTest) → brokenBy (filed s) e t (12 * b + r) ≡ (ltb r (countOf s b) && t e (kindOf s b) (rowIn s b r))
+  unfolding brokenBy
+  broken-at e t = rw (block-of b r l, position-of b r l)
 
   pub id-later : 0 < r → badId (filed s) (12 * b + r) ≡
       (ltb r (countOf s b) && (hasId (kindOf s b) && leb (number 4 s (recordAt b r)) (number 4 s (recordAt b (r - 1)))))

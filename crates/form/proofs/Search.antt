@@ -1,6 +1,7 @@
 -- Laws of `first` and `any`. Assumes nothing.
 --     first-zero, first-more, first-found    what a loop over the places needs: where it begins, goes on by one, and finds
 --     first-at, first-none    what a spot says of the test; first-is, first-is-none    and the other way
+--     any-none, any-each      a test that holds at no place
 --     part-none, part-found   the same by parts of w places, for a loop over blocks
 use Prim.Native.Nat.{ℕ, zero, suc, _+_, _-_, _*_, _<_, _≤_}
 use mathlib.Core.Path.{_≡_, refl, sym, ap, subst, _∙_}
@@ -11,6 +12,7 @@ use native.Mathlib.Decide.{decLt}
 use native.Mathlib.Numerals.{add-one}
 use native.Mathlib.Omega.{arith}
 use Rattle.form.specs.First.{first, any, orElse}
+use Rattle.form.proofs.Tests.{or-none}
 use Rattle.form.specs.declared.Spot.{Spot}
 use Rattle.form.specs.declared.Spot.the-variants.{At, Nowhere}
 
@@ -92,6 +94,27 @@ module _ (p : ℕ → Bool) where
       (λ e. subst (λ (k : ℕ). (any p k || p k) ≡ true) e (rw holds (or-true (any p i))))
       (λ lt. let e : any p n ≡ true = any-found i n holds lt in rw e)
       (eq-or-lt-of-le (le-of-suc-le-suc l))
+
+-- two tests that agree at each place
+pub first-same : (p q : ℕ → Bool) (n : ℕ) → ((k : ℕ) → k < n → p k ≡ q k) → first p n ≡ first q n
+unfolding first
+first-same p q zero h = refl
+first-same p q (suc n) h = rw (first-same p q n (λ k l. h k (omega arith)), h n (omega arith))
+
+-- a test that holds nowhere below n fails at each place there; and the other way
+pub any-none : (p : ℕ → Bool) (n : ℕ) → ((i : ℕ) → i < n → p i ≡ false) → any p n ≡ false
+unfolding any
+any-none p zero h = refl
+any-none p (suc n) h = rw (any-none p n (λ i l. h i (omega arith)), h n (omega arith))
+
+pub any-each : (p : ℕ → Bool) (n : ℕ) → any p n ≡ false → (i : ℕ) → i < n → p i ≡ false
+unfolding any
+any-each p zero e i l = absurd (not-suc-le-zero l)
+any-each p (suc n) e i l =
+    ⊎-elim
+    (λ q. rw q (or-none (any p n) (p n) e .1))
+    (λ lt. any-each p n (or-none (any p n) (p n) e .0) i lt)
+    (eq-or-lt-of-le (le-of-suc-le-suc l))
 
 module _ (p : ℕ → Bool) (w b : ℕ) (none : first p (w * b) ≡ Nowhere) where
   -- nor at a place of part b: none below the next part

@@ -1,6 +1,7 @@
 -- How the blocks and rows of an accepted return stand: the kinds in order, each kind's blocks full but its last, its rows one after the other.
 -- Assumes nothing.
---     ordered       what rules 3 and 4 say of each block, as plain facts
+--     headed        what rule 3 says of a block; ordered, what rules 3 and 4 say of each, as plain facts
+--     start-all     the blocks of all kinds are all there are
 --     at-start      a block's number is its kind's first block plus how many of its kind come before it
 --     few           at most three blocks and 32 rows of a kind
 --     needed        a kind takes as many blocks as its rows need
@@ -14,31 +15,51 @@ use borrow.Author.Tests.{lt-ltb, eq-eqb, ne-eqb, ltb-true, ltb-false, leb-false,
 use lib.ListN.{length}
 use lib.Dec.{ltb, leb, eqb}
 use Rattle.form.specs.Block.{blocks, kindOf, countOf, blockNumber, blocksSaid, edition, blocksBelow, isLast, badHeader, kindFalls, wrongEnd, earlier, badCount, notFilled, stray, badBlock}
+use Rattle.form.specs.Layout.{kinds, parametersKind}
+use Rattle.form.specs.Edition.{lastKind, known}
 use Rattle.form.specs.Verdict.{blockRules, countBelow, rowCount}
 use Rattle.form.specs.Standing.{blocksFor, startBlock, rowsFrom}
 use Rattle.form.proofs.Order.{AllKept, Kept, none, more}
 use Rattle.form.proofs.Tests.{or-none, and-rest}
+use Rattle.form.proofs.EachKind.{last-kinds}
 
 -- the kinds of n blocks are in order, and their counts as rule 4 has them
 pub record Ordered (s : List ℕ) (n : ℕ) : Type 0 where
   pub low : (b : ℕ) → b < n → 1 ≤ kindOf s b
-  pub high : (b : ℕ) → b < n → kindOf s b ≤ 4
+  pub high : (b : ℕ) → b < n → kindOf s b ≤ kinds
   pub rises : (b : ℕ) → suc b < n → kindOf s b ≤ kindOf s (suc b)
-  pub ends : (b : ℕ) → suc b ≡ n → kindOf s b ≡ 4
-  pub inner : (b : ℕ) → suc b < n → kindOf s b ≡ 4 → ⊥
+  pub ends : (b : ℕ) → suc b ≡ n → kindOf s b ≡ parametersKind
+  pub inner : (b : ℕ) → suc b < n → kindOf s b ≡ parametersKind → ⊥
   pub third : (b : ℕ) → b < n → blocksBelow (kindOf s b) s b < 3
   pub some : (b : ℕ) → b < n → 1 ≤ countOf s b
   pub twelve : (b : ℕ) → b < n → countOf s b ≤ 12
-  pub one : (b : ℕ) → b < n → kindOf s b ≡ 4 → countOf s b ≡ 1
+  pub one : (b : ℕ) → b < n → kindOf s b ≡ parametersKind → countOf s b ≡ 1
   pub filled : (b : ℕ) → suc b < n → kindOf s (suc b) ≡ kindOf s b → countOf s b ≡ 12
   pub eight : (b : ℕ) → b < n → blocksBelow (kindOf s b) s b ≡ 2 → countOf s b ≤ 8
 
 -- what rules 3 and 4 say of one block, test by test
-header-kind : (s : List ℕ) (b : ℕ) → badHeader s b ≡ false → (1 ≤ kindOf s b) × (kindOf s b ≤ 4)
+pub record Headed (s : List ℕ) (b : ℕ) : Type 0 where
+  pub low : 1 ≤ kindOf s b
+  pub high : kindOf s b ≤ lastKind (edition s b)
+  pub number : blockNumber s b ≡ b
+  pub said : blocksSaid s b ≡ blocks s
+  pub edition : known (edition s b) ≡ true
+
+pub headed : (s : List ℕ) (b : ℕ) → badHeader s b ≡ false → Headed s b
 unfolding badHeader
-header-kind s b e =
-    let f = or-none _ _ (or-none _ _ (or-none _ _ (or-none (ltb (kindOf s b) 1 || ltb 4 (kindOf s b) || not (eqb (blockNumber s b) b) || not (eqb (blocksSaid s b) (blocks s))) _ e .0) .0) .0) in
-    (ltb-false (kindOf s b) 1 (f .0), ltb-false 4 (kindOf s b) (f .1))
+headed s b e =
+    let last = lastKind (edition s b) in
+    let f = or-none (ltb (kindOf s b) 1 || ltb last (kindOf s b) || not (eqb (blockNumber s b) b) || not (eqb (blocksSaid s b) (blocks s))) _ e in
+    let g = or-none (ltb (kindOf s b) 1 || ltb last (kindOf s b) || not (eqb (blockNumber s b) b)) _ (f .0) in
+    let h = or-none (ltb (kindOf s b) 1 || ltb last (kindOf s b)) _ (g .0) in
+    let k = or-none (ltb (kindOf s b) 1) _ (h .0) in
+    record {
+      low = ltb-false (kindOf s b) 1 (k .0);
+      high = ltb-false last (kindOf s b) (k .1);
+      number = eqb-true (blockNumber s b) b (not-false _ (h .1));
+      said = eqb-true (blocksSaid s b) (blocks s) (not-false _ (g .1));
+      edition = not-false _ (f .1);
+    }
 
 record Sound (s : List ℕ) (b : ℕ) : Type 0 where
   falls : kindFalls s b ≡ false
@@ -67,26 +88,26 @@ kind-rises s b g =
     let f = ltb-false (kindOf s (suc b)) (kindOf s (suc b - 1)) (and-rest _ _ (lt-ltb 0 (suc b) (omega arith)) (g .falls)) in
     rw e at f
 
-last-kind : (s : List ℕ) (b : ℕ) → b + 1 ≡ blocks s → Sound s b → kindOf s b ≡ 4
+last-kind : (s : List ℕ) (b : ℕ) → b + 1 ≡ blocks s → Sound s b → kindOf s b ≡ parametersKind
 unfolding wrongEnd
 last-kind s b e g =
-    let f = or-none (eqb (kindOf s b) 4 && not (isLast s b)) _ (g .end) .1 in
-    eqb-true (kindOf s b) 4 (not-false _ (and-rest _ _ (eq-eqb (b + 1) (blocks s) e) f))
+    let f = or-none (eqb (kindOf s b) parametersKind && not (isLast s b)) _ (g .end) .1 in
+    eqb-true (kindOf s b) parametersKind (not-false _ (and-rest _ _ (eq-eqb (b + 1) (blocks s) e) f))
 
-inner-kind : (s : List ℕ) (b : ℕ) → b + 1 < blocks s → kindOf s b ≡ 4 → Sound s b → ⊥
+inner-kind : (s : List ℕ) (b : ℕ) → b + 1 < blocks s → kindOf s b ≡ parametersKind → Sound s b → ⊥
 unfolding wrongEnd
 inner-kind s b l e g =
-    let f = or-none (eqb (kindOf s b) 4 && not (isLast s b)) _ (g .end) .0 in
-    omega (arith, eqb-true (b + 1) (blocks s) (not-false _ (and-rest _ _ (eq-eqb (kindOf s b) 4 e) f)))
+    let f = or-none (eqb (kindOf s b) parametersKind && not (isLast s b)) _ (g .end) .0 in
+    omega (arith, eqb-true (b + 1) (blocks s) (not-false _ (and-rest _ _ (eq-eqb (kindOf s b) parametersKind e) f)))
 
-count-facts : (s : List ℕ) (b : ℕ) → Sound s b → (1 ≤ countOf s b) × (countOf s b ≤ 12) × (kindOf s b ≡ 4 → countOf s b ≡ 1)
+count-facts : (s : List ℕ) (b : ℕ) → Sound s b → (1 ≤ countOf s b) × (countOf s b ≤ 12) × (kindOf s b ≡ parametersKind → countOf s b ≡ 1)
 unfolding badCount
 count-facts s b g =
     let f = or-none (ltb (countOf s b) 1 || ltb 12 (countOf s b)) _ (g .count) in
     let h = or-none (ltb (countOf s b) 1) _ (f .0) in (
       ltb-false (countOf s b) 1 (h .0),
       ltb-false 12 (countOf s b) (h .1),
-      λ e. eqb-true (countOf s b) 1 (not-false _ (and-rest _ _ (eq-eqb (kindOf s b) 4 e) (f .1))),
+      λ e. eqb-true (countOf s b) 1 (not-false _ (and-rest _ _ (eq-eqb (kindOf s b) parametersKind e) (f .1))),
     )
 
 full-count : (s : List ℕ) (b : ℕ) → suc b < blocks s → Sound s b → kindOf s (suc b) ≡ kindOf s b → countOf s b ≡ 12
@@ -99,8 +120,8 @@ full-count s b l g e =
 pub ordered : (s : List ℕ) → AllKept (blockRules s) → Ordered s (blocks s)
 unfolding blockRules Kept
 ordered s (more h₁ (more h₂ (more h₃ (more h₄ none)))) = record {
-  low = λ b l. header-kind s b (h₃ b l) .0;
-  high = λ b l. header-kind s b (h₃ b l) .1;
+  low = λ b l. headed s b (h₃ b l) .low;
+  high = λ b l. omega (arith, headed s b (h₃ b l) .high, last-kinds (edition s b));
   rises = λ b l. kind-rises s b (sound s (suc b) (h₄ (suc b) l));
   ends = λ b e. last-kind s b (omega arith) (sound s b (h₄ b (omega arith)));
   inner = λ b l e. inner-kind s b (omega arith) e (sound s b (h₄ b (omega arith)));
@@ -197,9 +218,9 @@ module _ (s : List ℕ) (n : ℕ) (o : Ordered s n) where
               omega (arith, count-yes k s m e, full-at k m l e, o .twelve m l)
 
   -- no parameter block before the last
-  pub four-last : (m : ℕ) → m < n → blocksBelow 4 s m ≡ 0
-  four-last zero l = none-before 4 s .0
-  four-last (suc m) l = blocks-no 4 s m (o .inner m l) ∙ four-last m (omega arith)
+  pub none-inner : (m : ℕ) → m < n → blocksBelow parametersKind s m ≡ 0
+  none-inner zero l = none-before parametersKind s .0
+  none-inner (suc m) l = blocks-no parametersKind s m (o .inner m l) ∙ none-inner m (omega arith)
 
   -- kinds never fall
   pub kinds-rise : (a d : ℕ) → a + d < n → kindOf s a ≤ kindOf s (a + d)
@@ -243,21 +264,54 @@ module _ (s : List ℕ) (n : ℕ) (o : Ordered s n) where
       let e : m + (n - m) ≡ n = omega arith in
       subst (λ (x : ℕ). (blocksBelow k s m ≤ blocksBelow k s x) × (countBelow k s m ≤ countBelow k s x)) e (grows k m (n - m))
 
-  -- every block is of one of the four kinds
-  pub all-kinds : (m : ℕ) → m ≤ n → blocksBelow 1 s m + blocksBelow 2 s m + blocksBelow 3 s m + blocksBelow 4 s m ≡ m
-  all-kinds zero l = let a = none-before 1 s in let b = none-before 2 s in let c = none-before 3 s in let d = none-before 4 s in omega arith
-  all-kinds (suc m) l = go (all-kinds m (omega arith)) (ℕ-discrete (kindOf s m) 1) (ℕ-discrete (kindOf s m) 2) (ℕ-discrete (kindOf s m) 3)
-    where
-      All : ℕ → Type 0
-      All x = blocksBelow 1 s x + blocksBelow 2 s x + blocksBelow 3 s x + blocksBelow 4 s x ≡ x
+  -- the blocks of the kinds from 1 to k, among the first m
+  unfoldable blocksTo : ℕ → ℕ → ℕ
+  blocksTo zero m = 0
+  blocksTo (suc k) m = blocksTo k m + blocksBelow (suc k) s m
 
-      go : All m → Dec (kindOf s m ≡ 1) → Dec (kindOf s m ≡ 2) → Dec (kindOf s m ≡ 3) → All (suc m)
-      go r (yes a) y z = omega (arith, blocks-yes 1 s m a, blocks-no 2 s m (omega arith), blocks-no 3 s m (omega arith), blocks-no 4 s m (omega arith))
-      go r (no a) (yes b) z = omega (arith, blocks-no 1 s m a, blocks-yes 2 s m b, blocks-no 3 s m (omega arith), blocks-no 4 s m (omega arith))
-      go r (no a) (no b) (yes c) = omega (arith, blocks-no 1 s m a, blocks-no 2 s m b, blocks-yes 3 s m c, blocks-no 4 s m (omega arith))
-      go r (no a) (no b) (no c) =
-          let d : kindOf s m ≡ 4 = omega (arith, o .low m l, o .high m l) in
-          omega (arith, blocks-no 1 s m a, blocks-no 2 s m b, blocks-no 3 s m c, blocks-yes 4 s m d)
+  to-none : (k : ℕ) → blocksTo k 0 ≡ 0
+  unfolding blocksTo
+  to-none zero = refl
+  to-none (suc k) = omega (arith, to-none k, none-before (suc k) s .0)
+
+  -- one block more, of a later kind, or of one of these
+  to-out : (k m : ℕ) → k < kindOf s m → blocksTo k (suc m) ≡ blocksTo k m
+  unfolding blocksTo
+  to-out zero m h = refl
+  to-out (suc k) m h = omega (arith, to-out k m (omega arith), blocks-no (suc k) s m (omega arith))
+
+  to-in : (k m : ℕ) → 1 ≤ kindOf s m → kindOf s m ≤ k → blocksTo k (suc m) ≡ blocksTo k m + 1
+  unfolding blocksTo
+  to-in zero m lo hi = absurd (omega arith)
+  to-in (suc k) m lo hi = go (λ h. to-in k m lo h) (ℕ-discrete (kindOf s m) (suc k))
+    where
+      go : (kindOf s m ≤ k → blocksTo k (suc m) ≡ blocksTo k m + 1) → Dec (kindOf s m ≡ suc k)
+          → blocksTo k (suc m) + blocksBelow (suc k) s (suc m) ≡ blocksTo k m + blocksBelow (suc k) s m + 1
+      go less (yes e) = omega (arith, to-out k m (omega arith), blocks-yes (suc k) s m e)
+      go less (no d) = omega (arith, less (omega arith), blocks-no (suc k) s m d)
+
+  -- every block up to one of kind k is of a kind up to k
+  upto : (k m : ℕ) → m < n → kindOf s m ≤ k → blocksTo k (suc m) ≡ suc m
+  upto k zero l h = omega (arith, to-in k 0 (o .low 0 l) h, to-none k)
+  upto k (suc m) l h = omega (arith, to-in k (suc m) (o .low (suc m) l) h, upto k m (omega arith) (omega (arith, o .rises m l)))
+
+  all-before : (k m : ℕ) → m < n → kindOf s m ≤ k → blocksTo k m ≡ m
+  all-before k zero l h = to-none k
+  all-before k (suc m) l h = upto k m (omega arith) (omega (arith, o .rises m l))
+
+  -- and every block is of one of the kinds
+  all-kinds : blocksTo kinds n ≡ n
+  all-kinds = go n refl
+    where
+      go : (m : ℕ) → m ≡ n → blocksTo kinds m ≡ m
+      go zero e = to-none kinds
+      go (suc m) e = upto kinds m (omega arith) (o .high m (omega arith))
+
+  -- behind a block of a later kind, no more of these
+  to-frozen : (k b : ℕ) → b < n → k < kindOf s b → blocksTo k n ≡ blocksTo k b
+  unfolding blocksTo
+  to-frozen zero b l h = refl
+  to-frozen (suc k) b l h = omega (arith, to-frozen k b l (omega arith), frozen-end (suc k) b (omega arith) (λ q. h) .0)
 
 first-start : (s : List ℕ) → startBlock 1 s ≡ 0
 unfolding startBlock
@@ -273,47 +327,22 @@ module _ (s : List ℕ) (o : Ordered s (blocks s)) where
   pub kind-blocks : (k : ℕ) → blocksBelow k s (blocks s) ≡ blocksFor (rowCount k s)
   kind-blocks k = let w = needed s (blocks s) o k (blocks s) (omega arith) in omega arith
 
-  pub start-2 : startBlock 2 s ≡ blocksBelow 1 s (blocks s)
-  unfolding startBlock
-  start-2 = omega (arith, kind-blocks 1)
+  -- a kind's first block comes behind the blocks of the kinds before it
+  start-to : (k : ℕ) → startBlock (suc k) s ≡ blocksTo s (blocks s) o k (blocks s)
+  unfolding startBlock blocksTo
+  start-to zero = refl
+  start-to (suc k) = omega (arith, start-to k, kind-blocks (suc k))
 
-  pub start-3 : startBlock 3 s ≡ blocksBelow 1 s (blocks s) + blocksBelow 2 s (blocks s)
-  unfolding startBlock
-  start-3 = omega (arith, kind-blocks 1, kind-blocks 2)
-
-  pub start-4 : startBlock 4 s ≡ blocksBelow 1 s (blocks s) + blocksBelow 2 s (blocks s) + blocksBelow 3 s (blocks s)
-  unfolding startBlock
-  start-4 = omega (arith, kind-blocks 1, kind-blocks 2, kind-blocks 3)
-
-  -- the blocks of the four kinds are all there are
-  pub start-5 : startBlock 5 s ≡ blocks s
-  unfolding startBlock
-  start-5 = omega (arith, kind-blocks 1, kind-blocks 2, kind-blocks 3, kind-blocks 4, all-kinds s (blocks s) o (blocks s) (omega arith))
-
-  -- the blocks of an earlier kind are all behind us
-  behind : (j b : ℕ) → b < blocks s → j < kindOf s b → blocksBelow j s (blocks s) ≡ blocksBelow j s b
-  behind j b l h = frozen-end s (blocks s) o j b (omega arith) (λ q. h) .0
-
-  -- and those of a later kind all ahead
-  ahead : (j b : ℕ) → b < blocks s → kindOf s b < j → blocksBelow j s b ≡ 0
-  ahead j b l h = none-later s (blocks s) o b j l h .0
+  -- the blocks of all kinds are all there are
+  pub start-all : startBlock (suc kinds) s ≡ blocks s
+  start-all = start-to kinds ∙ all-kinds s (blocks s) o
 
   -- a block's number is its kind's first block plus how many of its kind come before it
   pub at-start : (k b : ℕ) → b < blocks s → kindOf s b ≡ k → b ≡ startBlock k s + blocksBelow k s b
+  unfolding blocksTo
   at-start zero b l e = absurd (omega (arith, o .low b l))
-  at-start (suc zero) b l e =
-      let sum = all-kinds s (blocks s) o b (omega arith) in
-      omega (arith, first-start s, ahead 2 b l (omega arith), ahead 3 b l (omega arith), ahead 4 b l (omega arith))
-  at-start (suc (suc zero)) b l e =
-      let sum = all-kinds s (blocks s) o b (omega arith) in
-      omega (arith, start-2, behind 1 b l (omega arith), ahead 3 b l (omega arith), ahead 4 b l (omega arith))
-  at-start (suc (suc (suc zero))) b l e =
-      let sum = all-kinds s (blocks s) o b (omega arith) in
-      omega (arith, start-3, behind 1 b l (omega arith), behind 2 b l (omega arith), ahead 4 b l (omega arith))
-  at-start (suc (suc (suc (suc zero)))) b l e =
-      let sum = all-kinds s (blocks s) o b (omega arith) in
-      omega (arith, start-4, behind 1 b l (omega arith), behind 2 b l (omega arith), behind 3 b l (omega arith))
-  at-start (suc (suc (suc (suc (suc k))))) b l e = absurd (omega (arith, o .high b l))
+  at-start (suc k) b l e =
+      omega (arith, start-to k, to-frozen s (blocks s) o k b l (omega arith), all-before s (blocks s) o (suc k) b l (omega arith))
 
   -- and it comes before the next kind's first block
   pub before-next : (k b : ℕ) → b < blocks s → kindOf s b ≡ suc k → b < startBlock (suc (suc k)) s
@@ -331,11 +360,11 @@ module _ (s : List ℕ) (o : Ordered s (blocks s)) where
   start-le j k l = let e : j + (k - j) ≡ k = omega arith in subst (λ (x : ℕ). startBlock j s ≤ startBlock x s) e (start-rises j (k - j))
 
   -- the blocks from a kind's first to the next kind's first are of that kind
-  pub kind-in : (k b : ℕ) → startBlock (suc k) s ≤ b → b < startBlock (suc (suc k)) s → k < 4 → kindOf s b ≡ suc k
-  kind-in k b lo hi four = go (ℕ-discrete (kindOf s b) (suc k)) (decLt (kindOf s b) (suc k))
+  pub kind-in : (k b : ℕ) → startBlock (suc k) s ≤ b → b < startBlock (suc (suc k)) s → k < kinds → kindOf s b ≡ suc k
+  kind-in k b lo hi below = go (ℕ-discrete (kindOf s b) (suc k)) (decLt (kindOf s b) (suc k))
     where
       l : b < blocks s
-      l = omega (arith, start-le (suc (suc k)) 5 (omega arith), start-5)
+      l = omega (arith, start-le (suc (suc k)) (suc kinds) (omega arith), start-all)
 
       i : kindOf s b ≡ suc (kindOf s b - 1)
       i = omega (arith, o .low b l)

@@ -6,7 +6,16 @@ use lib.ListN.{length, take, drop}
 use lib.Dec.{ltb, leb, eqb}
 use Rattle.form.specs.First.{any}
 use Rattle.form.specs.Bytes.{byteAt, number, strayIn}
-use Rattle.form.specs.Layout.{layout, strayAt}
+use Rattle.form.specs.Layout.{kinds, parametersKind, layout, strayAt}
+use Rattle.form.specs.Edition.{lastKind, known}
+
+-- "1 to 10 blocks": three of each kind, for its 32 rows, and one of parameters
+abbrev pub mostBlocks : ℕ
+mostBlocks = 3 * (kinds - 1) + 1
+
+-- "5,120": the longest return
+abbrev pub longest : ℕ
+longest = 512 * mostBlocks
 
 -- how many whole blocks there are
 abbrev pub blocks : List ℕ → ℕ
@@ -47,20 +56,20 @@ checkDue s b = weighed 1 (take 508 (drop (512 * b) s))
 
 -- 1: "length is 0, above 5,120 or no multiple of 512"
 unfoldable pub badLength : List ℕ → Bool
-badLength s = eqb (length s) 0 || ltb 5120 (length s) || not (eqb (length s % 512) 0)
+badLength s = eqb (length s) 0 || ltb longest (length s) || not (eqb (length s % 512) 0)
 
 -- 2: "a check is wrong"
 unfoldable pub badCheck : List ℕ → ℕ → Bool
 badCheck s b = not (eqb (checkSaid s b) (checkDue s b))
 
--- 3: "kind not 1 to 4, wrong block number, wrong number of blocks, edition not 1"
+-- 3: "kind not 1 to 4, wrong block number, wrong number of blocks, edition not 1"; which kinds, the edition says
 unfoldable pub badHeader : List ℕ → ℕ → Bool
 badHeader s b =
     ltb (kindOf s b) 1
-    || ltb 4 (kindOf s b)
+    || ltb (lastKind (edition s b)) (kindOf s b)
     || not (eqb (blockNumber s b) b)
     || not (eqb (blocksSaid s b) (blocks s))
-    || not (eqb (edition s b) 1)
+    || not (known (edition s b))
 
 -- 4 is given at a block
 -- "whose kind is below the previous block's"
@@ -72,7 +81,7 @@ abbrev pub isLast : List ℕ → ℕ → Bool
 isLast s b = eqb (b + 1) (blocks s)
 
 unfoldable pub wrongEnd : List ℕ → ℕ → Bool
-wrongEnd s b = (eqb (kindOf s b) 4 && not (isLast s b)) || (isLast s b && not (eqb (kindOf s b) 4))
+wrongEnd s b = (eqb (kindOf s b) parametersKind && not (isLast s b)) || (isLast s b && not (eqb (kindOf s b) parametersKind))
 
 -- how many of the first n blocks are of a kind
 unfoldable pub blocksBelow : ℕ → List ℕ → ℕ → ℕ
@@ -89,7 +98,7 @@ fourthOfKind s b = leb 3 (earlier s b)
 
 -- "whose count is outside 1 to 12 (kind 4: exactly 1)"
 unfoldable pub badCount : List ℕ → ℕ → Bool
-badCount s b = ltb (countOf s b) 1 || ltb 12 (countOf s b) || (eqb (kindOf s b) 4 && not (eqb (countOf s b) 1))
+badCount s b = ltb (countOf s b) 1 || ltb 12 (countOf s b) || (eqb (kindOf s b) parametersKind && not (eqb (countOf s b) 1))
 
 -- "whose count is not 12 though the next block has its kind"
 unfoldable pub notFilled : List ℕ → ℕ → Bool

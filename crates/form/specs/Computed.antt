@@ -4,13 +4,14 @@ use mathlib.Core.List.{List}
 use Rattle.form.specs.First.{first, any}
 use Rattle.form.specs.Ruling.{ruling}
 use Rattle.form.specs.Bytes.{number, strayIn}
-use Rattle.form.specs.Layout.{rowFrom, strayFrom, aboveLimit}
+use Rattle.form.specs.Layout.{kinds, rowFrom, strayFrom, aboveLimit}
+use Rattle.form.specs.Edition.{lastKind}
 use Rattle.form.specs.Block.{weighed, checkDue, badLength, badCheck, badHeader, kindFalls, wrongEnd, blocksBelow, badCount, notFilled, strayRecord, stray, badBlock}
-use Rattle.form.specs.Records.{badId, badField, badFractions, badDensities}
+use Rattle.form.specs.Records.{badId, brokenBy}
 use Rattle.form.specs.Verdict.{blockRules, countBelow, verdictOf}
 use Rattle.form.specs.declared.Verdict.{Verdict}
 
 -- the verdict, opened for computing: `unfolding computed` opens all that this line names
 unfoldable pub computed : List ℕ → Verdict
-unfolding first any ruling number strayIn rowFrom strayFrom aboveLimit weighed checkDue badLength badCheck badHeader kindFalls wrongEnd blocksBelow badCount notFilled strayRecord stray badBlock badId badField badFractions badDensities blockRules countBelow verdictOf
+unfolding first any ruling number strayIn kinds lastKind rowFrom strayFrom aboveLimit weighed checkDue badLength badCheck badHeader kindFalls wrongEnd blocksBelow badCount notFilled strayRecord stray badBlock badId brokenBy blockRules countBelow verdictOf
 computed s = verdictOf s

@@ -5,13 +5,9 @@ use mathlib.Core.List.{List, [], _∷_}
 use lib.ListN.{length, getD, drop}
 use lib.Dec.{ltb}
 use Rattle.form.specs.Bytes.{number, strayIn}
+pub use Rattle.form.specs.declared.Field.{Field}
 
--- a field: the zero bytes before it, its width in bytes, and its limit
-pub record Field : Type 0 where
-  pub zeros : ℕ
-  pub width : ℕ
-  pub limit : ℕ
-
+-- a field is the struct of src/lib.rt: the zero bytes before it, its width in bytes, and its limit
 abbrev pub field : ℕ → ℕ → ℕ → Field
 field z w l = record { zeros = z; width = w; limit = l }
 
@@ -56,9 +52,30 @@ harvest = id ∷ field 0 4 10000000 ∷ field 0 2 10000 ∷ field 2 4 10000000 �
 abbrev pub parameters : Layout
 parameters = field 4 2 1000 ∷ fraction ∷ fraction ∷ fraction ∷ fraction ∷ fraction ∷ []
 
--- "1 conversion, 2 stock, 3 harvest, 4 parameters"; another number is no kind and has no fields
+-- "1 conversion, 2 stock, 3 harvest, 4 parameters": the kinds in order, from 1 on. A new kind is a new line.
+abbrev pub layouts : List Layout
+layouts =
+    conversion
+    ∷ stock
+    ∷ harvest
+    ∷ parameters
+    ∷ []
+
+-- how many kinds there are
+unfoldable pub kinds : ℕ
+kinds = length layouts
+
+-- "4 parameters": "always one parameter row", which has no id
+abbrev pub parametersKind : ℕ
+parametersKind = 4
+
+-- another number is no kind and has no fields
 abbrev pub layout : ℕ → Layout
-layout kind = getD ([] ∷ conversion ∷ stock ∷ harvest ∷ parameters ∷ []) kind []
+layout kind = getD ([] ∷ layouts) kind []
+
+-- field i of a layout; past the last there is none
+abbrev pub fieldAt : Layout → ℕ → Field
+fieldAt l i = getD l i (field 0 0 0)
 
 -- "15, 5, 5 and 6 numbers of 32 bits"
 abbrev pub numbersOf : ℕ → ℕ

@@ -3,6 +3,7 @@ pub mod First
 pub mod Ruling
 pub mod Bytes
 pub mod Layout
+pub mod Edition
 pub mod Block
 pub mod Records
 pub mod Verdict

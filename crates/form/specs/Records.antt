@@ -1,11 +1,11 @@
--- Rules 5 to 8, stated once over records at places. "A record's place is 12 times its block plus its position."
+-- Rules 5 to 8, stated once over records at places. A rule of one row is an entry of a list. "A record's place is 12 times its block plus its position."
 use Prim.Native.Nat.{ℕ, zero, suc, _+_, _-_, _*_, _/_, _%_}
-use mathlib.Core.Bool.{Bool, cond, _&&_, _||_}
+use mathlib.Core.Bool.{Bool, false, cond, not, _&&_, _||_}
 use mathlib.Core.List.{List, [], _∷_, _++_}
 use lib.ListN.{getD}
 use lib.Dec.{ltb, leb, eqb}
 use Rattle.form.specs.Ruling.{Rule, rule}
-use Rattle.form.specs.Layout.{layout, rowAt, aboveLimit}
+use Rattle.form.specs.Layout.{kinds, parametersKind, layout, rowAt, aboveLimit}
 use Rattle.form.specs.Block.{blocks, kindOf, countOf, recordAt}
 
 -- records at places: how many places there are, which hold a record, of which kind, and its row
@@ -26,7 +26,7 @@ filed s = record {
 
 -- conversion, stock and harvest rows have an id, parameters have none
 abbrev pub hasId : ℕ → Bool
-hasId k = ltb 0 k && ltb k 4
+hasId k = ltb 0 k && (leb k kinds && not (eqb k parametersKind))
 
 -- the numbers of a row by their names: of every row with an id, and of a conversion row
 abbrev pub idOf : List ℕ → ℕ
@@ -74,13 +74,43 @@ decay r = getD r 13 0
 abbrev pub decayCarbon : List ℕ → ℕ
 decayCarbon r = getD r 14 0
 
+-- a test of one row, by the return's edition and the row's kind
+abbrev pub RowTest : Type 0
+RowTest = ℕ → ℕ → List ℕ → Bool
+
+-- a rule of one row: its refusal number, and the test that a row breaks it
+pub record RowRule : Type 0 where
+  pub number : ℕ
+  pub breaks : RowTest
+
+abbrev pub rowRule : ℕ → RowTest → RowRule
+rowRule n t = record { number = n; breaks = t }
+
+-- 6: "a field above its limit"
+abbrev pub fieldAbove : RowTest
+fieldAbove edition kind r = aboveLimit (layout kind) r
+
 -- 7: "on-site + off-site + decay above 1,000", of a conversion row
 abbrev pub overspent : List ℕ → Bool
 overspent r = ltb 1000 (onsite r + offsite r + decay r)
 
+abbrev pub fractionsAbove : RowTest
+fractionsAbove edition kind r = eqb kind 1 && overspent r
+
 -- 8: "after above before, either period", of a conversion row
 abbrev pub grown : List ℕ → Bool
 grown r = ltb (before r) (after r) || ltb (tenYearBefore r) (tenYearAfter r)
+
+abbrev pub densityGrown : RowTest
+densityGrown edition kind r = eqb kind 1 && grown r
+
+-- the rules of one row, in the paper's order. A new rule is a new line.
+abbrev pub rowRules : List RowRule
+rowRules =
+    rowRule 6 fieldAbove
+    ∷ rowRule 7 fractionsAbove
+    ∷ rowRule 8 densityGrown
+    ∷ []
 
 module _ (f : Filed) where
   -- 5: "an id not above the id before it, same kind". A kind's blocks are full but its last (4), so the record before stands one place lower
@@ -89,27 +119,34 @@ module _ (f : Filed) where
       f .used j
       && (hasId (f .kind j) && (ltb 0 j && (eqb (f .kind (j - 1)) (f .kind j) && leb (idOf (f .row j)) (idOf (f .row (j - 1))))))
 
-  -- 6: "a field above its limit"
-  unfoldable pub badField : ℕ → Bool
-  badField j = f .used j && aboveLimit (layout (f .kind j)) (f .row j)
-
-  -- 7, at a place
-  unfoldable pub badFractions : ℕ → Bool
-  badFractions j = f .used j && (eqb (f .kind j) 1 && overspent (f .row j))
-
-  -- 8, at a place
-  unfoldable pub badDensities : ℕ → Bool
-  badDensities j = f .used j && (eqb (f .kind j) 1 && grown (f .row j))
-
-  abbrev pub recordRules : List Rule
-  recordRules =
-      rule 5 (f .places) badId
-      ∷ rule 6 (f .places) badField
-      ∷ rule 7 (f .places) badFractions
-      ∷ rule 8 (f .places) badDensities
-      ∷ []
+  -- a test of one row, at a place: of the record that it holds
+  unfoldable pub brokenBy : ℕ → RowTest → ℕ → Bool
+  brokenBy edition t j = f .used j && t edition (f .kind j) (f .row j)
 
   -- the rows of a kind among the first n places, in order
   unfoldable pub rowsBelow : ℕ → ℕ → List (List ℕ)
   rowsBelow k zero = []
   rowsBelow k (suc n) = rowsBelow k n ++ cond (f .used n && eqb (f .kind n) k) (f .row n ∷ []) []
+
+-- a rule of one row, over all places
+abbrev pub overPlaces : ℕ → Filed → List RowRule → List Rule
+overPlaces edition f [] = []
+overPlaces edition f (q ∷ qs) = rule (q .number) (f .places) (brokenBy f edition (q .breaks)) ∷ overPlaces edition f qs
+
+-- the rules of records, in the paper's order
+abbrev pub recordRules : ℕ → Filed → List Rule
+recordRules edition f = rule 5 (f .places) (badId f) ∷ overPlaces edition f rowRules
+
+-- ---- as the code asks for them, by their numbers
+
+-- the test of the rule of one row that has a number; another number is no such rule, and no row breaks it
+abbrev pub numbered : ℕ → List RowRule → RowTest
+numbered n [] = λ edition kind r. false
+numbered n (q ∷ qs) = cond (eqb n (q .number)) (q .breaks) (numbered n qs)
+
+abbrev pub testNumbered : ℕ → RowTest
+testNumbered n = numbered n rowRules
+
+-- the test of 5, or of the rule of one row that has a number, at a place
+abbrev pub testOf : ℕ → ℕ → Filed → ℕ → Bool
+testOf n edition f j = cond (eqb n 5) (badId f j) (brokenBy f edition (testNumbered n) j)

@@ -2,7 +2,8 @@
 use Prim.Native.Nat.{ℕ, zero, suc, _+_, _*_, _/_}
 use mathlib.Core.List.{List, [], _∷_}
 use Rattle.form.specs.Records.{Filed}
-use Rattle.form.specs.Verdict.{rowCount}
+use Rattle.form.specs.Verdict.{rowCount, countIn}
+use Rattle.form.specs.declared.Counts.{Counts}
 
 -- the blocks that some rows take, twelve to a block
 abbrev pub blocksFor : ℕ → ℕ
@@ -13,6 +14,12 @@ unfoldable pub startBlock : ℕ → List ℕ → ℕ
 startBlock zero s = 0
 startBlock (suc zero) s = 0
 startBlock (suc (suc k)) s = startBlock (suc k) s + blocksFor (rowCount (suc k) s)
+
+-- the same, by the counts
+unfoldable pub firstBlock : ℕ → Counts → ℕ
+firstBlock zero c = 0
+firstBlock (suc zero) c = 0
+firstBlock (suc (suc k)) c = firstBlock (suc k) c + blocksFor (countIn c (suc k))
 
 -- and its first place
 abbrev pub startPlace : ℕ → List ℕ → ℕ

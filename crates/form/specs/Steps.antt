@@ -1,8 +1,11 @@
--- What the check's own steps answer: a block's sixteen rows of 32 bytes, column by column.
-use Prim.Native.Nat.{ℕ, zero, suc, _+_, _*_}
+-- What some steps of the code answer, and what they take for granted.
+use Prim.Native.Nat.{ℕ, zero, suc, _+_, _*_, _≤_}
 use mathlib.Core.List.{List}
 use Rattle.form.specs.Bytes.{byteAt}
+use Rattle.form.specs.Verdict.{countIn}
+use Rattle.form.specs.declared.Counts.{Counts}
 
+-- the check goes over a block's sixteen rows of 32 bytes, column by column
 -- the first n of some numbers, added up
 unfoldable pub sumTo : (ℕ → ℕ) → ℕ → ℕ
 sumTo f zero = 0
@@ -23,3 +26,7 @@ checkWeighed s b =
     + 510 * byteAt s (512 * b + 509)
     + 511 * byteAt s (512 * b + 510)
     + 512 * byteAt s (512 * b + 511)
+
+-- at most 32 rows of each kind
+abbrev pub Few : Counts → Type 0
+Few c = (k : ℕ) → countIn c k ≤ 32

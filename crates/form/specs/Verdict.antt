@@ -2,9 +2,10 @@
 use Prim.Native.Nat.{ℕ, zero, suc, _+_}
 use mathlib.Core.Bool.{cond}
 use mathlib.Core.List.{List, [], _∷_, _++_}
+use lib.ListN.{getD}
 use lib.Dec.{eqb}
 use Rattle.form.specs.Ruling.{Rule, rule, ruling}
-use Rattle.form.specs.Block.{blocks, kindOf, countOf, badLength, badCheck, badHeader, badBlock}
+use Rattle.form.specs.Block.{blocks, kindOf, countOf, edition, badLength, badCheck, badHeader, badBlock}
 use Rattle.form.specs.Records.{filed, recordRules, rowsBelow}
 use Rattle.form.specs.declared.Counts.{Counts}
 use Rattle.form.specs.declared.Ruling.{Ruling}
@@ -21,7 +22,7 @@ blockRules s =
     ∷ []
 
 abbrev pub rules : List ℕ → List Rule
-rules s = blockRules s ++ recordRules (filed s)
+rules s = blockRules s ++ recordRules (edition s 0) (filed s)
 
 -- the sum of the counts of a kind's blocks, among the first n
 unfoldable pub countBelow : ℕ → List ℕ → ℕ → ℕ
@@ -32,9 +33,27 @@ countBelow k s (suc n) = countBelow k s n + cond (eqb (kindOf s n) k) (countOf s
 abbrev pub rowCount : ℕ → List ℕ → ℕ
 rowCount k s = countBelow k s (blocks s)
 
--- "the four row counts"
+-- "the four row counts". A new kind is a new line.
 abbrev pub countsOf : List ℕ → Counts
-countsOf s = record { conversion = rowCount 1 s; stock = rowCount 2 s; harvest = rowCount 3 s; parameters = rowCount 4 s }
+countsOf s = record {
+  conversion = rowCount 1 s;
+  stock = rowCount 2 s;
+  harvest = rowCount 3 s;
+  parameters = rowCount 4 s;
+}
+
+-- the counts as a list by kind, from 1 on. A new kind is a new line.
+abbrev pub countList : Counts → List ℕ
+countList c =
+    c .conversion
+    ∷ c .stock
+    ∷ c .harvest
+    ∷ c .parameters
+    ∷ []
+
+-- the count of a kind; another number is no kind and has no rows
+abbrev pub countIn : Counts → ℕ → ℕ
+countIn c kind = getD (0 ∷ countList c) kind 0
 
 -- the rows of a kind, in order
 abbrev pub rows : ℕ → List ℕ → List (List ℕ)

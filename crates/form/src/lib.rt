@@ -1,12 +1,34 @@
 // What a return is: the types that the definitions speak of, and numbers in the caller's bytes, read in place.
+pub mod layout;
+
 ghost use mathlib.Core.Path.{_≡_};
 ghost use mathlib.Core.Bool.{cond};
 ghost use Prim.Native.Nat.{_+_, _*_, _/_, _%_, _^_, _≤_, _<_};
 ghost use lib.ListN.{length};
 ghost use lib.Dec.{eqb};
 ghost use Rattle.form.specs.Bytes.{byteAt, number, strayIn};
+ghost use Rattle.form.specs.Edition.{lastKind};
 ghost use Rattle.form.specs.Block.{recordAt, checkDue};
-ghost use Rattle.form.specs.Steps.{columnDue, checkWeighed};
+ghost use Rattle.form.specs.Verdict.{countIn};
+ghost use Rattle.form.specs.Standing.{blocksFor, firstBlock};
+ghost use Rattle.form.specs.Steps.{columnDue, checkWeighed, Few};
+
+// How many kinds there are, the most blocks of a return, and its most bytes. Every bound follows from the first.
+pub const KINDS: usize = 4;
+
+// The parameters' kind, of which there is always one row, with no id.
+pub const PARAMETERS: usize = 4;
+
+pub const MOST_BLOCKS: usize = 3 * (KINDS - 1) + 1;
+
+pub const LONGEST: usize = 512 * MOST_BLOCKS;
+
+// A field of a record: the zero bytes before it, its width in bytes, and its limit.
+pub struct Field {
+    pub zeros: usize,
+    pub width: usize,
+    pub limit: u32,
+}
 
 // The lowest place where a test holds.
 pub enum Spot {
@@ -20,7 +42,7 @@ pub enum Ruling {
     Broken { number: u8, place: u32 },
 }
 
-// How many rows of each kind a return has.
+// How many rows of each kind a return has. A new kind is a new line.
 pub struct Counts {
     pub conversion: u32,
     pub stock: u32,
@@ -52,6 +74,20 @@ pub fn four_at(bytes: &[u8], at: usize) -> u32
     ensures { λ r. ⌜ r ≡ number 4 (now (bytes .entry)) at ⌝ }
 {
     two_at(bytes, at) + 65536 * two_at(bytes, at + 2)
+}
+
+// A number in one, two or four bytes.
+pub fn number_at(bytes: &[u8], at: usize, w: usize) -> u32
+    requires { ⌜ (0 < w) × (w ≤ 4) × (w ≡ 3 → ⊥) × (at + w ≤ length (now bytes)) ⌝ }
+    ensures { λ r. ⌜ r ≡ number w (now (bytes .entry)) at ⌝ }
+{
+    if w == 2 {
+        return two_at(bytes, at);
+    }
+    if w == 4 {
+        return four_at(bytes, at);
+    }
+    byte_at(bytes, at)
 }
 
 // Bytes or-ed together are zero just where each of them is zero. No early way out, so that many are taken at once.
@@ -114,6 +150,48 @@ pub fn where_same(a: u32, b: u32, n: u32) -> u32
     ensures { λ r. ⌜ (r ≡ cond (eqb a b) n 0) × (r ≤ n) ⌝ }
 {
     if a == b { n } else { 0 }
+}
+
+// The count of a kind.
+pub fn count_of(c: Counts, kind: usize) -> u32
+    ensures { λ r. ⌜ r ≡ countIn c kind ⌝ }
+{
+    match kind {
+        1 => c.conversion,
+        2 => c.stock,
+        3 => c.harvest,
+        4 => c.parameters,
+        _ => 0,
+    }
+}
+
+// How many blocks some rows take.
+pub fn blocks_for(rows: usize) -> usize
+    requires { ⌜ rows < 2 ^ 32 ⌝ }
+    ensures { λ r. ⌜ r ≡ blocksFor rows ⌝ }
+{
+    (rows + 11) / 12
+}
+
+// A kind's first block, behind those of the kinds before it.
+pub fn first_block(c: Counts, kind: usize) -> usize
+    requires { ⌜ (0 < kind) × (kind < 2 ^ 24) × Few c ⌝ }
+    ensures { λ r. ⌜ (r ≡ firstBlock kind c) × (r ≤ 3 * kind) ⌝ }
+{
+    let mut first: usize = 0;
+    let mut k: usize = 1;
+    while k < kind {
+        first += blocks_for(count_of(c, k) as usize);
+        k += 1;
+    }
+    first
+}
+
+// The last kind that an edition allows.
+pub fn last_kind(edition: u32) -> u32
+    ensures { λ r. ⌜ r ≡ lastKind edition ⌝ }
+{
+    if edition == 1 { 4 } else { 0 }
 }
 
 // Where row i of a kind starts, from the kind's first block: a block of twelve rows has 32 bytes more than they take.

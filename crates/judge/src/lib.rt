@@ -1,13 +1,11 @@
 // The judge: any bytes of any length are accepted, with the row counts, or refused, with one number and one place.
-mod records;
-
 ghost use mathlib.Core.Path.{_≡_};
-ghost use Prim.Native.Nat.{_+_, _*_, _≤_, _<_};
+ghost use Prim.Native.Nat.{_^_, _<_};
 ghost use lib.ListN.{length};
 ghost use Rattle.form.specs.Ruling.{ruling};
+ghost use Rattle.form.specs.Block.{edition};
 ghost use Rattle.form.specs.Records.{filed, recordRules};
-ghost use Rattle.form.specs.Verdict.{blockRules, rules, countsOf, verdictOf};
-ghost use Rattle.judge.specs.Steps.{counted};
+ghost use Rattle.form.specs.Verdict.{blockRules, rules, rowCount, countsOf, verdictOf};
 use form::Counts;
 use form::Ruling;
 use form::Spot;
@@ -40,12 +38,12 @@ fn rule_blocks(bytes: &[u8]) -> Ruling
     Ruling::Clean
 }
 
-// Rules 5 to 8, of at most ten blocks.
+// Rules 5 to 8. A new rule of one row is a new pair of lines, where the list of rules has it.
 fn rule_records(bytes: &[u8]) -> Ruling
-    requires { ⌜ length (now bytes) ≤ 5120 ⌝ }
-    ensures { λ r. ⌜ r ≡ ruling (recordRules (filed (now (bytes .entry)))) ⌝ }
+    requires { ⌜ length (now bytes) < 2 ^ 24 ⌝ }
+    ensures { λ r. ⌜ r ≡ ruling (recordRules (edition (now (bytes .entry)) 0) (filed (now (bytes .entry)))) ⌝ }
 {
-    let id = records::first_broken(bytes, 5);
+    let id = records::first_bad_id(bytes);
     if let Spot::At(place) = id {
         return Ruling::Broken { number: 5, place };
     }
@@ -75,36 +73,32 @@ fn rule_all(bytes: &[u8]) -> Ruling
     rule_records(bytes)
 }
 
-// One block more: its count goes to its kind.
-fn add_count(c: Counts, kind: u32, count: u32) -> Counts
-    requires { ⌜ (c .conversion + count < 65536) × (c .stock + count < 65536) × (c .harvest + count < 65536) × (c .parameters + count < 65536) ⌝ }
-    ensures { λ r. ⌜ r ≡ counted c kind count ⌝ }
-{
-    Counts {
-        conversion: c.conversion + where_same(kind, 1, count),
-        stock: c.stock + where_same(kind, 2, count),
-        harvest: c.harvest + where_same(kind, 3, count),
-        parameters: c.parameters + where_same(kind, 4, count),
-    }
-}
-
-fn count_rows(bytes: &[u8]) -> Counts
-    requires { ⌜ length (now bytes) ≤ 5120 ⌝ }
-    ensures { λ r. ⌜ r ≡ countsOf (now (bytes .entry)) ⌝ }
+// How many rows of a kind there are: the counts of its blocks, added up.
+fn rows_of(bytes: &[u8], kind: u32) -> u32
+    requires { ⌜ length (now bytes) < 2 ^ 24 ⌝ }
+    ensures { λ r. ⌜ r ≡ rowCount kind (now (bytes .entry)) ⌝ }
 {
     let n = bytes.len() / 512;
-    let mut c = Counts {
-        conversion: 0,
-        stock: 0,
-        harvest: 0,
-        parameters: 0,
-    };
+    let mut rows: u32 = 0;
     let mut b: usize = 0;
     while b < n {
-        c = add_count(c, byte_at(bytes, 512 * b), byte_at(bytes, 512 * b + 1));
+        rows += where_same(byte_at(bytes, 512 * b), kind, byte_at(bytes, 512 * b + 1));
         b += 1;
     }
-    c
+    rows
+}
+
+// A new kind is a new line.
+fn count_rows(bytes: &[u8]) -> Counts
+    requires { ⌜ length (now bytes) < 2 ^ 24 ⌝ }
+    ensures { λ r. ⌜ r ≡ countsOf (now (bytes .entry)) ⌝ }
+{
+    Counts {
+        conversion: rows_of(bytes, 1),
+        stock: rows_of(bytes, 2),
+        harvest: rows_of(bytes, 3),
+        parameters: rows_of(bytes, 4),
+    }
 }
 
 // Any bytes of any length, read in place.

@@ -1,4 +1,3 @@
 pub mod Places
 pub mod Numbers
-pub mod ByKind
-pub mod Turns
+pub mod Scan

@@ -1,41 +1,37 @@
 -- The rules over the records of one list, by the list's own numbers. Assumes nothing.
-use Prim.Native.Nat.{ℕ, _+_, _-_, _*_, _%_, _≤_, _<_}
+use Prim.Native.Nat.{ℕ, suc, _+_, _-_, _*_, _%_, _≤_, _<_}
 use mathlib.Core.Path.{_≡_, refl, sym, ap₂, _∙_}
-use mathlib.Core.Bool.{true, false, not, _&&_, _||_, and-false}
-use mathlib.Core.List.{List}
+use mathlib.Core.Bool.{Bool, true, false, cond, not, _&&_, _||_, and-false}
+use mathlib.Core.List.{List, [], _∷_}
 use native.Mathlib.Nat.{add-zero}
 use native.Mathlib.Numerals.{add-one}
 use native.Mathlib.Omega.{arith}
 use lib.Dec.{ltb, leb, eqb, lit<}
 use lib.ListN.{length, getD, drop, drop-of-length-le}
 use lib.Seq.{getD-take, getD-drop, drop-cons, drop-drop}
-use borrow.Author.Tests.{lt-ltb, le-ltb, eq-eqb, ne-eqb, ltb-false, eqb-true, not-false}
-use Rattle.form.specs.Layout.{field, Layout, layout, numbersOf, aboveLimit}
-use Rattle.form.specs.Records.{idOf, overspent, grown, badId, badField, badFractions, badDensities}
+use borrow.Author.Tests.{lt-ltb, le-ltb, le-leb, eq-eqb, ne-eqb, ltb-false, eqb-true, not-false}
+use Rattle.form.specs.Layout.{field, Layout, kinds, parametersKind, layout, numbersOf, aboveLimit, fieldAt}
+use Rattle.form.specs.Records.{RowTest, idOf, overspent, grown, fractionsAbove, densityGrown, badId, brokenBy, testNumbered}
 use Rattle.form.proofs.Tests.{or-none}
-use Rattle.filing.specs.Lists.{Lists, ofKind, rowsIn, rowOf, filedList}
-use Rattle.lists.specs.Rules.{badList, Few}
-use Rattle.filing.specs.Tables.{fieldAt}
+use Rattle.form.proofs.EachKind.{parameters-last}
+use Rattle.filing.specs.Lists.{total, rowsIn, rowOf, blocksOf, filedList}
+use Rattle.lists.specs.Rules.{badList, badLengths, badAt, Good, blocksFrom}
 
 -- number i of row j
 pub number-in : (kind : ℕ) (r : List ℕ) (j i : ℕ) → i < numbersOf kind → getD (rowOf kind r j) i 0 ≡ getD r (numbersOf kind * j + i) 0
 number-in kind r j i h = getD-take (numbersOf kind) (drop (numbersOf kind * j) r) i 0 h ∙ getD-drop (numbersOf kind * j) r i 0
 
-module _ (kind : ℕ) (r : List ℕ) (j : ℕ) (used : j < rowsIn kind r) where
-  pub id-later : {n : ℕ} → n ≡ numbersOf kind → 0 < n → 0 < kind → kind < 4 → 0 < j
+module _ (kind : ℕ) (r : List ℕ) (j : ℕ) (used : j < rowsIn kind (length r)) where
+  pub id-later : {n : ℕ} → n ≡ numbersOf kind → 0 < n → 0 < kind → kind ≤ kinds → (kind ≡ parametersKind → ⊥) → 0 < j
       → badId (filedList kind r) j ≡ leb (getD r (n * j) 0) (getD r (n * (j - 1)) 0)
   unfolding badId filedList
-  id-later {n} e p k₀ k₄ j₀ =
+  id-later {n} e p k₀ top k₄ j₀ =
       let at : (i : ℕ) → idOf (rowOf kind r i) ≡ getD r (n * i) 0 =
       λ i. number-in kind r i 0 (omega arith) ∙ rw (e, add-zero (numbersOf kind * i)) in
-      simp (lt-ltb j (rowsIn kind r) used, lt-ltb 0 kind k₀, lt-ltb kind 4 k₄, lt-ltb 0 j j₀, eq-eqb kind kind refl)
+      simp (lt-ltb j (rowsIn kind (length r)) used, lt-ltb 0 kind k₀, le-leb kind kinds top, ne-eqb kind parametersKind k₄, lt-ltb 0 j j₀, eq-eqb kind kind refl)
       (ap₂ (λ (x y : ℕ). leb x y) (at j) (at (j - 1)))
 
-  pub field-of : badField (filedList kind r) j ≡ aboveLimit (layout kind) (rowOf kind r j)
-  unfolding badField filedList
-  field-of = rw (lt-ltb j (rowsIn kind r) used)
-
-pub id-parameters : (r : List ℕ) (j : ℕ) → badId (filedList 4 r) j ≡ false
+pub id-parameters : (r : List ℕ) (j : ℕ) → badId (filedList parametersKind r) j ≡ false
 unfolding badId filedList
 id-parameters r j = simp and-false
 
@@ -43,26 +39,44 @@ pub id-none : (kind : ℕ) (r : List ℕ) → badId (filedList kind r) 0 ≡ fal
 unfolding badId filedList
 id-none kind r = simp and-false
 
--- 7 and 8 hold of every row that is no conversion row
-pub no-fractions : (kind : ℕ) (r : List ℕ) (j : ℕ) → (kind ≡ 1 → ⊥) → badFractions (filedList kind r) j ≡ false
-unfolding badFractions filedList
-no-fractions kind r j h = simp (ne-eqb kind 1 h, and-false)
+-- a rule of one row, of a row of the list
+pub row-of : (e : ℕ) (t : RowTest) (kind : ℕ) (r : List ℕ) (j : ℕ) → j < rowsIn kind (length r) → brokenBy (filedList kind r) e t j ≡ t e kind (rowOf kind r j)
+unfolding brokenBy filedList
+row-of e t kind r j used = rw (lt-ltb j (rowsIn kind (length r)) used)
 
-pub no-densities : (kind : ℕ) (r : List ℕ) (j : ℕ) → (kind ≡ 1 → ⊥) → badDensities (filedList kind r) j ≡ false
-unfolding badDensities filedList
-no-densities kind r j h = simp (ne-eqb kind 1 h, and-false)
-
-module _ (r : List ℕ) (j : ℕ) (used : j < rowsIn 1 r) where
+module _ (r : List ℕ) (j : ℕ) where
   number : (i : ℕ) → i < 15 → getD (rowOf 1 r j) i 0 ≡ getD (drop (15 * j) r) i 0
   number i h = getD-take 15 (drop (15 * j) r) i 0 h
 
-  pub fractions-of : badFractions (filedList 1 r) j ≡ overspent (drop (15 * j) r)
-  unfolding badFractions filedList
-  fractions-of = rw (lt-ltb j (rowsIn 1 r) used, number 4 (omega arith), number 7 (omega arith), number 13 (omega arith))
+  pub fractions-of : overspent (rowOf 1 r j) ≡ overspent (drop (15 * j) r)
+  fractions-of = rw (number 4 (omega arith), number 7 (omega arith), number 13 (omega arith))
 
-  pub densities-of : badDensities (filedList 1 r) j ≡ grown (drop (15 * j) r)
-  unfolding badDensities filedList
-  densities-of = rw (lt-ltb j (rowsIn 1 r) used, number 2 (omega arith), number 3 (omega arith), number 11 (omega arith), number 12 (omega arith))
+  pub densities-of : grown (rowOf 1 r j) ≡ grown (drop (15 * j) r)
+  densities-of = rw (number 2 (omega arith), number 3 (omega arith), number 11 (omega arith), number 12 (omega arith))
+
+-- ---- the rules of one row by their numbers
+
+module _ (n e kind : ℕ) (row : List ℕ) where
+  pub six : n ≡ 6 → testNumbered n e kind row ≡ aboveLimit (layout kind) row
+  six h = rw h
+
+  pub seven : kind ≡ 1 → n ≡ 7 → testNumbered n e kind row ≡ overspent row
+  seven k h = rw (h, k)
+
+  pub eight : kind ≡ 1 → n ≡ 8 → testNumbered n e kind row ≡ grown row
+  eight k h = rw (h, k)
+
+  -- 7 and 8 are about conversion rows alone
+  pub no-conversion : (n ≡ 6 → ⊥) → (kind ≡ 1 → ⊥) → testNumbered n e kind row ≡ false
+  no-conversion h k = rw (ne-eqb n 6 h) (go (eqb n 7) (eqb n 8))
+    where
+      go : (b c : Bool) → cond b fractionsAbove (cond c densityGrown (λ edition kind r. false)) e kind row ≡ false
+      go true c = rw (ne-eqb kind 1 k)
+      go false true = rw (ne-eqb kind 1 k)
+      go false false = refl
+
+  pub no-rule : (n ≡ 6 → ⊥) → (n ≡ 7 → ⊥) → (n ≡ 8 → ⊥) → testNumbered n e kind row ≡ false
+  no-rule h₆ h₇ h₈ = rw (ne-eqb n 6 h₆, ne-eqb n 7 h₇, ne-eqb n 8 h₈)
 
 -- ---- the limits, field by field
 
@@ -92,25 +106,50 @@ module _ (kind : ℕ) (r : List ℕ) (j i : ℕ) {n lim : ℕ} (h : i < numbersO
 
 -- ---- lists that 10 finds no fault with
 
-whole-list : (kind : ℕ) (r : List ℕ) → badList kind r ≡ false → (length r % numbersOf kind ≡ 0) × (rowsIn kind r ≤ 32) × ((eqb kind 4 && not (eqb (rowsIn kind r) 1)) ≡ false)
+list-facts : (kind n : ℕ) → badList kind n ≡ false → (n % numbersOf kind ≡ 0) × (rowsIn kind n ≤ 32) × ((eqb kind parametersKind && not (eqb (rowsIn kind n) 1)) ≡ false)
 unfolding badList
-whole-list kind r e =
-    let f = or-none (not (eqb (length r % numbersOf kind) 0) || ltb 32 (rowsIn kind r)) (eqb kind 4 && not (eqb (rowsIn kind r) 1)) e in
-    let g = or-none (not (eqb (length r % numbersOf kind) 0)) (ltb 32 (rowsIn kind r)) (f .0) in
-    (eqb-true (length r % numbersOf kind) 0 (not-false _ (g .0)), ltb-false 32 (rowsIn kind r) (g .1), f .1)
+list-facts kind n e =
+    let f = or-none (not (eqb (n % numbersOf kind) 0) || ltb 32 (rowsIn kind n)) (eqb kind parametersKind && not (eqb (rowsIn kind n) 1)) e in
+    let g = or-none (not (eqb (n % numbersOf kind) 0)) (ltb 32 (rowsIn kind n)) (f .0) in
+    (eqb-true (n % numbersOf kind) 0 (not-false _ (g .0)), ltb-false 32 (rowsIn kind n) (g .1), f .1)
 
-module _ (l : Lists) (none : (kind : ℕ) → kind < 5 → badList kind (ofKind l kind) ≡ false) where
-  one-row : rowsIn 4 (l .parameters) ≡ 1
-  one-row = eqb-true (rowsIn 4 (l .parameters)) 1 (not-false _ (whole-list 4 (l .parameters) (none 4 (lit< tt)) .2))
+pub lengths-each : (lengths : List ℕ) (m : ℕ) → badLengths lengths m ≡ false → length lengths ≡ kinds
+unfolding badLengths
+lengths-each lengths m e = eqb-true (length lengths) kinds (not-false _ (or-none (not (eqb (length lengths) kinds)) _ e .0))
 
-  pub few : Few l
-  few = record {
-    conversion = whole-list 1 (l .conversion) (none 1 (lit< tt)) .1;
-    stock = whole-list 2 (l .stock) (none 2 (lit< tt)) .1;
-    harvest = whole-list 3 (l .harvest) (none 3 (lit< tt)) .1;
-    parameters = one-row;
-  }
+pub good : (lengths : List ℕ) (m : ℕ) → ((p : ℕ) → p < suc kinds → badAt lengths m p ≡ false) → Good lengths m
+unfolding badLengths
+good lengths m h =
+    let z = or-none (not (eqb (length lengths) kinds)) _ (h 0 (omega arith)) in
+    let last : parametersKind < suc kinds = omega (arith, parameters-last) in
+    record {
+      each = eqb-true (length lengths) kinds (not-false _ (z .0));
+      all = eqb-true (total lengths) m (not-false _ (z .1));
+      whole = λ k l. list-facts (suc k) (getD lengths k 0) (h (suc k) (omega arith)) .0;
+      few = λ k l. list-facts (suc k) (getD lengths k 0) (h (suc k) (omega arith)) .1;
+      one = eqb-true (rowsIn parametersKind (getD lengths (parametersKind - 1) 0)) 1 (not-false _ (list-facts parametersKind (getD lengths (parametersKind - 1) 0) (h parametersKind (omega arith)) .2));
+    }
 
-  -- whole rows
-  pub whole : (kind : ℕ) → kind < 5 → length (ofKind l kind) % numbersOf kind ≡ 0
-  whole kind h = whole-list kind (ofKind l kind) (none kind h) .0
+-- ---- the blocks that the lists take
+
+module _ (ns : List ℕ) (n k : ℕ) (h : k < length ns) (so-far : n + blocksFrom (suc k) (drop k ns) ≡ blocksFrom 1 ns) where
+  pub blocks-next : n + blocksOf (suc k) (getD ns k 0) + blocksFrom (suc (k + 1)) (drop (k + 1) ns) ≡ blocksFrom 1 ns
+  unfolding blocksFrom
+  blocks-next = rw (add-one k) (omega (arith, rw (drop-cons ns k 0 h) at so-far))
+
+pub blocks-end : (ns : List ℕ) (n k : ℕ) → length ns ≤ k → n + blocksFrom (suc k) (drop k ns) ≡ blocksFrom 1 ns → n ≡ blocksFrom 1 ns
+unfolding blocksFrom
+blocks-end ns n k h so-far = omega (arith, rw (drop-of-length-le ns h) at so-far)
+
+blocks-few : (ns : List ℕ) (k : ℕ) → ((i : ℕ) → i < length ns → rowsIn (k + i) (getD ns i 0) ≤ 32) → blocksFrom k ns ≤ 3 * length ns
+unfolding blocksFrom
+blocks-few [] k h = omega arith
+blocks-few (n ∷ ns) k h =
+    let here : rowsIn k n ≤ 32 = rw (add-zero k) at (h 0 (omega arith)) in
+    let more = blocks-few ns (suc k) (λ i l. let e : suc k + i ≡ k + suc i = omega arith in rw e (h (suc i) (omega arith))) in
+    omega arith
+
+-- three blocks of a kind at most
+pub good-few : (lengths : List ℕ) (m : ℕ) → Good lengths m → blocksFrom 1 lengths ≤ 3 * kinds
+good-few lengths m g =
+    omega (arith, g .each, blocks-few lengths 1 (λ i l. let e : 1 + i ≡ suc i = omega arith in rw e (g .few i (omega (arith, g .each)))))

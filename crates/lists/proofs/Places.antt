@@ -1,33 +1,39 @@
 -- The rules over records behind others, and over the places of a list. Assumes nothing.
-use Prim.Native.Nat.{ℕ, zero, suc, _+_, _-_, _≤_, _<_}
-use mathlib.Core.Path.{_≡_, refl, sym, ap, subst, _∙_}
+--     front, back     a rule over records behind others: in front as over the first, behind as over the second
+--     unused          an unused place breaks no rule
+--     first-kinds     the lowest place among the lists of a kind and those after it
+--     list-found, list-clean    the lowest place of a list, tried row by row
+use Prim.Native.Nat.{ℕ, zero, suc, _+_, _-_, _*_, _≤_, _<_}
+use mathlib.Core.Path.{_≡_, refl, sym, ap, ap₂, subst, _∙_}
 use mathlib.Core.Bool.{Bool, true, false, cond, and-false}
-use mathlib.Core.List.{List}
+use mathlib.Core.List.{List, [], _∷_}
 use mathlib.Core.Logic.{⊎-elim}
 use native.Mathlib.Nat.{zero-add, add-assoc, add-sub-cancel-left, eq-zero-or-pos}
 use native.Mathlib.Decide.{decLt}
 use native.Mathlib.Omega.{arith}
-use lib.Dec.{ltb, lit<}
+use lib.Dec.{ltb, eqb}
+use lib.ListN.{length, getD, drop}
+use lib.Seq.{drop-cons}
 use borrow.Author.Tests.{lt-ltb, le-ltb, ne-eqb}
 use Rattle.form.specs.First.{orElse, first}
-use Rattle.form.specs.Records.{Filed, badId, badField, badFractions, badDensities}
+use Rattle.form.specs.Records.{Filed, RowTest, badId, brokenBy, testNumbered, testOf}
 use Rattle.form.specs.declared.Spot.{Spot}
 use Rattle.form.specs.declared.Spot.the-variants.{At, Nowhere}
 use Rattle.form.proofs.Search.{first-at, first-none, first-is, first-is-none, first-found, first-rest}
-use Rattle.filing.specs.Lists.{Lists, rowsIn, filedList, behind, filedLists}
-use Rattle.lists.specs.Rules.{recordRule, shifted, startsOf}
+use Rattle.filing.specs.Lists.{Lists, rowsIn, blocksOf, filedList, behind, filedFrom}
+use Rattle.lists.specs.Rules.{shifted, firstOf}
 
 -- ---- a record's rules read only what stands at its place and, for its id, at the place before
 
 module _ (f g : Filed) (k : ℕ) (kinds : (j : ℕ) → f .kind j ≡ k) (above : (i : ℕ) → k < g .kind i) where
   -- in front: the records of f
-  front : (q j : ℕ) → j < f .places → recordRule (behind f g) q .broken j ≡ recordRule f q .broken j
-  unfolding behind badId badField badFractions badDensities
-  front zero j h = let p : j - 1 < f .places = omega arith in simp (lt-ltb j (f .places) h, lt-ltb (j - 1) (f .places) p)
-  front (suc zero) j h = simp (lt-ltb j (f .places) h)
-  front (suc (suc zero)) j h = simp (lt-ltb j (f .places) h)
-  front (suc (suc (suc zero))) j h = simp (lt-ltb j (f .places) h)
-  front (suc (suc (suc (suc q)))) j h = refl
+  front-id : (j : ℕ) → j < f .places → badId (behind f g) j ≡ badId f j
+  unfolding behind badId
+  front-id j h = let p : j - 1 < f .places = omega arith in simp (lt-ltb j (f .places) h, lt-ltb (j - 1) (f .places) p)
+
+  front-row : (e : ℕ) (t : RowTest) (j : ℕ) → j < f .places → brokenBy (behind f g) e t j ≡ brokenBy f e t j
+  unfolding behind brokenBy
+  front-row e t j h = simp (lt-ltb j (f .places) h)
 
   -- behind: the records of g, the first of which has no record of its kind before it
   back-id : (i : ℕ) → badId (behind f g) (f .places + i) ≡ badId g i
@@ -53,22 +59,24 @@ module _ (f g : Filed) (k : ℕ) (kinds : (j : ℕ) → f .kind j ≡ k) (above 
       let t′ = lt-ltb 0 (suc i) (omega arith) in
       simp (b, o, o′, z, z′, s, t, t′)
 
-  back : (q i : ℕ) → recordRule (behind f g) q .broken (f .places + i) ≡ recordRule g q .broken i
-  unfolding behind badField badFractions badDensities
-  back zero i = back-id i
-  back (suc zero) i = rw (le-ltb (f .places + i) (f .places) (omega arith), add-sub-cancel-left (f .places) i)
-  back (suc (suc zero)) i = rw (le-ltb (f .places + i) (f .places) (omega arith), add-sub-cancel-left (f .places) i)
-  back (suc (suc (suc zero))) i = rw (le-ltb (f .places + i) (f .places) (omega arith), add-sub-cancel-left (f .places) i)
-  back (suc (suc (suc (suc q)))) i = refl
+  back-row : (e : ℕ) (t : RowTest) (i : ℕ) → brokenBy (behind f g) e t (f .places + i) ≡ brokenBy g e t i
+  unfolding behind brokenBy
+  back-row e t i = rw (le-ltb (f .places + i) (f .places) (omega arith), add-sub-cancel-left (f .places) i)
+
+  front : (n e j : ℕ) → j < f .places → testOf n e (behind f g) j ≡ testOf n e f j
+  front n e j h = ap₂ (λ (x y : Bool). cond (eqb n 5) x y) (front-id j h) (front-row e (testNumbered n) j h)
+
+  back : (n e i : ℕ) → testOf n e (behind f g) (f .places + i) ≡ testOf n e g i
+  back n e i = ap₂ (λ (x y : Bool). cond (eqb n 5) x y) (back-id i) (back-row e (testNumbered n) i)
 
 -- an unused place breaks no rule
-pub unused : (f : Filed) (q j : ℕ) → f .used j ≡ false → recordRule f q .broken j ≡ false
-unfolding badId badField badFractions badDensities
-unused f zero j e = rw e
-unused f (suc zero) j e = rw e
-unused f (suc (suc zero)) j e = rw e
-unused f (suc (suc (suc zero))) j e = rw e
-unused f (suc (suc (suc (suc q)))) j e = refl
+pub unused : (f : Filed) (n e j : ℕ) → f .used j ≡ false → testOf n e f j ≡ false
+unfolding badId brokenBy
+unused f n e j u = rw u (same (eqb n 5))
+  where
+    same : (b : Bool) → cond b false false ≡ false
+    same true = refl
+    same false = refl
 
 -- ---- the lowest place, part by part
 
@@ -95,16 +103,12 @@ module _ (p p₁ p₂ : ℕ → Bool) (a m : ℕ) (front : (j : ℕ) → j < a �
           first-is p (a + m) (a + i) (omega arith) (back i ∙ h .1) (both i (first-none p₁ e₁) (h .2))
       go Nowhere Nowhere e₁ e₂ = first-is-none p (a + m) (both m (first-none p₁ e₁) (first-none p₂ e₂))
 
--- the lowest place that breaks rule q
-abbrev pub firstOf : ℕ → Filed → Spot
-firstOf q f = first (recordRule f q .broken) (f .places)
-
-first-behind : (q : ℕ) (f g : Filed) (k : ℕ) → ((j : ℕ) → f .kind j ≡ k) → ((i : ℕ) → k < g .kind i)
-    → firstOf q (behind f g) ≡ orElse (firstOf q f) (shifted (f .places) (firstOf q g))
+first-behind : (n e : ℕ) (f g : Filed) (k : ℕ) → ((j : ℕ) → f .kind j ≡ k) → ((i : ℕ) → k < g .kind i)
+    → firstOf n e (behind f g) ≡ orElse (firstOf n e f) (shifted (f .places) (firstOf n e g))
 unfolding behind
-first-behind q f g k kinds above =
-    first-parts (recordRule (behind f g) q .broken) (recordRule f q .broken) (recordRule g q .broken) (f .places) (g .places)
-    (front f g k kinds above q) (back f g k kinds above q)
+first-behind n e f g k kinds above =
+    first-parts (testOf n e (behind f g)) (testOf n e f) (testOf n e g) (f .places) (g .places)
+    (front f g k kinds above n e) (back f g k kinds above n e)
 
 shift-else : (a : ℕ) (s t : Spot) → shifted a (orElse s t) ≡ orElse (shifted a s) (shifted a t)
 shift-else a (At i) t = refl
@@ -118,46 +122,47 @@ pub shift-zero : (s : Spot) → shifted 0 s ≡ s
 shift-zero (At i) = ap (λ (n : ℕ). At n) (zero-add i)
 shift-zero Nowhere = refl
 
-pub above-behind : (f g : Filed) (k : ℕ) → ((j : ℕ) → k < f .kind j) → ((i : ℕ) → k < g .kind i) → (j : ℕ) → k < behind f g .kind j
+-- what holds of the kinds of both holds of all
+pub kind-behind : (P : ℕ → Type 0) (f g : Filed) → ((j : ℕ) → P (f .kind j)) → ((i : ℕ) → P (g .kind i)) → (j : ℕ) → P (behind f g .kind j)
 unfolding behind
-above-behind f g k hf hg j = go (ltb j (f .places))
+kind-behind P f g hf hg j = go (ltb j (f .places))
   where
-    go : (b : Bool) → k < cond b (f .kind j) (g .kind (j - f .places))
+    go : (b : Bool) → P (cond b (f .kind j) (g .kind (j - f .places)))
     go true = hf j
     go false = hg (j - f .places)
 
--- the lowest place that breaks rule q, list by list
-pub first-lists : (q : ℕ) (l : Lists) → let s = startsOf l in
-    firstOf q (filedLists l)
-    ≡ orElse (firstOf q (filedList 1 (l .conversion)))
-    (orElse (shifted (s .stock) (firstOf q (filedList 2 (l .stock))))
-    (orElse (shifted (s .harvest) (firstOf q (filedList 3 (l .harvest)))) (shifted (s .parameters) (firstOf q (filedList 4 (l .parameters))))))
-unfolding filedLists filedList
-first-lists q l =
-    let c = filedList 1 (l .conversion) in
-    let s = filedList 2 (l .stock) in
-    let h = filedList 3 (l .harvest) in
-    let p = filedList 4 (l .parameters) in
-    first-behind q c (behind s (behind h p)) 1 (λ j. refl)
-    (above-behind s (behind h p) 1 (λ j. lit< tt) (above-behind h p 1 (λ j. lit< tt) (λ j. lit< tt)))
-    ∙ simp (
-      first-behind q s (behind h p) 2 (λ j. refl) (above-behind h p 2 (λ j. lit< tt) (λ j. lit< tt)),
-      first-behind q h p 3 (λ j. refl) (λ j. lit< tt),
-      shift-else,
-      shift-shift,
-      add-assoc,
-    )
+-- the lists of a kind and those after it have no lower kind
+pub kinds-from : (k : ℕ) (l : Lists) (j : ℕ) → k ≤ filedFrom k l .kind j
+unfolding filedFrom filedList
+kinds-from k [] j = omega arith
+kinds-from k (r ∷ l) j =
+    kind-behind (λ x. k ≤ x) (filedList k r) (filedFrom (suc k) l) (λ i. omega arith) (λ i. omega (arith, kinds-from (suc k) l i)) j
+
+-- the lowest place among the lists from one on, the first of them standing at `start`
+module _ (n e : ℕ) (l : Lists) (i start : ℕ) (h : i < length l) where
+  pub first-kinds : shifted start (firstOf n e (filedFrom (suc i) (drop i l)))
+      ≡ orElse (shifted start (firstOf n e (filedList (suc i) (getD l i []))))
+      (shifted (start + 12 * blocksOf (suc i) (length (getD l i []))) (firstOf n e (filedFrom (suc (suc i)) (drop (suc i) l))))
+  unfolding filedFrom filedList
+  first-kinds =
+      let r = getD l i [] in
+      let f = filedList (suc i) r in
+      let g = filedFrom (suc (suc i)) (drop (suc i) l) in
+      rw (drop-cons l i [] h)
+      (ap (shifted start) (first-behind n e f g (suc i) (λ j. refl) (λ j. kinds-from (suc (suc i)) (drop (suc i) l) j))
+      ∙ shift-else start (firstOf n e f) (shifted (f .places) (firstOf n e g))
+      ∙ ap (orElse (shifted start (firstOf n e f))) (shift-shift start (f .places) (firstOf n e g)))
 
 -- the lowest place of a list, tried row by row
-module _ (q kind : ℕ) (r : List ℕ) (start j : ℕ) (so-far : first (recordRule (filedList kind r) q .broken) j ≡ Nowhere) where
-  pub list-found : recordRule (filedList kind r) q .broken j ≡ true → j < rowsIn kind r → At (start + j) ≡ shifted start (firstOf q (filedList kind r))
+module _ (n e kind : ℕ) (r : List ℕ) (start j : ℕ) (so-far : first (testOf n e (filedList kind r)) j ≡ Nowhere) where
+  pub list-found : testOf n e (filedList kind r) j ≡ true → j < rowsIn kind (length r) → At (start + j) ≡ shifted start (firstOf n e (filedList kind r))
   unfolding filedList
-  list-found e l =
-      ap (shifted start) (sym (first-found (recordRule (filedList kind r) q .broken) j (filedList kind r .places) so-far e (omega arith)))
+  list-found b l =
+      ap (shifted start) (sym (first-found (testOf n e (filedList kind r)) j (filedList kind r .places) so-far b (omega arith)))
 
-  pub list-clean : rowsIn kind r ≤ j → Nowhere ≡ shifted start (firstOf q (filedList kind r))
+  pub list-clean : rowsIn kind (length r) ≤ j → Nowhere ≡ shifted start (firstOf n e (filedList kind r))
   unfolding filedList
   list-clean l =
       let f = filedList kind r in
       ap (shifted start)
-      (sym (first-rest (recordRule f q .broken) j (f .places) so-far (λ k m n. unused f q k (le-ltb k (rowsIn kind r) (omega arith)))))
+      (sym (first-rest (testOf n e f) j (f .places) so-far (λ k m o. unused f n e k (le-ltb k (rowsIn kind (length r)) (omega arith)))))

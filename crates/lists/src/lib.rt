@@ -1,87 +1,90 @@
 // The rules of rows that are to be written: 10 by kind, then 5 to 8 where each record would stand.
 ghost use mathlib.Core.Path.{_≡_};
-ghost use Prim.Native.Nat.{_+_, _*_, _≤_, _<_};
-ghost use lib.ListN.{length, drop};
-ghost use Rattle.form.specs.First.{orElse, first};
+ghost use Prim.Native.Nat.{suc, _+_, _*_, _^_, _≤_, _<_};
+ghost use lib.ListN.{length, getD, drop};
+ghost use Rattle.form.specs.First.{first};
 ghost use Rattle.form.specs.Ruling.{ruling};
-ghost use Rattle.form.specs.Layout.{layout, numbersOf};
-ghost use Rattle.form.specs.Records.{overspent, grown, badId, badField, badFractions, badDensities, recordRules};
-ghost use Rattle.filing.specs.Lists.{lists, ofKind, rowsIn, filedList, filedLists};
-ghost use Rattle.filing.specs.Tables.{fieldAt};
-ghost use Rattle.lists.specs.Rules.{badList, recordRule, shifted, Few, startsOf};
-use filing::numbers;
+ghost use Rattle.form.specs.Layout.{kinds, layout, numbersOf, aboveLimit};
+ghost use Rattle.form.specs.Records.{overspent, grown, badId, recordRules, testNumbered, testOf};
+ghost use Rattle.filing.specs.Lists.{cut, total, rowsIn, rowOf, blocksOf, filedList, filedLists};
+ghost use Rattle.lists.specs.Rules.{badList, badLengths, badAt, Good, Few, blocksFrom, shifted, firstOf};
+use form::KINDS;
+use form::PARAMETERS;
 use form::Ruling;
 use form::Spot;
+use form::blocks_for;
+use form::layout::field;
+use form::layout::numbers;
 
-// The limit of number i of a row, told by tests and not by a table, as the layouts in `filing` are.
-fn limit(kind: usize, i: usize) -> u32
-    requires { ⌜ (kind < 5) × (i < numbersOf kind) × (i < 16) ⌝ }
-    ensures { λ r. ⌜ r ≡ fieldAt (layout kind) i .limit ⌝ }
+// How many rows of a kind some numbers are.
+fn count(kind: usize, n: usize) -> usize
+    requires { ⌜ (0 < kind) × (kind ≤ kinds) ⌝ }
+    ensures { λ r. ⌜ (r ≡ rowsIn kind n) × (r ≤ n) ⌝ }
 {
-    if (kind != 4) & (i == 0) {
-        return 4294967295; // an id
-    }
-    if (kind == 2) & (i == 1) {
-        return 1; // a unit code
-    }
-    if (kind == 1) & ((i == 1) | (i == 10)) {
-        return 1000000; // an area
-    }
-    let density = (kind == 1) & ((i == 2) | (i == 3) | (i == 11) | (i == 12));
-    if density | ((kind == 2) & (i == 2)) | ((kind == 3) & (i == 2)) {
-        return 10000; // a density, a growth rate, tonnes per m3
-    }
-    // an amount, F, I or J; or a fraction
-    if ((kind == 2) & (i == 3)) | (kind == 3) {
-        10000000
-    } else {
-        1000
-    }
+    n / numbers(kind)
 }
 
-fn count(kind: usize, rows: &[u32]) -> usize
-    requires { ⌜ (0 < kind) × (kind < 5) ⌝ }
-    ensures { λ r. ⌜ r ≡ rowsIn kind (now (rows .entry)) ⌝ }
+fn bad_list(kind: usize, n: usize) -> bool
+    requires { ⌜ (0 < kind) × (kind ≤ kinds) ⌝ }
+    ensures { λ r. ⌜ r ≡ badList kind n ⌝ }
 {
-    rows.len() / numbers(kind)
+    let rows = count(kind, n);
+    (n % numbers(kind) != 0) | (32 < rows) | ((kind == PARAMETERS) & (rows != 1))
 }
 
-fn bad_list(kind: usize, rows: &[u32]) -> bool
-    requires { ⌜ (0 < kind) × (kind < 5) ⌝ }
-    ensures { λ r. ⌜ r ≡ badList kind (now (rows .entry)) ⌝ }
+pub fn length_at(lengths: &[u32], k: usize) -> usize
+    requires { ⌜ k < length (now lengths) ⌝ }
+    ensures { λ r. ⌜ (r ≡ getD (now (lengths .entry)) k 0) × (r < 2 ^ 32) ⌝ }
 {
-    let n = count(kind, rows);
-    (rows.len() % numbers(kind) != 0) | (32 < n) | ((kind == 4) & (n != 1))
+    lengths[k] as usize
 }
 
-pub fn first_bad_list(
-    conversion: &[u32],
-    stock: &[u32],
-    harvest: &[u32],
-    parameters: &[u32],
-) -> Spot
-    ensures { λ r. ⌜ r ≡ first (λ kind. badList kind (ofKind (lists (now (conversion .entry)) (now (stock .entry)) (now (harvest .entry)) (now (parameters .entry))) kind)) 5 ⌝ }
+// The lengths added up.
+fn sum(lengths: &[u32]) -> usize
+    requires { ⌜ length (now lengths) < 2 ^ 24 ⌝ }
+    ensures { λ r. ⌜ r ≡ total (now (lengths .entry)) ⌝ }
 {
-    if bad_list(1, conversion) {
-        return Spot::At(1);
+    let mut all: usize = 0;
+    let mut i: usize = 0;
+    while i < lengths.len() {
+        all += length_at(lengths, i);
+        i += 1;
     }
-    if bad_list(2, stock) {
-        return Spot::At(2);
+    all
+}
+
+fn bad_lengths(lengths: &[u32], m: usize) -> bool
+    ensures { λ r. ⌜ r ≡ badLengths (now (lengths .entry)) m ⌝ }
+{
+    if lengths.len() != KINDS {
+        return true;
     }
-    if bad_list(3, harvest) {
-        return Spot::At(3);
+    sum(lengths) != m
+}
+
+// Rule 10, of lists of these lengths in an area of m numbers.
+pub fn first_bad_list(lengths: &[u32], m: usize) -> Spot
+    ensures { λ r. ⌜ r ≡ first (badAt (now (lengths .entry)) m) (suc kinds) ⌝ }
+{
+    if bad_lengths(lengths, m) {
+        return Spot::At(0);
     }
-    if bad_list(4, parameters) {
-        return Spot::At(4);
+    let mut k: usize = 0;
+    while k < KINDS {
+        if bad_list(k + 1, length_at(lengths, k)) {
+            return Spot::At(k as u32 + 1);
+        }
+        k += 1;
     }
     Spot::Nowhere
 }
 
+// The row against the one before it, of a kind that has ids.
 fn bad_id(kind: usize, rows: &[u32], j: usize) -> bool
-    requires { ⌜ (0 < kind) × (kind < 5) × (j < rowsIn kind (now rows)) ⌝ }
+    requires { ⌜ (0 < kind) × (kind ≤ kinds) × (j < rowsIn kind (length (now rows))) ⌝ }
     ensures { λ r. ⌜ r ≡ badId (filedList kind (now (rows .entry))) j ⌝ }
 {
-    if kind == 4 {
+    if kind == PARAMETERS {
         return false;
     }
     if j == 0 {
@@ -91,15 +94,16 @@ fn bad_id(kind: usize, rows: &[u32], j: usize) -> bool
     rows[n * j] <= rows[n * (j - 1)]
 }
 
-fn bad_field(kind: usize, rows: &[u32], j: usize) -> bool
-    requires { ⌜ (0 < kind) × (kind < 5) × (j < rowsIn kind (now rows)) ⌝ }
-    ensures { λ r. ⌜ r ≡ badField (filedList kind (now (rows .entry))) j ⌝ }
+fn above_limit(kind: usize, rows: &[u32], j: usize) -> bool
+    requires { ⌜ j < rowsIn kind (length (now rows)) ⌝ }
+    ensures { λ r. ⌜ r ≡ aboveLimit (layout kind) (rowOf kind (now (rows .entry)) j) ⌝ }
 {
     let n = numbers(kind);
     let from = n * j;
     let mut i: usize = 0;
     while i < n {
-        if limit(kind, i) < rows[from + i] {
+        let f = field(kind, i);
+        if f.limit < rows[from + i] {
             return true;
         }
         i += 1;
@@ -115,62 +119,60 @@ fn wide(x: u32) -> u64
 
 // The fractions of the conversion row at `at`; their sum has room in 64 bits.
 fn overspent_at(rows: &[u32], at: usize) -> bool
-    requires { ⌜ at + 15 ≤ length (now rows) ⌝ }
+    requires { ⌜ at + numbersOf 1 ≤ length (now rows) ⌝ }
     ensures { λ r. ⌜ r ≡ overspent (drop at (now (rows .entry))) ⌝ }
 {
     1000 < wide(rows[at + 4]) + wide(rows[at + 7]) + wide(rows[at + 13])
 }
 
 fn grown_at(rows: &[u32], at: usize) -> bool
-    requires { ⌜ at + 15 ≤ length (now rows) ⌝ }
+    requires { ⌜ at + numbersOf 1 ≤ length (now rows) ⌝ }
     ensures { λ r. ⌜ r ≡ grown (drop at (now (rows .entry))) ⌝ }
 {
     (rows[at + 2] < rows[at + 3]) | (rows[at + 11] < rows[at + 12])
 }
 
-fn bad_fractions(kind: usize, rows: &[u32], j: usize) -> bool
-    requires { ⌜ j < rowsIn kind (now rows) ⌝ }
-    ensures { λ r. ⌜ r ≡ badFractions (filedList kind (now (rows .entry))) j ⌝ }
+// A rule of one row, by its number, of row j.
+fn row_breaks(number: u32, edition: u32, kind: usize, rows: &[u32], j: usize) -> bool
+    requires { ⌜ j < rowsIn kind (length (now rows)) ⌝ }
+    ensures { λ r. ⌜ r ≡ testNumbered number edition kind (rowOf kind (now (rows .entry)) j) ⌝ }
 {
-    if kind == 1 {
-        overspent_at(rows, 15 * j)
-    } else {
-        false
+    if number == 6 {
+        return above_limit(kind, rows, j);
     }
+    if kind != 1 {
+        return false;
+    }
+    let at = numbers(1) * j;
+    if number == 7 {
+        return overspent_at(rows, at);
+    }
+    if number == 8 {
+        return grown_at(rows, at);
+    }
+    false
 }
 
-fn bad_densities(kind: usize, rows: &[u32], j: usize) -> bool
-    requires { ⌜ j < rowsIn kind (now rows) ⌝ }
-    ensures { λ r. ⌜ r ≡ badDensities (filedList kind (now (rows .entry))) j ⌝ }
+// Rule 5, or a rule of one row, by its number, of row j.
+fn breaks(number: u32, edition: u32, kind: usize, rows: &[u32], j: usize) -> bool
+    requires { ⌜ (0 < kind) × (kind ≤ kinds) × (j < rowsIn kind (length (now rows))) ⌝ }
+    ensures { λ r. ⌜ r ≡ testOf number edition (filedList kind (now (rows .entry))) j ⌝ }
 {
-    if kind == 1 {
-        grown_at(rows, 15 * j)
-    } else {
-        false
+    if number == 5 {
+        return bad_id(kind, rows, j);
     }
+    row_breaks(number, edition, kind, rows, j)
 }
 
-fn breaks(q: usize, kind: usize, rows: &[u32], j: usize) -> bool
-    requires { ⌜ (q < 4) × (0 < kind) × (kind < 5) × (j < rowsIn kind (now rows)) ⌝ }
-    ensures { λ r. ⌜ r ≡ recordRule (filedList kind (now (rows .entry))) q .broken j ⌝ }
+// The lowest place where a list breaks a rule, its first record standing at `start`.
+fn first_in(number: u32, edition: u32, kind: usize, rows: &[u32], start: usize) -> Spot
+    requires { ⌜ (0 < kind) × (kind ≤ kinds) × (rowsIn kind (length (now rows)) ≤ 32) × (start < 2 ^ 24) ⌝ }
+    ensures { λ r. ⌜ r ≡ shifted start (firstOf number edition (filedList kind (now (rows .entry)))) ⌝ }
 {
-    match q {
-        0 => bad_id(kind, rows, j),
-        1 => bad_field(kind, rows, j),
-        2 => bad_fractions(kind, rows, j),
-        _ => bad_densities(kind, rows, j),
-    }
-}
-
-// The lowest place where a list breaks rule q, its first record standing at `start`.
-fn first_in(q: usize, kind: usize, rows: &[u32], start: usize) -> Spot
-    requires { ⌜ (q < 4) × (0 < kind) × (kind < 5) × (rowsIn kind (now rows) ≤ 32) × (start ≤ 120) ⌝ }
-    ensures { λ r. ⌜ r ≡ shifted start (first (recordRule (filedList kind (now (rows .entry))) q .broken) (filedList kind (now (rows .entry)) .places)) ⌝ }
-{
-    let n = count(kind, rows);
+    let n = count(kind, rows.len());
     let mut j: usize = 0;
     while j < n {
-        if breaks(q, kind, rows, j) {
+        if breaks(number, edition, kind, rows, j) {
             return Spot::At((start + j) as u32);
         }
         j += 1;
@@ -178,78 +180,69 @@ fn first_in(q: usize, kind: usize, rows: &[u32], start: usize) -> Spot
     Spot::Nowhere
 }
 
-fn or_else(a: Spot, b: Spot) -> Spot
-    ensures { λ r. ⌜ r ≡ orElse a b ⌝ }
+// How many blocks a list of n numbers takes.
+pub fn blocks_of(kind: usize, n: usize) -> usize
+    requires { ⌜ (0 < kind) × (kind ≤ kinds) × (rowsIn kind n ≤ 32) ⌝ }
+    ensures { λ r. ⌜ (r ≡ blocksOf kind n) × (r ≤ 3) ⌝ }
 {
-    match a {
-        Spot::At(i) => Spot::At(i),
-        Spot::Nowhere => b,
-    }
+    blocks_for(count(kind, n))
 }
 
-// The place of each kind's first record, and how many places there are.
-pub struct Starts {
-    pub stock: usize,
-    pub harvest: usize,
-    pub parameters: usize,
-    pub all: usize,
-}
-
-pub fn find_starts(conversion: &[u32], stock: &[u32], harvest: &[u32], parameters: &[u32]) -> Starts
-    requires { ⌜ Few (lists (now conversion) (now stock) (now harvest) (now parameters)) ⌝ }
-    ensures { λ r. ⌜ r ≡ startsOf (lists (now (conversion .entry)) (now (stock .entry)) (now (harvest .entry)) (now (parameters .entry))) ⌝ }
+// The lowest place where the lists break a rule, kind by kind.
+fn first_broken(number: u32, edition: u32, lengths: &[u32], area: &[u32]) -> Spot
+    requires { ⌜ Good (now lengths) (length (now area)) ⌝ }
+    ensures { λ r. ⌜ r ≡ firstOf number edition (filedLists (cut (now (lengths .entry)) (now (area .entry)))) ⌝ }
 {
-    let s = 12 * ((count(1, conversion) + 11) / 12);
-    let h = s + 12 * ((count(2, stock) + 11) / 12);
-    let p = h + 12 * ((count(3, harvest) + 11) / 12);
-    Starts {
-        stock: s,
-        harvest: h,
-        parameters: p,
-        all: p + 12 * ((count(4, parameters) + 11) / 12),
-    }
-}
-
-fn first_broken(
-    q: usize,
-    conversion: &[u32],
-    stock: &[u32],
-    harvest: &[u32],
-    parameters: &[u32],
-    at: Starts,
-) -> Spot
-    requires { ⌜ q < 4 ⌝ }
-    requires { ⌜ Few (lists (now conversion) (now stock) (now harvest) (now parameters)) ⌝ }
-    requires { ⌜ at ≡ startsOf (lists (now conversion) (now stock) (now harvest) (now parameters)) ⌝ }
-    ensures { λ r. ⌜ r ≡ first (recordRule (filedLists (lists (now (conversion .entry)) (now (stock .entry)) (now (harvest .entry)) (now (parameters .entry)))) q .broken) (filedLists (lists (now (conversion .entry)) (now (stock .entry)) (now (harvest .entry)) (now (parameters .entry))) .places) ⌝ }
-{
-    let c = first_in(q, 1, conversion, 0);
-    let s = first_in(q, 2, stock, at.stock);
-    let h = first_in(q, 3, harvest, at.harvest);
-    let p = first_in(q, 4, parameters, at.parameters);
-    or_else(c, or_else(s, or_else(h, p)))
-}
-
-pub fn records_ruling(
-    conversion: &[u32],
-    stock: &[u32],
-    harvest: &[u32],
-    parameters: &[u32],
-    at: Starts,
-) -> Ruling
-    requires { ⌜ Few (lists (now conversion) (now stock) (now harvest) (now parameters)) ⌝ }
-    requires { ⌜ at ≡ startsOf (lists (now conversion) (now stock) (now harvest) (now parameters)) ⌝ }
-    ensures { λ r. ⌜ r ≡ ruling (recordRules (filedLists (lists (now (conversion .entry)) (now (stock .entry)) (now (harvest .entry)) (now (parameters .entry))))) ⌝ }
-{
-    let mut q: usize = 0;
-    while q < 4 {
-        if let Spot::At(place) = first_broken(q, conversion, stock, harvest, parameters, at) {
-            return Ruling::Broken {
-                number: 5 + q as u8,
-                place,
-            };
+    let mut from: usize = 0;
+    let mut start: usize = 0;
+    let mut k: usize = 0;
+    while k < KINDS {
+        let n = length_at(lengths, k);
+        let end = from + n;
+        if let Spot::At(place) = first_in(number, edition, k + 1, &area[from..end], start) {
+            return Spot::At(place);
         }
-        q += 1;
+        start += 12 * blocks_of(k + 1, n);
+        from = end;
+        k += 1;
+    }
+    Spot::Nowhere
+}
+
+// Rules 5 to 8 of lists that 10 has found good.
+pub fn rule_records(edition: u32, lengths: &[u32], area: &[u32]) -> Ruling
+    requires { ⌜ Good (now lengths) (length (now area)) ⌝ }
+    ensures { λ r. ⌜ r ≡ ruling (recordRules edition (filedLists (cut (now (lengths .entry)) (now (area .entry))))) ⌝ }
+{
+    let id = first_broken(5, edition, lengths, area);
+    if let Spot::At(place) = id {
+        return Ruling::Broken { number: 5, place };
+    }
+    let field = first_broken(6, edition, lengths, area);
+    if let Spot::At(place) = field {
+        return Ruling::Broken { number: 6, place };
+    }
+    let fractions = first_broken(7, edition, lengths, area);
+    if let Spot::At(place) = fractions {
+        return Ruling::Broken { number: 7, place };
+    }
+    let densities = first_broken(8, edition, lengths, area);
+    if let Spot::At(place) = densities {
+        return Ruling::Broken { number: 8, place };
     }
     Ruling::Clean
+}
+
+// How many blocks the lists take.
+pub fn blocks_in(lengths: &[u32]) -> usize
+    requires { ⌜ (length (now lengths) ≡ kinds) × Few (now lengths) ⌝ }
+    ensures { λ r. ⌜ (r ≡ blocksFrom 1 (now (lengths .entry))) × (r ≤ 60) ⌝ }
+{
+    let mut n: usize = 0;
+    let mut k: usize = 0;
+    while k < KINDS {
+        n += blocks_of(k + 1, length_at(lengths, k));
+        k += 1;
+    }
+    n
 }

@@ -11,9 +11,9 @@ use Rattle.form.specs.Layout.{rowFrom}
 use Rattle.form.specs.Block.{weighed}
 use Rattle.form.specs.Records.{rowsBelow}
 use Rattle.form.specs.Computed.{computed}
-use Rattle.filing.specs.Lists.{Lists, lists, filedList, behind, filedLists}
+use Rattle.filing.specs.Lists.{cut, filedList, behind, filedFrom}
 use Rattle.filing.specs.Written.{recordFrom, inTurn, headOf, sealed, recordOn, usedFrom, bodyOf, blockOf, bytesOf}
-use Rattle.lists.specs.Examples.{dayRows}
+use Rattle.lists.specs.Examples.{dayLengths, dayArea}
 use Rattle.rows.specs.Writing.{written}
 use Rattle.wide.specs.Rounding.{settled}
 use Rattle.totals.specs.Columns.{sumOf, uptakePart, harvestPart, clearedPart, onsitePart, offsitePart, decayPart}
@@ -93,15 +93,15 @@ largest i (suc n) = row i 1000000 10000 0 1000 ++ largest (suc i) n
 
 -- a return of conversion rows alone, and of stock and harvest rows alone, with the default parameters
 abbrev converted : List ℕ → List ℕ
-converted c = written (lists c [] [] defaults)
+converted c = written 1 (c ∷ [] ∷ [] ∷ defaults ∷ [])
 
 abbrev grown : List ℕ → List ℕ → List ℕ
-grown s h = written (lists [] s h defaults)
+grown s h = written 1 ([] ∷ s ∷ h ∷ defaults ∷ [])
 
 abbrev pub table : List Case
 table =
     -- (a) "this day"
-    worked-out (written dayRows)
+    worked-out (written 1 (cut dayLengths dayArea))
     (sheet51 340000000 775000 36000000 (pos 41500000) (pos 20750000000) (pos 13250000000) (pos 48583) (negsuc 48582))
     (sheet52 32400000000000 16200000000000 48600000000000 40500000000000 326700)
     (sheet53 518 4536 4 129)
@@ -133,5 +133,5 @@ table =
 
 -- every return of the table has the answer beside it, as the checker computes them
 pub all-answered : map (λ (c : Case). completeOf (c .bytes)) table ≡ map (λ (c : Case). c .answer) table
-unfolding toBits ofInt mul add onsiteDouble offsiteDouble decayDouble addRows largest computed filedList behind filedLists littleEndian recordFrom inTurn headOf sealed weighed recordOn usedFrom bodyOf blockOf bytesOf rowsBelow rowFrom number settled sumOf uptakePart harvestPart clearedPart onsitePart offsitePart decayPart stocksOf conversionOf gasesOf
+unfolding toBits ofInt mul add onsiteDouble offsiteDouble decayDouble addRows largest computed cut filedList behind filedFrom littleEndian recordFrom inTurn headOf sealed weighed recordOn usedFrom bodyOf blockOf bytesOf rowsBelow rowFrom number settled sumOf uptakePart harvestPart clearedPart onsitePart offsitePart decayPart stocksOf conversionOf gasesOf
 all-answered = refl

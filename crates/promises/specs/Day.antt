@@ -6,15 +6,15 @@ use lib.ListN.{replicate}
 use Rattle.form.specs.First.{first}
 use Rattle.form.specs.Ruling.{ruling}
 use Rattle.form.specs.Bytes.{number, littleEndian}
-use Rattle.form.specs.Layout.{rowFrom, aboveLimit}
+use Rattle.form.specs.Layout.{kinds, rowFrom, aboveLimit}
 use Rattle.form.specs.Block.{weighed}
-use Rattle.form.specs.Records.{badId, badField, badFractions, badDensities, rowsBelow}
+use Rattle.form.specs.Records.{badId, brokenBy, rowsBelow}
 use Rattle.form.specs.Computed.{computed}
 use Rattle.form.specs.declared.Verdict.the-variants.{Accepted, Refused}
-use Rattle.filing.specs.Lists.{Lists, lists, filedList, behind, filedLists}
+use Rattle.filing.specs.Lists.{cut, total, filedList, behind, filedFrom}
 use Rattle.filing.specs.Written.{recordFrom, inTurn, headOf, sealed, recordOn, usedFrom, bodyOf, blockOf, bytesOf}
-use Rattle.lists.specs.Rules.{badList, listRules}
-use Rattle.lists.specs.Examples.{dayRows}
+use Rattle.lists.specs.Rules.{badList, badLengths, listRules}
+use Rattle.lists.specs.Examples.{dayLengths, dayArea}
 use Rattle.rows.specs.Reading.{readAnswer, roomAfter}
 use Rattle.rows.specs.Writing.{writeAnswer, bytesAfter}
 use Rattle.rows.specs.declared.Written.{Written}
@@ -25,32 +25,36 @@ abbrev pub day : List ℕ
 day = (1 ∷ 1 ∷ 0 ∷ 0 ∷ 4 ∷ 0 ∷ 1 ∷ 0 ∷ 7 ∷ 0 ∷ 0 ∷ 0 ∷ 200 ∷ 0 ∷ 0 ∷ 0 ∷ 232 ∷ 3 ∷ 100 ∷ 0 ∷ 144 ∷ 1 ∷ 132 ∷ 3 ∷ 244 ∷ 1 ∷ 200 ∷ 0 ∷ 132 ∷ 3 ∷ 244 ∷ 1 ∷ 44 ∷ 1 ∷ 0 ∷ 0 ∷ 232 ∷ 3 ∷ 100 ∷ 0 ∷ 44 ∷ 1 ∷ 244 ∷ 1 ∷ []) ++ (replicate 464 0 ++ ((251 ∷ 250 ∷ 0 ∷ 0 ∷ 2 ∷ 1 ∷ 1 ∷ 0 ∷ 4 ∷ 0 ∷ 1 ∷ 0 ∷ 1 ∷ 0 ∷ 0 ∷ 0 ∷ 0 ∷ 0 ∷ 168 ∷ 2 ∷ 232 ∷ 3 ∷ 0 ∷ 0 ∷ 244 ∷ 1 ∷ []) ++ (replicate 486 0 ++ ((219 ∷ 45 ∷ 0 ∷ 0 ∷ 3 ∷ 1 ∷ 2 ∷ 0 ∷ 4 ∷ 0 ∷ 1 ∷ 0 ∷ 1 ∷ 0 ∷ 0 ∷ 0 ∷ 244 ∷ 1 ∷ 0 ∷ 0 ∷ 182 ∷ 3 ∷ 0 ∷ 0 ∷ 44 ∷ 1 ∷ []) ++ (replicate 486 0 ++ ((159 ∷ 28 ∷ 0 ∷ 0 ∷ 4 ∷ 1 ∷ 3 ∷ 0 ∷ 4 ∷ 0 ∷ 1 ∷ 0 ∷ 0 ∷ 0 ∷ 0 ∷ 0 ∷ 244 ∷ 1 ∷ 12 ∷ 0 ∷ 60 ∷ 0 ∷ 10 ∷ 0 ∷ 7 ∷ 0 ∷ 121 ∷ []) ++ (replicate 485 0 ++ ((124 ∷ 29 ∷ 0 ∷ 0 ∷ [])))))))))
 
 -- the answer of a write, opened for computing
-unfoldable answered : Lists → List ℕ → Written
-unfolding first ruling aboveLimit badId badField badFractions badDensities filedList behind filedLists badList listRules littleEndian recordFrom inTurn headOf sealed weighed recordOn usedFrom bodyOf blockOf bytesOf writeAnswer
-answered l r = writeAnswer l r
+unfoldable answered : List ℕ → List ℕ → List ℕ → Written
+unfolding first ruling kinds aboveLimit badId brokenBy cut total filedList behind filedFrom badList badLengths listRules littleEndian recordFrom inTurn headOf sealed weighed recordOn usedFrom bodyOf blockOf bytesOf writeAnswer
+answered lengths rows room = writeAnswer 1 lengths rows room
 
 -- written to one byte more than it needs, and to one less
-pub day-written : writeAnswer dayRows (replicate 2049 9) ≡ write.Done 2048
+pub day-written : writeAnswer 1 dayLengths dayArea (replicate 2049 9) ≡ write.Done 2048
 unfolding answered
 day-written = refl
 
-pub day-bytes : bytesAfter dayRows (replicate 2049 9) (write.Done 2048) ≡ day ++ (9 ∷ [])
+pub day-bytes : bytesAfter 1 dayLengths dayArea (replicate 2049 9) (write.Done 2048) ≡ day ++ (9 ∷ [])
 unfolding answered
 day-bytes = refl
 
-short-bytes : writeAnswer dayRows (replicate 2047 9) ≡ write.Refused 9 0
+short-bytes : writeAnswer 1 dayLengths dayArea (replicate 2047 9) ≡ write.Refused 9 0
 unfolding answered
 short-bytes = refl
 
--- read to rooms of one number more than a kind needs, and of one less
-pub day-read : readAnswer day (lists (replicate 15 9) (replicate 6 9) (replicate 5 9) (replicate 6 9)) ≡ Accepted (record { conversion = 1; stock = 1; harvest = 1; parameters = 1 })
-unfolding computed readAnswer
+-- read to a room of one number more than the rows need, and to rooms that end inside a kind's rows
+pub day-read : readAnswer day (replicate 32 9) ≡ Accepted (record { conversion = 1; stock = 1; harvest = 1; parameters = 1 })
+unfolding computed readAnswer rowsBelow inTurn flatten
 day-read = refl
 
-pub day-stock : roomAfter 2 day (replicate 6 9) (Accepted (record { conversion = 1; stock = 1; harvest = 1; parameters = 1 })) ≡ 1 ∷ 0 ∷ 680 ∷ 1000 ∷ 500 ∷ 9 ∷ []
-unfolding rowsBelow rowFrom number flatten
-day-stock = refl
+pub day-rows : roomAfter day (replicate 32 9) (Accepted (record { conversion = 1; stock = 1; harvest = 1; parameters = 1 })) ≡ dayArea ++ (9 ∷ [])
+unfolding kinds rowsBelow rowFrom number flatten inTurn
+day-rows = refl
 
-short-room : readAnswer day (lists (replicate 15 9) (replicate 5 9) (replicate 4 9) []) ≡ Refused 9 3
-unfolding computed readAnswer
+short-room : readAnswer day (replicate 24 9) ≡ Refused 9 3
+unfolding computed readAnswer rowsBelow inTurn flatten
 short-room = refl
+
+no-room : readAnswer day [] ≡ Refused 9 1
+unfolding computed readAnswer rowsBelow inTurn flatten
+no-room = refl

@@ -2,7 +2,7 @@
 -- for writing. A refusal carries no figures, and nothing lent has changed."
 use Prim.Native.Nat.{ℕ, _+_, _*_, _<_}
 use mathlib.Core.Path.{_≡_, refl, ap}
-use mathlib.Core.List.{List, [], _∷_, _++_}
+use mathlib.Core.List.{List, [], _∷_, _++_, flatMap}
 use native.Mathlib.Omega.{arith}
 use lib.ListN.{length}
 use Rattle.form.specs.Ruling.{Rule, ruling}
@@ -12,7 +12,7 @@ use Rattle.form.specs.declared.Ruling.the-variants.{Clean, Broken}
 use Rattle.form.specs.declared.Verdict.{Verdict}
 use Rattle.form.specs.declared.Verdict.the-variants as verdict
 use Rattle.form.proofs.Order.{Least, AllKept, least-ruling, clean-ruling}
-use Rattle.filing.specs.Lists.{Lists}
+use Rattle.filing.specs.Lists.{Lists, cut}
 use Rattle.lists.specs.Rules.{listRules}
 use Rattle.rows.specs.Reading.{readRules, readAnswer, roomAfter}
 use Rattle.rows.specs.Writing.{written, writeRules, writtenBy, writeAnswer, bytesAfter}
@@ -23,11 +23,12 @@ use Rattle.worksheets.specs.Answers.{Outcome, worked, refusal, outcomeBy, outco
 use Rattle.doubles.specs.Subtotals.{subtotalsOf, answerBy, answerOf}
 use Rattle.doubles.specs.declared.Answer.{Answer}
 use Rattle.doubles.specs.declared.Answer.the-variants as doubles
-use Rattle.report.specs.Lines.{lines51, lines52, lines53, refusedLine, textOf, printed, putOf, roomAfter as textAfter}
+use Rattle.listed.specs.Listed.{listed}
+use Rattle.report.specs.Lines.{lineOf, refusedLine, textOf, printed, putOf, roomAfter as textAfter}
 use Rattle.report.specs.declared.Put.the-variants.{Done, Short}
+use Rattle.tabled.specs.Figures.{figuresRules, figuresAfter}
 use Rattle.door.specs.Door.{codeOf, judgeRules, countsAfter, subtotalRules, bitsAfter}
-use Rattle.door.specs.Figures.{figuresRules, figuresAfter}
-use Rattle.door.specs.Rows.{readRules as c-readRules, rowsAfter, writeRules as c-writeRules, blocksAfter, sizeAfter}
+use Rattle.door.specs.Rows.{readRulesC, rowsAfter, writeRulesC, blocksAfter, sizeAfter}
 use Rattle.promises.specs.Order.{numbers, ByOrder, Faithful, by-order}
 
 -- ---- the orders
@@ -37,14 +38,14 @@ unfolding numbers blockRules
 sheets-numbers s = refl
 
 -- "Reading: 1 to 9"
-pub read-numbers : (s : List ℕ) (rooms : Lists) → numbers (readRules s rooms) ≡ 1 ∷ 2 ∷ 3 ∷ 4 ∷ 5 ∷ 6 ∷ 7 ∷ 8 ∷ 9 ∷ []
+pub read-numbers : (s room : List ℕ) → numbers (readRules s room) ≡ 1 ∷ 2 ∷ 3 ∷ 4 ∷ 5 ∷ 6 ∷ 7 ∷ 8 ∷ 9 ∷ []
 unfolding numbers blockRules
-read-numbers s rooms = refl
+read-numbers s room = refl
 
 -- "Writing: 10, then 5 to 9"
-pub write-numbers : (l : Lists) (room : List ℕ) → numbers (writeRules l room) ≡ 10 ∷ 5 ∷ 6 ∷ 7 ∷ 8 ∷ 9 ∷ []
+pub write-numbers : (lengths rows room : List ℕ) → numbers (writeRules 1 lengths rows room) ≡ 10 ∷ 5 ∷ 6 ∷ 7 ∷ 8 ∷ 9 ∷ []
 unfolding numbers listRules
-write-numbers l room = refl
+write-numbers lengths rows room = refl
 
 -- ---- the answers
 verdict-faithful : (s : List ℕ) → Faithful (verdictBy s)
@@ -59,9 +60,9 @@ unfolding verdictOf
 judge-by-order s = by-order (verdictBy s) (verdict-faithful s) (rules s)
 
 -- read: the four counts, or a refusal
-pub read-by-order : (s : List ℕ) (rooms : Lists) → ByOrder (readRules s rooms) (λ n p. readAnswer s rooms ≡ verdict.Refused n p) (readAnswer s rooms ≡ verdict.Accepted (countsOf s))
+pub read-by-order : (s room : List ℕ) → ByOrder (readRules s room) (λ n p. readAnswer s room ≡ verdict.Refused n p) (readAnswer s room ≡ verdict.Accepted (countsOf s))
 unfolding readAnswer
-read-by-order s rooms = by-order (verdictBy s) (verdict-faithful s) (readRules s rooms)
+read-by-order s room = by-order (verdictBy s) (verdict-faithful s) (readRules s room)
 
 -- figures: the sheets, or a refusal
 abbrev figuresBy : List ℕ → Ruling → Outcome
@@ -92,15 +93,17 @@ unfolding verdictOf
 subtotals-by-order s = by-order (doublesBy s) (doubles-faithful s) (rules s)
 
 -- write: the number of bytes, or a refusal
-written-faithful : (l : Lists) → Faithful (writtenBy l)
+written-faithful : (l : Lists) → Faithful (writtenBy 1 l)
 written-faithful l = record {
   same = λ n p m q e. (let a : n ≡ m = cc in let b : p ≡ q = cc in cc);
   other = λ n p e. (let z : _≡_ {A = ℕ} 0 1 = cc in omega arith);
 }
 
-pub write-by-order : (l : Lists) (room : List ℕ) → ByOrder (writeRules l room) (λ n p. writeAnswer l room ≡ write.Refused n p) (writeAnswer l room ≡ write.Done (length (written l)))
+pub write-by-order : (lengths rows room : List ℕ)
+    → ByOrder (writeRules 1 lengths rows room) (λ n p. writeAnswer 1 lengths rows room ≡ write.Refused n p)
+    (writeAnswer 1 lengths rows room ≡ write.Done (length (written 1 (cut lengths rows))))
 unfolding writeAnswer
-write-by-order l room = by-order (writtenBy l) (written-faithful l) (writeRules l room)
+write-by-order lengths rows room = by-order (writtenBy 1 (cut lengths rows)) (written-faithful (cut lengths rows)) (writeRules 1 lengths rows room)
 
 -- ---- from C
 -- "from C, then 11 and last 9"
@@ -116,13 +119,13 @@ pub c-figures-numbers : (s room : List ℕ) → numbers (figuresRules s room) �
 unfolding numbers blockRules
 c-figures-numbers s room = refl
 
-pub c-read-numbers : (s : List ℕ) (rooms : Lists) (counts : List ℕ) → numbers (c-readRules s rooms counts) ≡ 1 ∷ 2 ∷ 3 ∷ 4 ∷ 5 ∷ 6 ∷ 7 ∷ 8 ∷ 9 ∷ []
+pub c-read-numbers : (s rows counts : List ℕ) → numbers (readRulesC s rows counts) ≡ 1 ∷ 2 ∷ 3 ∷ 4 ∷ 5 ∷ 6 ∷ 7 ∷ 8 ∷ 9 ∷ []
 unfolding numbers blockRules
-c-read-numbers s rooms counts = refl
+c-read-numbers s rows counts = refl
 
-pub c-write-numbers : (l : Lists) (room size : List ℕ) → numbers (c-writeRules l room size) ≡ 10 ∷ 5 ∷ 6 ∷ 7 ∷ 8 ∷ 9 ∷ []
+pub c-write-numbers : (rows lengths room size : List ℕ) → numbers (writeRulesC rows lengths room size) ≡ 10 ∷ 5 ∷ 6 ∷ 7 ∷ 8 ∷ 9 ∷ []
 unfolding numbers listRules
-c-write-numbers l room size = refl
+c-write-numbers rows lengths room size = refl
 
 -- "0; or 1,000 times the refusal number plus the place": of any list of rules, so of each C function's
 pub code-refused : (rs : List Rule) (n p : ℕ) → Least rs n p → codeOf (ruling rs) ≡ 1000 * n + p
@@ -145,17 +148,18 @@ c-subtotal-unchanged s code room n p = refl
 pub c-figures-unchanged : (s room : List ℕ) (n p : ℕ) → figuresAfter s room (Broken n p) ≡ room
 c-figures-unchanged s room n p = refl
 
-pub c-read-unchanged : (kind : ℕ) (s room : List ℕ) (n p : ℕ) → rowsAfter kind s room (Broken n p) ≡ room
-c-read-unchanged kind s room n p = refl
+pub c-read-unchanged : (s rows counts : List ℕ) (n p : ℕ) → (rowsAfter s rows (Broken n p) ≡ rows) × (countsAfter s counts (Broken n p) ≡ counts)
+c-read-unchanged s rows counts n p = (refl, refl)
 
-pub c-write-unchanged : (l : Lists) (room size : List ℕ) (n p : ℕ) → (blocksAfter l room (Broken n p) ≡ room) × (sizeAfter l size (Broken n p) ≡ size)
-c-write-unchanged l room size n p = (refl, refl)
+pub c-write-unchanged : (rows lengths room size : List ℕ) (n p : ℕ)
+    → (blocksAfter rows lengths room (Broken n p) ≡ room) × (sizeAfter rows lengths size (Broken n p) ≡ size)
+c-write-unchanged rows lengths room size n p = (refl, refl)
 
-pub read-unchanged : (kind : ℕ) (s room : List ℕ) (n p : ℕ) → roomAfter kind s room (verdict.Refused n p) ≡ room
-read-unchanged kind s room n p = refl
+pub read-unchanged : (s room : List ℕ) (n p : ℕ) → roomAfter s room (verdict.Refused n p) ≡ room
+read-unchanged s room n p = refl
 
-pub write-unchanged : (l : Lists) (room : List ℕ) (n p : ℕ) → bytesAfter l room (write.Refused n p) ≡ room
-write-unchanged l room n p = refl
+pub write-unchanged : (lengths rows room : List ℕ) (n p : ℕ) → bytesAfter 1 lengths rows room (write.Refused n p) ≡ room
+write-unchanged lengths rows room n p = refl
 
 pub lines-unchanged : (text room : List ℕ) → textAfter text room Short ≡ room
 lines-unchanged text room = refl
@@ -164,6 +168,6 @@ lines-unchanged text room = refl
 pub refused-text : (s : List ℕ) (n p : ℕ) → outcomeOf s ≡ refusal n p → printed s ≡ refusedLine n p
 refused-text s n p e = ap textOf e
 
--- and that of an answer is the seventeen lines of the figures
-pub worked-text : (s : List ℕ) (v : Sheets) → outcomeOf s ≡ worked v → printed s ≡ lines51 (v .stocks) ++ lines52 (v .conversion) ++ lines53 (v .gases)
+-- and that of an answer is a line for each figure of the list
+pub worked-text : (s : List ℕ) (v : Sheets) → outcomeOf s ≡ worked v → printed s ≡ flatMap lineOf (listed v)
 worked-text s v e = ap textOf e

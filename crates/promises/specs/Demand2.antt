@@ -7,27 +7,21 @@ use mathlib.Core.List.{List, [], _∷_, _++_}
 use native.Mathlib.Nat.{mul-suc, div-add-mod, mod-lt}
 use native.Mathlib.Numerals.{add-one}
 use native.Mathlib.Omega.{arith}
-use borrow.Author.Tests.{ltb-true, ltb-false, le-ltb}
-use lib.ListN.{length, take, drop}
-use lib.Seq.{take-append-seam}
+use borrow.Author.Tests.{ltb-true, ltb-false}
+use lib.ListN.{length, getD}
 use lib.Dec.{ltb}
 use lib.IntN.{ℤ, pos, negsuc, negℤ, _-ℤ_, _*ℤ_}
-use Rattle.form.specs.Ruling.{ruling}
+use Rattle.form.specs.Layout.{kinds}
 use Rattle.form.specs.Bytes.{byteAt}
 use Rattle.form.specs.Records.{areaOf, before, after, onsite, onsiteOxidised, onsiteCarbon, offsite, offsiteOxidised, offsiteCarbon, tenYearArea, tenYearBefore, tenYearAfter, decay, decayCarbon}
-use Rattle.form.specs.Verdict.{rows, verdictOf}
+use Rattle.form.specs.Verdict.{rows, countsOf, countIn}
 use Rattle.form.specs.declared.Counts.{Counts}
-use Rattle.form.specs.declared.Ruling.{Ruling}
-use Rattle.form.specs.declared.Ruling.the-variants.{Clean, Broken}
 use Rattle.form.specs.declared.Verdict.the-variants.{Accepted}
-use Rattle.form.proofs.Order.{orRule, ruling-append, kept-before, one-kept}
-use Rattle.filing.specs.Lists.{Lists}
-use Rattle.lists.specs.Rules.{listRules}
-use Rattle.rows.specs.Reading.{onFront, roomAfter, rowLists}
-use Rattle.rows.specs.Writing.{written, roomRule, writeRules, writtenBy, writeAnswer, bytesAfter}
+use Rattle.filing.specs.Lists.{rowsIn}
+use Rattle.rows.specs.Reading.{readAnswer, onFront, roomAfter, lengthsOf}
+use Rattle.rows.specs.Writing.{writeAnswer, bytesAfter}
 use Rattle.rows.specs.declared.Written.the-variants.{Done}
-use Rattle.trips.proofs.ReadBack.{rowCounts}
-use Rattle.trips.proofs.RoundTrips.{write-then-read, read-then-write}
+use Rattle.trips.proofs.Again.{returned, read-accepted, read-counts, read-rows, leftBehind, write-done, write-same}
 use Rattle.wide.specs.Rounding.{settled, nearest}
 use Rattle.wide.specs.Signs.{nearestZ}
 use Rattle.totals.specs.Columns.{sumOf, rate, amount, stockCarbon, commercial, tonnesPerM3, fuelwood, otherUse, uptakePart, harvestPart, clearedPart, onsitePart, offsitePart, decayPart}
@@ -93,76 +87,31 @@ pub nearest-below : (n d : ℕ) → nearestZ (negsuc n) d ≡ negℤ (pos (neare
 nearest-below n d = refl
 
 -- ---- "Good rows written as a return read back as those rows"
--- whatever write answers other than a refusal, the bytes that it left at the front of the room are accepted with the counts of the rows, and their rows are the rows
--- the rows of some lists at the front of four rooms, after reading
-pub record Holds (s : List ℕ) (rooms l : Lists) (c : Counts) : Type 0 where
-  pub conversion : roomAfter 1 s (rooms .conversion) (Accepted c) ≡ onFront (l .conversion) (rooms .conversion)
-  pub stock : roomAfter 2 s (rooms .stock) (Accepted c) ≡ onFront (l .stock) (rooms .stock)
-  pub harvest : roomAfter 3 s (rooms .harvest) (Accepted c) ≡ onFront (l .harvest) (rooms .harvest)
-  pub parameters : roomAfter 4 s (rooms .parameters) (Accepted c) ≡ onFront (l .parameters) (rooms .parameters)
+-- Whatever write answers other than a refusal: the bytes that it left at the front of its room, read to any room that is long enough for the rows, are
+-- accepted with the counts of the rows, and the rows, kind after kind, stand at the front of that room.
+pub record ReadsBack (lengths rows : List ℕ) (s room : List ℕ) : Type 0 where
+  pub accepted : readAnswer s room ≡ Accepted (countsOf s)
+  pub counts : (k : ℕ) → k < kinds → countIn (countsOf s) (suc k) ≡ rowsIn (suc k) (getD lengths k 0)
+  pub front : roomAfter s room (Accepted (countsOf s)) ≡ onFront rows room
 
-held : (s : List ℕ) (rooms l : Lists) (c : Counts) → rowLists s ≡ l → Holds s rooms l c
-held s rooms l c e = record {
-  conversion = ap (λ (x : Lists). onFront (x .conversion) (rooms .conversion)) e;
-  stock = ap (λ (x : Lists). onFront (x .stock) (rooms .stock)) e;
-  harvest = ap (λ (x : Lists). onFront (x .harvest) (rooms .harvest)) e;
-  parameters = ap (λ (x : Lists). onFront (x .parameters) (rooms .parameters)) e;
+pub written-reads-back : (lengths rows bytes : List ℕ) (n : ℕ) → writeAnswer 1 lengths rows bytes ≡ Done n
+    → (room : List ℕ) → length rows ≤ length room → ReadsBack lengths rows (returned lengths rows bytes n) room
+written-reads-back lengths rows bytes n done room long = record {
+  accepted = read-accepted lengths rows bytes n done room long;
+  counts = read-counts lengths rows bytes n done;
+  front = read-rows lengths rows bytes n done room (countsOf (returned lengths rows bytes n));
 }
 
--- the bytes that a write left at the front of its room
-abbrev pub returned : Lists → List ℕ → ℕ → List ℕ
-returned l room n = take n (bytesAfter l room (Done n))
-
-clean-front : (u v : Ruling) → orRule u v ≡ Clean → u ≡ Clean
-clean-front Clean v e = refl
-clean-front (Broken n p) v e = e
-
-clean-lists : (l : Lists) (room : List ℕ) → ruling (writeRules l room) ≡ Clean → ruling (listRules l) ≡ Clean
-clean-lists l room e = clean-front (ruling (listRules l)) _ (sym (ruling-append (listRules l) (roomRule l room ∷ [])) ∙ e)
-
-done-by : (l : Lists) (u : Ruling) (n : ℕ) → writtenBy l u ≡ Done n → (u ≡ Clean) × (length (written l) ≡ n)
-done-by l Clean n e = (refl, cc)
-done-by l (Broken m p) n e = let z : _≡_ {A = ℕ} 0 1 = cc in absurd (omega arith)
-
-module _ (l : Lists) (room : List ℕ) (n : ℕ) (done : writeAnswer l room ≡ Done n) where
-  ended : (ruling (writeRules l room) ≡ Clean) × (length (written l) ≡ n)
-  unfolding writeAnswer
-  ended = done-by l (ruling (writeRules l room)) n done
-
-  left : returned l room n ≡ written l
-  left = ap (λ (k : ℕ). take k (onFront (written l) room)) (sym (ended .1)) ∙ take-append-seam (written l) (drop (length (written l)) room)
-
-  back : (verdictOf (written l) ≡ Accepted (rowCounts l)) × (rowLists (written l) ≡ l)
-  back = write-then-read l (clean-lists l room (ended .0))
-
-  -- they are accepted, with the counts of the rows
-  pub written-accepted : verdictOf (returned l room n) ≡ Accepted (rowCounts l)
-  written-accepted = ap verdictOf left ∙ back .0
-
-  -- and read, they put the rows to the front of the rooms
-  pub written-reads-back : (rooms : Lists) (c : Counts) → Holds (returned l room n) rooms l c
-  written-reads-back rooms c = held (returned l room n) rooms l c (ap rowLists left ∙ back .1)
-
 -- ---- "an accepted return, read and written again, is the same bytes"
-module _ (s : List ℕ) (bytes : (i : ℕ) → i < length s → byteAt s i < 256) (c : Counts) (accepted : verdictOf s ≡ Accepted c) where
-  forth : (ruling (listRules (rowLists s)) ≡ Clean) × (written (rowLists s) ≡ s)
-  forth = read-then-write s c bytes accepted
+-- Whatever read answers other than a refusal: the rows that it left at the front of its room, cut by the counts that it answered and written to any room
+-- that is long enough, are as many bytes as the return has, and the same.
+pub record WritesBack (s lengths rows room : List ℕ) : Type 0 where
+  pub done : writeAnswer 1 lengths rows room ≡ Done (length s)
+  pub front : bytesAfter 1 lengths rows room (Done (length s)) ≡ onFront s room
 
-  module _ (room : List ℕ) (long : length s ≤ length room) where
-    fits : ltb (length room) (length (written (rowLists s))) ≡ false
-    fits = le-ltb (length room) (length (written (rowLists s))) (rw (ap length (forth .1)) long)
-
-    clean-room : ruling (writeRules (rowLists s) room) ≡ Clean
-    unfolding ruling
-    clean-room =
-        kept-before (listRules (rowLists s)) (roomRule (rowLists s) room ∷ []) (forth .0)
-        ∙ one-kept 9 _ [] fits
-
-    -- what read puts to the front of four rooms, written to a room that is long enough: as many bytes
-    pub read-writes-back : writeAnswer (rowLists s) room ≡ Done (length s)
-    unfolding writeAnswer
-    read-writes-back = ap (writtenBy (rowLists s)) clean-room ∙ ap (λ (x : List ℕ). Done (length x)) (forth .1)
-
-    -- and the same
-    pub same-bytes : bytesAfter (rowLists s) room (Done (length s)) ≡ onFront s room
-    same-bytes = ap (λ (x : List ℕ). onFront x room) (forth .1)
+pub read-writes-back : (s : List ℕ) → ((i : ℕ) → i < length s → byteAt s i < 256) → (room : List ℕ) (c : Counts) → readAnswer s room ≡ Accepted c
+    → (bytes : List ℕ) → length s ≤ length bytes → WritesBack s (lengthsOf c) (leftBehind s room c) bytes
+read-writes-back s small room c read bytes long = record {
+  done = write-done s room c read small bytes long;
+  front = write-same s room c read small bytes long;
+}

@@ -115,20 +115,15 @@ module _ {M : Type 1} (𝓤 : URA M) where
         both _ _ _ _ _ (beside _ _ _ (id⊢ 𝓤 _)) (beside _ _ _ (id⊢ 𝓤 _))
         (λ x y. let t = x .0 ∙ sym (y .0) in (t, after (textAfter (printed (now (a .0))) (now (a .1 .0))) t (x .1) (y .1)))
 
-    pub write-one : AdmitsOne write.ended (write.clauses 𝓤 H A mem run) (λ κs r e q f. (r ≡ q) × (now (e .1 .1 .1 .1 .0) ≡ now (f .1 .1 .1 .1 .0)))
+    pub write-one : AdmitsOne write.ended (write.clauses 𝓤 H A mem run) (λ κs r e q f. (r ≡ q) × (now (e .1 .1 .0) ≡ now (f .1 .1 .0)))
     write-one κs a g h r q e f =
         both _ _ _ _ _ (beside _ _ _ (id⊢ 𝓤 _)) (beside _ _ _ (id⊢ 𝓤 _))
-        (λ x y. let t = x .0 ∙ sym (y .0) in (t, after (bytesAfter _ _) t (x .1) (y .1)))
+        (λ x y. let t = x .0 ∙ sym (y .0) in (t, after (bytesAfter 1 _ _ _) t (x .1) (y .1)))
 
-    -- the four rooms
-    pub read-one : AdmitsOne read.ended (read.clauses 𝓤 H A mem run)
-        (λ κs r e q f. (r ≡ q) × (now (e .1 .0) ≡ now (f .1 .0)) × (now (e .1 .1 .0) ≡ now (f .1 .1 .0)) × (now (e .1 .1 .1 .0) ≡ now (f .1 .1 .1 .0)) × (now (e .1 .1 .1 .1 .0) ≡ now (f .1 .1 .1 .1 .0)))
+    pub read-one : AdmitsOne read.ended (read.clauses 𝓤 H A mem run) (λ κs r e q f. (r ≡ q) × (now (e .1 .0) ≡ now (f .1 .0)))
     read-one κs a g h r q e f =
-        both _ _ _ _ _ (beside _ _ _ (beside _ _ _ (beside _ _ _ (beside _ _ _ (id⊢ 𝓤 _))))) (beside _ _ _ (beside _ _ _ (beside _ _ _ (beside _ _ _ (id⊢ 𝓤 _)))))
-        (λ x y.
-        let t = x .0 ∙ sym (y .0) in
-        let s = now (a .0) in
-        (t, after (roomAfter 1 s _) t (x .1 .0) (y .1 .0), after (roomAfter 2 s _) t (x .1 .1 .0) (y .1 .1 .0), after (roomAfter 3 s _) t (x .1 .1 .1 .0) (y .1 .1 .1 .0), after (roomAfter 4 s _) t (x .1 .1 .1 .1) (y .1 .1 .1 .1)))
+        both _ _ _ _ _ (beside _ _ _ (id⊢ 𝓤 _)) (beside _ _ _ (id⊢ 𝓤 _))
+        (λ x y. let t = x .0 ∙ sym (y .0) in (t, after (roomAfter (now (a .0)) _) t (x .1) (y .1)))
 
     -- ---- from C
     pub c-judge-one : AdmitsOne c-judge.ended (c-judge.clauses 𝓤 H A mem run) (λ κs r e q f. (r ≡ q) × (now (e .1 .0) ≡ now (f .1 .0)))
@@ -145,23 +140,14 @@ module _ {M : Type 1} (𝓤 : URA M) where
 
     -- the byte room and the size
     pub c-write-one : AdmitsOne c-write.ended (c-write.clauses 𝓤 H A mem run)
-        (λ κs r e q f. (r ≡ q) × (now (e .1 .1 .1 .1 .0) ≡ now (f .1 .1 .1 .1 .0)) × (now (e .1 .1 .1 .1 .1 .0) ≡ now (f .1 .1 .1 .1 .1 .0)))
+        (λ κs r e q f. (r ≡ q) × (now (e .1 .1 .0) ≡ now (f .1 .1 .0)) × (now (e .1 .1 .1 .0) ≡ now (f .1 .1 .1 .0)))
     c-write-one κs a g h r q e f =
         both _ _ _ _ _ (beside _ _ _ (beside _ _ _ (id⊢ 𝓤 _))) (beside _ _ _ (beside _ _ _ (id⊢ 𝓤 _)))
         (λ x y. (x .0 ∙ sym (y .0), x .1 .0 ∙ sym (y .1 .0), x .1 .1 ∙ sym (y .1 .1)))
 
-    -- the four rooms and the counts
+    -- the rows and the counts
     pub c-read-one : AdmitsOne c-read.ended (c-read.clauses 𝓤 H A mem run)
-        (λ κs r e q f.
-        (r ≡ q) × (now (e .1 .0) ≡ now (f .1 .0)) × (now (e .1 .1 .0) ≡ now (f .1 .1 .0)) × (now (e .1 .1 .1 .0) ≡ now (f .1 .1 .1 .0))
-        × (now (e .1 .1 .1 .1 .0) ≡ now (f .1 .1 .1 .1 .0)) × (now (e .1 .1 .1 .1 .1 .0) ≡ now (f .1 .1 .1 .1 .1 .0)))
+        (λ κs r e q f. (r ≡ q) × (now (e .1 .0) ≡ now (f .1 .0)) × (now (e .1 .1 .0) ≡ now (f .1 .1 .0)))
     c-read-one κs a g h r q e f =
-        both _ _ _ _ _ (beside _ _ _ (beside _ _ _ (beside _ _ _ (beside _ _ _ (beside _ _ _ (id⊢ 𝓤 _)))))) (beside _ _ _ (beside _ _ _ (beside _ _ _ (beside _ _ _ (beside _ _ _ (id⊢ 𝓤 _))))))
-        (λ x y. (
-          x .0 ∙ sym (y .0),
-          x .1 .0 ∙ sym (y .1 .0),
-          x .1 .1 .0 ∙ sym (y .1 .1 .0),
-          x .1 .1 .1 .0 ∙ sym (y .1 .1 .1 .0),
-          x .1 .1 .1 .1 .0 ∙ sym (y .1 .1 .1 .1 .0),
-          x .1 .1 .1 .1 .1 ∙ sym (y .1 .1 .1 .1 .1),
-        ))
+        both _ _ _ _ _ (beside _ _ _ (beside _ _ _ (id⊢ 𝓤 _))) (beside _ _ _ (beside _ _ _ (id⊢ 𝓤 _)))
+        (λ x y. (x .0 ∙ sym (y .0), x .1 .0 ∙ sym (y .1 .0), x .1 .1 ∙ sym (y .1 .1)))

@@ -14,10 +14,10 @@ use Rattle.form.specs.Verdict.{rows, countsOf, verdictOf}
 use Rattle.form.specs.declared.Counts.{Counts}
 use Rattle.form.specs.declared.Verdict.the-variants.{Accepted, Refused}
 use Rattle.form.proofs.Accepted.{accepted-counts}
-use Rattle.filing.specs.Lists.{Lists, filedList, behind, filedLists}
+use Rattle.filing.specs.Lists.{filedList, behind, filedFrom}
 use Rattle.filing.specs.Written.{recordFrom, inTurn, headOf, sealed, recordOn, usedFrom, bodyOf, blockOf, bytesOf}
-use Rattle.lists.specs.Examples.{dayRows}
-use Rattle.rows.specs.Reading.{roomAfter}
+use Rattle.lists.specs.Examples.{dayLengths, dayArea}
+use Rattle.rows.specs.Reading.{readAnswer, roomAfter}
 use Rattle.rows.specs.Writing.{writeAnswer, bytesAfter}
 use Rattle.rows.specs.declared.Written.the-variants.{Done}
 use Rattle.totals.specs.Columns.{sumOf, onsitePart}
@@ -26,7 +26,7 @@ use Rattle.worksheets.specs.Answers.{Outcome, worked, refusal, outcomeBy, outco
 use Rattle.doubles.specs.Double.{double, distance, Near}
 use Rattle.doubles.specs.Subtotals.{times, partOf}
 use Rattle.doubles.proofs.Wholes.{one-value, double-holds}
-use Rattle.promises.specs.Day.{day, day-written, day-bytes, day-stock}
+use Rattle.promises.specs.Day.{day, day-written, day-bytes, day-read, day-rows}
 use Rattle.promises.specs.Cases.{Complete, Case, refused, largest, table, all-answered}
 
 -- case number i of the table, and that its sheets are answered so
@@ -69,24 +69,24 @@ no-fixed-co2 x h = let e : _≡_ {A = ℕ} 326700 0 = both-fixed (λ v. v .conve
 pub no-fixed-n2o : (x : ℕ) → ((s : List ℕ) (v : Sheets) → outcomeOf s ≡ worked v → v .gases .n2o ≡ x) → ⊥
 no-fixed-n2o x h = let e : _≡_ {A = ℕ} 4 0 = both-fixed (λ v. v .gases .n2o) x h _ _ refl refl in omega arith
 
--- "one that writes nothing": the day written to a room of nines, and its stock row read to one
-pub write-writes : ((l : Lists) (room : List ℕ) (n : ℕ) → writeAnswer l room ≡ Done n → bytesAfter l room (Done n) ≡ room) → ⊥
+-- "one that writes nothing": the day written to a room of nines, and its rows read to one
+pub write-writes : ((lengths rows room : List ℕ) (n : ℕ) → writeAnswer 1 lengths rows room ≡ Done n → bytesAfter 1 lengths rows room (Done n) ≡ room) → ⊥
 write-writes h =
-    let e : _≡_ {A = ℕ} 1 9 = ap (λ (s : List ℕ). getD s 0 0) (sym day-bytes ∙ h dayRows (replicate 2049 9) 2048 day-written) in
+    let e : _≡_ {A = ℕ} 1 9 = ap (λ (s : List ℕ). getD s 0 0) (sym day-bytes ∙ h dayLengths dayArea (replicate 2049 9) 2048 day-written) in
     omega arith
 
-pub read-reads : ((s room : List ℕ) (c : Counts) → roomAfter 2 s room (Accepted c) ≡ room) → ⊥
+pub read-reads : ((s room : List ℕ) (c : Counts) → readAnswer s room ≡ Accepted c → roomAfter s room (Accepted c) ≡ room) → ⊥
 read-reads h =
-    let e : _≡_ {A = ℕ} 1 9 = ap (λ (s : List ℕ). getD s 0 0) (sym day-stock ∙ h day (replicate 6 9) (record { conversion = 1; stock = 1; harvest = 1; parameters = 1 })) in
+    let e : _≡_ {A = ℕ} 7 9 = ap (λ (s : List ℕ). getD s 0 0) (sym day-rows ∙ h day (replicate 32 9) _ day-read) in
     omega arith
 
 -- "one that totals only the first row or block": 32 rows of 10^19 each, in three blocks
 first-row : onsitePart (getD (rows 1 (nth 5 .bytes)) 0 []) ≡ 10 ^ 19
-unfolding largest filedList behind filedLists littleEndian recordFrom inTurn headOf sealed weighed recordOn usedFrom bodyOf blockOf bytesOf rowsBelow rowFrom number onsitePart
+unfolding largest filedList behind filedFrom littleEndian recordFrom inTurn headOf sealed weighed recordOn usedFrom bodyOf blockOf bytesOf rowsBelow rowFrom number onsitePart
 first-row = refl
 
 first-block : sumOf onsitePart (take 12 (rows 1 (nth 5 .bytes))) ≡ 12 * 10 ^ 19
-unfolding largest filedList behind filedLists littleEndian recordFrom inTurn headOf sealed weighed recordOn usedFrom bodyOf blockOf bytesOf rowsBelow rowFrom number sumOf onsitePart
+unfolding largest filedList behind filedFrom littleEndian recordFrom inTurn headOf sealed weighed recordOn usedFrom bodyOf blockOf bytesOf rowsBelow rowFrom number sumOf onsitePart
 first-block = refl
 
 pub not-the-first-row : ((s : List ℕ) (v : Sheets) → outcomeOf s ≡ worked v → v .conversion .onsite ≡ onsitePart (getD (rows 1 s) 0 [])) → ⊥

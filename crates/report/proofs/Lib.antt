@@ -1,1 +1,3 @@
 pub mod Room
+mod Filled
+pub mod Short

@@ -8,15 +8,15 @@ use mathlib.Core.Bool.{Bool, true, false, cond}
 use lib.Dec.{ltb}
 use native.Mathlib.Numerals.{add-one}
 use native.Mathlib.Omega.{arith}
-use lib.ListN.{length, getD, take, drop, set}
+use lib.ListN.{length, getD, take, drop, set, length-append}
 use lib.Seq.{sets, take-suc, take-length, take-at, length-take-le, sets-eq}
 use lib.IntN.{ℤ}
-use Rattle.wide.specs.Digits.{decimal, marked, Written}
+use Rattle.decimal.specs.Digits.{decimal, marked, Written}
 use Rattle.report.specs.Lines.{line, refusedLine, textOf, putOf, roomAfter}
 use Rattle.worksheets.specs.Answers.{Outcome}
 use Rattle.report.specs.declared.Put.the-variants.{Done, Short}
 use Rattle.form.proofs.Tests.{taken, left}
-use Rattle.wide.proofs.DigitLaws.{sets-append}
+use Rattle.decimal.proofs.DigitLaws.{sets-append}
 
 -- one byte more of a text
 pub put-more : (d text : List ℕ) (at i : ℕ) → i < length text → set (sets d at (take i text)) (at + i) (getD text i 0) ≡ sets d at (take (i + 1) text)
@@ -29,27 +29,29 @@ put-more d text at i l =
 pub whole-length : (l : List ℕ) → length (take (length l) l) ≡ length l
 whole-length l = ap length (take-length l)
 
--- a name, a space, a value and a line feed, one after the other, are a line
-pub as-line : (name : List ℕ) (z : ℤ) {d e : List ℕ} {i j : ℕ} → Written (take (length name) name ++ (32 ∷ []) ++ marked z ++ (10 ∷ [])) d e i j → Written (line name z) d e i j
-as-line name z {d} {e} {i} {j} w =
-    subst (λ (x : List ℕ). Written x d e i j)
-    (ap (λ (x : List ℕ). x ++ (32 ∷ []) ++ marked z ++ (10 ∷ [])) (take-length name) ∙ ap (λ (x : List ℕ). x ++ (10 ∷ [])) (append-assoc name (32 ∷ []) (marked z)))
-    w
-
--- the same behind "refused", the number and a space
+-- "refused ", the number, a space, the place and a line feed, one after the other, are a refusal's line
 pub as-refused : (n p : ℕ) {d e : List ℕ} {i j : ℕ}
     → Written ((114 ∷ 101 ∷ 102 ∷ 117 ∷ 115 ∷ 101 ∷ 100 ∷ 32 ∷ []) ++ decimal n ++ (32 ∷ []) ++ decimal p ++ (10 ∷ [])) d e i j → Written (refusedLine n p) d e i j
 unfolding refusedLine
 as-refused n p {d} {e} {i} {j} w =
     subst (λ (x : List ℕ). Written x d e i j)
-    (ap (λ (x : List ℕ). x ++ (10 ∷ [])) (append-assoc ((114 ∷ 101 ∷ 102 ∷ 117 ∷ 115 ∷ 101 ∷ 100 ∷ 32 ∷ []) ++ decimal n) (32 ∷ []) (decimal p)))
+    (simp append-assoc)
     w
+
+pub refused-length : (n p : ℕ) → length (refusedLine n p) ≡ 10 + length (decimal n) + length (decimal p)
+unfolding refusedLine
+refused-length n p = simp length-append (omega arith)
 
 -- a text at the front of room
 front : (d t : List ℕ) → length t ≤ length d → sets d 0 t ≡ t ++ drop (length t) d
 front d t l = sets-eq t d 0 (omega arith) ∙ ap (λ (k : ℕ). t ++ drop k d) (zero-add (length t))
 
--- the two ways out of `lines`: the text stands in room of our own, and the lent room is long enough or not
+-- the ways out of `lines`: the text went straight to the lent room, or it stands in room of our own and the lent room is too short or not
+pub straight-out : (text room room′ : List ℕ) (n : ℕ) → Written text room room′ 0 n → length text ≤ length room → (Done n ≡ putOf text room) × (room′ ≡ roomAfter text room (Done n))
+straight-out text room room′ n w l =
+    let size : n ≡ length text = w .place ∙ zero-add (length text) in
+    (left _ (le-ltb (length room) (length text) l) (ap Done size), w .room ∙ front room text l ∙ ap (λ (k : ℕ). text ++ drop k room) (sym size))
+
 module _ (text own own′ room : List ℕ) (n : ℕ) (w : Written text own own′ 0 n) where
   size : n ≡ length text
   size = w .place ∙ zero-add (length text)
@@ -61,13 +63,8 @@ module _ (text own own′ room : List ℕ) (n : ℕ) (w : Written text own own�
       → (Done n ≡ putOf text room) × (room′ ≡ roomAfter text room (Done n))
   done-out room′ m h l p =
       let e : take n own′ ≡ text =
-      ap (take n) (w .room ∙ front own text (omega (arith, size))) ∙ take-at text (drop (length text) own) n (sym size) in (
-        left _ (le-ltb (length room) (length text) (omega (arith, size))) (ap Done size),
-        p .room
-            ∙ ap (λ (x : List ℕ). sets room 0 x) e
-            ∙ front room text (omega (arith, size))
-            ∙ ap (λ (k : ℕ). text ++ drop k room) (sym size),
-      )
+      ap (take n) (w .room ∙ front own text (omega (arith, size))) ∙ take-at text (drop (length text) own) n (sym size) in
+      straight-out text room room′ n (record { room = p .room ∙ ap (λ (x : List ℕ). sets room 0 x) e; place = w .place }) (omega (arith, size))
 
 -- the text of an outcome that another one equals
 pub as-text : {o p : Outcome} {d e : List ℕ} {i j : ℕ} → o ≡ p → Written (textOf o) d e i j → Written (textOf p) d e i j

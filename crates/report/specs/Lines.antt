@@ -1,49 +1,40 @@
 -- "a line for each figure: name, one space, value in decimal, with `-` only below zero. Every line ends with a line feed."
-use Prim.Native.Nat.{ℕ, _+_}
-use mathlib.Core.Path.{_≡_}
+use Prim.Native.Nat.{ℕ, _*_}
 use mathlib.Core.Bool.{cond}
-use mathlib.Core.List.{List, [], _∷_, _++_}
+use mathlib.Core.List.{List, [], _∷_, _++_, flatMap}
 use lib.ListN.{length, drop}
 use lib.Dec.{ltb}
 use lib.IntN.{ℤ, pos}
-use Rattle.wide.specs.Digits.{decimal, marked}
-use Rattle.worksheets.specs.Sheets.{Sheet51, Sheet52, Sheet53, Sheets}
+use Rattle.decimal.specs.Digits.{decimal, marked}
+use Rattle.listed.specs.Listed.{Figure, listed, figureCount}
+use Rattle.worksheets.specs.Sheets.{Sheets}
 use Rattle.worksheets.specs.Answers.{Outcome, worked, refusal, outcomeOf}
 use Rattle.report.specs.declared.Put.{Put}
 use Rattle.report.specs.declared.Put.the-variants.{Done, Short}
 
--- a line, from its name in ASCII and its value
+-- a value with the line feed behind it, and a line, from its name in ASCII and its value
+abbrev pub ended : ℤ → List ℕ
+ended z = marked z ++ 10 ∷ []
+
 abbrev pub line : List ℕ → ℤ → List ℕ
-line name z = name ++ 32 ∷ marked z ++ 10 ∷ []
+line name z = name ++ 32 ∷ ended z
 
--- "E" "K" "L" "M" "O" "P" "Q" "report"
-unfoldable pub lines51 : Sheet51 → List ℕ
-lines51 f =
-    line (69 ∷ []) (pos (f .e))
-    ++ line (75 ∷ []) (pos (f .k))
-    ++ line (76 ∷ []) (pos (f .l))
-    ++ line (77 ∷ []) (f .m)
-    ++ line (79 ∷ []) (f .o)
-    ++ line (80 ∷ []) (f .p)
-    ++ line (81 ∷ []) (f .q)
-    ++ line (114 ∷ 101 ∷ 112 ∷ 111 ∷ 114 ∷ 116 ∷ []) (f .report)
+abbrev pub lineOf : Figure → List ℕ
+lineOf f = line (f .name) (f .value)
 
--- "onsite" "offsite" "R" "decay" "co2"
-unfoldable pub lines52 : Sheet52 → List ℕ
-lines52 f =
-    line (111 ∷ 110 ∷ 115 ∷ 105 ∷ 116 ∷ 101 ∷ []) (pos (f .onsite))
-    ++ line (111 ∷ 102 ∷ 102 ∷ 115 ∷ 105 ∷ 116 ∷ 101 ∷ []) (pos (f .offsite))
-    ++ line (82 ∷ []) (pos (f .r))
-    ++ line (100 ∷ 101 ∷ 99 ∷ 97 ∷ 121 ∷ []) (pos (f .decay))
-    ++ line (99 ∷ 111 ∷ 50 ∷ []) (pos (f .co2))
+-- the lines of all figures, and the part of them that is the same for every return: the names, each with its space
+abbrev pub linesOf : Sheets → List ℕ
+linesOf v = flatMap lineOf (listed v)
 
--- "ch4" "co" "n2o" "nox"
-unfoldable pub lines53 : Sheet53 → List ℕ
-lines53 f =
-    line (99 ∷ 104 ∷ 52 ∷ []) (pos (f .ch4))
-    ++ line (99 ∷ 111 ∷ []) (pos (f .co))
-    ++ line (110 ∷ 50 ∷ 111 ∷ []) (pos (f .n2o))
-    ++ line (110 ∷ 111 ∷ 120 ∷ []) (pos (f .nox))
+abbrev pub spaced : Figure → List ℕ
+spaced f = f .name ++ 32 ∷ []
+
+abbrev pub namesOf : Sheets → List ℕ
+namesOf v = flatMap spaced (listed v)
+
+-- room that is always enough: fifty bytes a line (`printed-short`)
+abbrev pub linesRoom : ℕ
+linesRoom = 50 * figureCount
 
 -- "A refusal prints one line: `refused`, number, place, with single spaces."
 unfoldable pub refusedLine : ℕ → ℕ → List ℕ
@@ -51,7 +42,7 @@ refusedLine n p = line (114 ∷ 101 ∷ 102 ∷ 117 ∷ 115 ∷ 101 ∷ 100 ∷ 
 
 -- what `sheets` prints
 abbrev pub textOf : Outcome → List ℕ
-textOf (worked v) = lines51 (v .stocks) ++ lines52 (v .conversion) ++ lines53 (v .gases)
+textOf (worked v) = linesOf v
 textOf (refusal n p) = refusedLine n p
 
 abbrev pub printed : List ℕ → List ℕ

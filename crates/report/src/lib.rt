@@ -4,6 +4,10 @@ mod text;
 ghost use mathlib.Core.Path.{_≡_};
 ghost use lib.ListN.{length};
 ghost use Rattle.report.specs.Lines.{printed, putOf, roomAfter};
+use listed::FIGURES;
+
+// Room that is always enough for the lines.
+pub const LINES_ROOM: usize = 50 * FIGURES;
 
 // How a text was put into lent room.
 pub enum Put {
@@ -16,7 +20,12 @@ pub fn lines(bytes: &[u8], room: &mut [u8]) -> Put
     ensures { λ r. ⌜ r ≡ putOf (printed (now (bytes .entry))) (now (room .entry)) ⌝ }
     ensures { λ r. ⌜ now (room .exit) ≡ roomAfter (printed (now (bytes .entry))) (now (room .entry)) r ⌝ }
 {
-    let mut space = [0u8; 1024];
+    // room for any text is written to as it is, and only shorter room needs the text elsewhere first
+    if LINES_ROOM <= room.len() {
+        let n = text::write_lines(bytes, room);
+        return Put::Done(n);
+    }
+    let mut space = [0u8; LINES_ROOM];
     let n = text::write_lines(bytes, &mut space);
     if room.len() < n {
         return Put::Short;

@@ -1,134 +1,174 @@
 -- The return of some rows: its blocks kind by kind, and its length. Assumes nothing.
-use Prim.Native.Nat.{ℕ, _+_, _*_, _/_, _≤_, _<_}
-use mathlib.Core.Path.{_≡_, refl, sym, ap, _∙_}
-use mathlib.Core.List.{List, [], _∷_, _++_}
+--     length-written    as long as the lists' blocks
+--     Storing           the blocks stored kind after kind
+--     no-room, .. lists-kept    the answers, from rule to rule
+use Prim.Native.Nat.{ℕ, zero, suc, _+_, _-_, _*_, _/_, _≤_, _<_}
+use mathlib.Core.Path.{_≡_, refl, sym, ap, ap₂, _∙_}
+use mathlib.Core.List.{List, [], _∷_, _++_, map}
+use native.Mathlib.Numerals.{add-one}
 use native.Mathlib.Omega.{arith}
-use lib.ListN.{length}
-use lib.Seq.{sets}
+use lib.ListN.{length, getD, take, drop, drop-of-length-le}
+use lib.Seq.{sets, length-sets, drop-cons}
 use borrow.Author.Tests.{lt-ltb, le-ltb}
 use Rattle.form.specs.First.{first}
+use Rattle.form.specs.Layout.{kinds}
 use Rattle.form.specs.Ruling.{rule, ruling}
 use Rattle.form.specs.Records.{recordRules}
 use Rattle.form.specs.declared.Spot.the-variants.{At, Nowhere}
 use Rattle.form.specs.declared.Ruling.the-variants.{Clean, Broken}
 use Rattle.form.proofs.Order.{ruled, kept, ruled-before, kept-before, one-broken, one-kept}
-use Rattle.filing.specs.Lists.{Lists, ofKind, blocksOf, filedList, behind, filedLists}
-use Rattle.filing.specs.Written.{inTurn, blockOf, bytesOf}
-use Rattle.filing.proofs.Stores.{sets-then, sets-front, length-turns}
+use Rattle.filing.specs.Lists.{Lists, cut, total, blocksOf, filedList, behind, filedFrom, filedLists}
+use Rattle.filing.specs.Written.{inTurn, blockOf, bytesOf, kindBlocks}
+use Rattle.filing.proofs.Stores.{sets-append, sets-front, length-turns}
 use Rattle.filing.proofs.Parts.{length-block}
 use Rattle.filing.proofs.Alike.{blocks-behind}
-use Rattle.lists.specs.declared.Starts.{Starts}
-use Rattle.lists.specs.Rules.{badList, listRules, Few, startsOf}
-use Rattle.rows.specs.Writing.{written, roomRule, writtenBy, writeAnswer, bytesAfter}
+use Rattle.filing.proofs.Cut.{cut-length, cut-long, cut-lengths, part-at, total-none, total-next, total-part}
+use Rattle.lists.specs.Rules.{badAt, listRules, Good, blocksFrom}
+use Rattle.rows.specs.Writing.{written, roomRule, writtenBy, writeAnswer, bytesAfter, answerFrom5, answerFrom9}
 use Rattle.rows.specs.declared.Written.{Written}
 use Rattle.rows.specs.declared.Written.the-variants.{Done, Refused}
 
--- how many blocks some rows take
-abbrev pub blocksAll : Lists → ℕ
-blocksAll l = blocksOf 1 (l .conversion) + (blocksOf 2 (l .stock) + (blocksOf 3 (l .harvest) + blocksOf 4 (l .parameters)))
+pub places-from : (k : ℕ) (l : Lists) → filedFrom k l .places ≡ 12 * blocksFrom k (map length l)
+unfolding filedFrom behind filedList blocksFrom
+places-from k [] = refl
+places-from k (r ∷ l) = omega (arith, places-from (suc k) l)
 
-pub places-blocks : (l : Lists) → filedLists l .places ≡ 12 * blocksAll l
-unfolding filedLists behind filedList
-places-blocks l = omega arith
+module _ (e : ℕ) (l : Lists) where
+  blocks-all : filedLists l .places / 12 ≡ blocksFrom 1 (map length l)
+  blocks-all = omega (arith, places-from 1 l)
 
--- the blocks of one list
-abbrev pub kindBlocks : ℕ → ℕ → List ℕ → ℕ → List ℕ
-kindBlocks n kind r start = inTurn (blockOf (filedList kind r) start n) 0 (blocksOf kind r)
+  pub written-turn : written e l ≡ inTurn (blockOf e (filedLists l) 0 (blocksFrom 1 (map length l))) 0 (blocksFrom 1 (map length l))
+  unfolding bytesOf
+  written-turn = rw blocks-all
 
-pub length-written : (l : Lists) → length (written l) ≡ 512 * blocksAll l
-unfolding bytesOf
-length-written l =
-    let n : filedLists l .places / 12 ≡ blocksAll l = omega (arith, places-blocks l) in
-    length-turns (blockOf (filedLists l) 0 (filedLists l .places / 12)) 512 (length-block (filedLists l) 0 (filedLists l .places / 12)) 0 (filedLists l .places / 12)
-    ∙ ap (λ (x : ℕ). 512 * x) n
+  pub length-written : length (written e l) ≡ 512 * blocksFrom 1 (map length l)
+  length-written =
+      let n = blocksFrom 1 (map length l) in
+      ap length written-turn ∙ length-turns (blockOf e (filedLists l) 0 n) 512 (length-block (filedLists l) e 0 n) 0 n
 
-pub written-parts : (l : Lists) (n s h p : ℕ) → n ≡ blocksAll l
-    → s ≡ blocksOf 1 (l .conversion) → h ≡ s + blocksOf 2 (l .stock) → p ≡ h + blocksOf 3 (l .harvest)
-    → written l ≡ kindBlocks n 1 (l .conversion) 0 ++ (kindBlocks n 2 (l .stock) s ++ (kindBlocks n 3 (l .harvest) h ++ kindBlocks n 4 (l .parameters) p))
-unfolding bytesOf filedLists filedList
-written-parts l n s h p en es eh ep =
-    let f₁ = filedList 1 (l .conversion) in
-    let f₂ = filedList 2 (l .stock) in
-    let f₃ = filedList 3 (l .harvest) in
-    let f₄ = filedList 4 (l .parameters) in
-    let n₁ = blocksOf 1 (l .conversion) in
-    let n₂ = blocksOf 2 (l .stock) in
-    let n₃ = blocksOf 3 (l .harvest) in
-    let n₄ = blocksOf 4 (l .parameters) in
-    let m : filedLists l .places / 12 ≡ n = omega (arith, places-blocks l) in
-    let s₁ : 0 + n₁ ≡ s = omega arith in
-    rw m
-    (ap (λ (x : ℕ). inTurn (blockOf (filedLists l) 0 n) 0 x) en
-    ∙ blocks-behind f₁ (behind f₂ (behind f₃ f₄)) n₁ (n₂ + (n₃ + n₄)) 0 n refl
-    ∙ rw (s₁, blocks-behind f₂ (behind f₃ f₄) n₂ (n₃ + n₄) s n refl, ← eh, blocks-behind f₃ f₄ n₃ n₄ h n refl, ← ep))
+-- ---- the blocks stored kind after kind
 
--- ---- as the code counts them
+-- the blocks from a kind on, of n in all, the first being number `start`
+unfoldable pub rest : ℕ → ℕ → List ℕ → Lists → ℕ → ℕ → List ℕ
+rest e n lengths l start k = inTurn (blockOf e (filedFrom (suc k) (drop k l)) start n) 0 (blocksFrom (suc k) (drop k lengths))
 
--- the starts in blocks, and how many blocks there are
-pub record InBlocks (l : Lists) (at : Starts) : Type 0 where
-  pub all : at .all / 12 ≡ blocksAll l
-  pub few : at .all / 12 ≤ 10
-  pub stock : at .stock / 12 ≡ blocksOf 1 (l .conversion)
-  pub harvest : at .harvest / 12 ≡ at .stock / 12 + blocksOf 2 (l .stock)
-  pub parameters : at .parameters / 12 ≡ at .harvest / 12 + blocksOf 3 (l .harvest)
+-- the blocks of the first k kinds stand; the next kind's rows begin at `from` in the area, and its blocks at number `start`
+pub record Storing (e n : ℕ) (lengths area d₀ d : List ℕ) (from start k : ℕ) : Type 0 where
+  pub within : k ≤ kinds
+  pub at : from ≡ total (take k lengths)
+  pub same : length d ≡ length d₀
+  pub left : start + blocksFrom (suc k) (drop k lengths) ≡ n
+  pub whole : sets d (512 * start) (rest e n lengths (cut lengths area) start k) ≡ sets d₀ 0 (written e (cut lengths area))
 
-pub in-blocks : (l : Lists) (at : Starts) → Few l → at ≡ startsOf l → InBlocks l at
-in-blocks l at f e =
-    let s = ap (λ (x : Starts). x .stock) e in
-    let h = ap (λ (x : Starts). x .harvest) e in
-    let p = ap (λ (x : Starts). x .parameters) e in
-    let a = ap (λ (x : Starts). x .all) e in
-    record { all = omega arith; few = omega (arith, f .conversion, f .stock, f .harvest, f .parameters); stock = omega arith; harvest = omega arith; parameters = omega arith }
+lists-long : (lengths area : List ℕ) → Good lengths (length area) → map length (cut lengths area) ≡ lengths
+lists-long lengths area g = cut-lengths lengths area (omega (arith, g .all))
 
-pub blocks-stored : (l : Lists) (at : Starts) (o : List ℕ) {o₁ o₂ o₃ o₄ : List ℕ} → InBlocks l at
-    → let n = at .all / 12 in
-    o₁ ≡ sets o 0 (kindBlocks n 1 (l .conversion) 0)
-    → o₂ ≡ sets o₁ (512 * (at .stock / 12)) (kindBlocks n 2 (l .stock) (at .stock / 12))
-    → o₃ ≡ sets o₂ (512 * (at .harvest / 12)) (kindBlocks n 3 (l .harvest) (at .harvest / 12))
-    → o₄ ≡ sets o₃ (512 * (at .parameters / 12)) (kindBlocks n 4 (l .parameters) (at .parameters / 12))
-    → o₄ ≡ sets o 0 (written l)
-blocks-stored l at o {o₁} {o₂} {o₃} {o₄} b e₁ e₂ e₃ e₄ =
-    let n = at .all / 12 in
-    let s = at .stock / 12 in
-    let h = at .harvest / 12 in
-    let p = at .parameters / 12 in
-    let long : (kind : ℕ) (r : List ℕ) (start : ℕ) → length (kindBlocks n kind r start) ≡ 512 * blocksOf kind r =
-    λ kind r start. length-turns (blockOf (filedList kind r) start n) 512 (length-block (filedList kind r) start n) 0 (blocksOf kind r) in
-    let x₁ = kindBlocks n 1 (l .conversion) 0 in
-    let x₂ = kindBlocks n 2 (l .stock) s in
-    let x₃ = kindBlocks n 3 (l .harvest) h in
-    let x₄ = kindBlocks n 4 (l .parameters) p in
-    let f₃ : o₄ ≡ sets o₂ (512 * h) (x₃ ++ x₄) = sets-then o₂ (512 * h) x₃ x₄ e₃ e₄ (omega (arith, long 3 (l .harvest) h)) in
-    let f₂ : o₄ ≡ sets o₁ (512 * s) (x₂ ++ (x₃ ++ x₄)) = sets-then o₁ (512 * s) x₂ (x₃ ++ x₄) e₂ f₃ (omega (arith, long 2 (l .stock) s)) in
-    rw (written-parts l n s h p (b .all) (b .stock) (b .harvest) (b .parameters))
-    (sets-then o 0 x₁ (x₂ ++ (x₃ ++ x₄)) e₁ f₂ (omega (arith, long 1 (l .conversion) 0)))
+module _ (e n : ℕ) (lengths area : List ℕ) (g : Good lengths (length area)) (en : n ≡ blocksFrom 1 lengths) where
+  pub written-long : 512 * n ≡ length (written e (cut lengths area))
+  written-long = sym (length-written e (cut lengths area) ∙ rw (lists-long lengths area g, en))
+
+  pub storing-none : {d : List ℕ} → Storing e n lengths area d d 0 0 0
+  unfolding rest
+  storing-none = record {
+    within = omega arith;
+    at = sym (total-none lengths);
+    same = refl;
+    left = omega (arith, en);
+    whole = rw (written-turn e (cut lengths area), lists-long lengths area g, ← en);
+  }
+
+  module _ {d₀ d : List ℕ} {from start k m : ℕ} (s : Storing e n lengths area d₀ d from start k) (h : k < kinds) (em : m ≡ getD lengths k 0) where
+    in-lengths : k < length lengths
+    in-lengths = omega (arith, g .each)
+
+    pub storing-in : from + m ≤ length area
+    storing-in = omega (arith, s .at, g .all, total-next lengths k in-lengths, total-part lengths (k + 1))
+
+    pub storing-part : take (from + m - from) (drop from area) ≡ getD (cut lengths area) k []
+    storing-part = part-at lengths area k in-lengths (s .at) em
+
+    pub part-long : length (take (from + m - from) (drop from area)) ≡ m
+    part-long = ap length storing-part ∙ cut-long lengths area (omega (arith, g .all)) k in-lengths ∙ sym em
+
+    next-blocks : blocksFrom (suc k) (drop k lengths) ≡ blocksOf (suc k) m + blocksFrom (suc (suc k)) (drop (suc k) lengths)
+    unfolding blocksFrom
+    next-blocks = rw (drop-cons lengths k 0 in-lengths, em)
+
+    pub storing-room : start + blocksOf (k + 1) (length (take (from + m - from) (drop from area))) ≤ n
+    storing-room = rw (part-long, add-one k) (omega (arith, s .left, next-blocks))
+
+    -- the blocks of the kind, and then those of the kinds after it
+    next : rest e n lengths (cut lengths area) start k
+        ≡ kindBlocks e n (suc k) (take (from + m - from) (drop from area)) start ++ rest e n lengths (cut lengths area) (start + blocksOf (suc k) m) (suc k)
+    unfolding rest filedFrom filedList
+    next =
+        let l = cut lengths area in
+        let r = take (from + m - from) (drop from area) in
+        let cons : drop k l ≡ r ∷ drop (suc k) l = rw storing-part (drop-cons l k [] (omega (arith, cut-length lengths area, in-lengths))) in
+        let f = filedList (suc k) r in
+        let b = blocksFrom (suc (suc k)) (drop (suc k) lengths) in
+        rw (next-blocks, cons, part-long)
+        (rw part-long at (blocks-behind f (filedFrom (suc (suc k)) (drop (suc k) l)) e (blocksOf (suc k) (length r)) b start n refl))
+
+    pub storing-more : {d₁ : List ℕ} {b : ℕ} → d₁ ≡ sets d (512 * start) (kindBlocks e n (k + 1) (take (from + m - from) (drop from area)) start) → b ≡ blocksOf (k + 1) m
+        → Storing e n lengths area d₀ d₁ (from + m) (start + b) (k + 1)
+    storing-more {d₁} {b} ed eb =
+        let r = take (from + m - from) (drop from area) in
+        let x : List ℕ = kindBlocks e n (suc k) r start in
+        let ed′ : d₁ ≡ sets d (512 * start) x = rw (add-one k) at ed in
+        let eb′ : b ≡ blocksOf (suc k) m = rw (add-one k) at eb in
+        let f = filedList (suc k) r in
+        let long : length x ≡ 512 * b = length-turns (blockOf e f start n) 512 (length-block f e start n) 0 (blocksOf (suc k) (length r)) ∙ rw (part-long, eb′) in
+        let p : 512 * (start + b) ≡ 512 * start + length x = omega arith in
+        let whole : sets d₁ (512 * (start + b)) (rest e n lengths (cut lengths area) (start + b) (suc k)) ≡ sets d₀ 0 (written e (cut lengths area)) =
+        rw (p, ed′, eb′) (rw (next, sets-append) at (s .whole)) in
+        let at : from + m ≡ total (take (suc k) lengths) = omega (arith, s .at, em, rw (add-one k) at (total-next lengths k in-lengths)) in
+        rw (add-one k) (record {
+          within = omega arith;
+          at = at;
+          same = rw (ed, length-sets) (s .same);
+          left = omega (arith, s .left, next-blocks);
+          whole = whole;
+        })
+
+  pub storing-all : {d₀ d : List ℕ} {from start k : ℕ} → Storing e n lengths area d₀ d from start k → kinds ≤ k → d ≡ sets d₀ 0 (written e (cut lengths area))
+  unfolding rest blocksFrom inTurn
+  storing-all {k = k} s h =
+      let none : drop k lengths ≡ [] = drop-of-length-le lengths {i = k} (omega (arith, g .each)) in
+      rw none at (s .whole)
 
 -- ---- the answers, from rule to rule
 
-module _ (l : Lists) (room : List ℕ) {n : ℕ} (e : n ≡ length (written l)) where
-  pub no-room : length room < n → Refused 9 0 ≡ writtenBy l (ruling (roomRule l room ∷ []))
-  no-room h = ap (writtenBy l) (sym (one-broken 9 _ [] (rw (← e) (lt-ltb (length room) n h))))
+module _ (e : ℕ) (lengths area room : List ℕ) {n : ℕ} (en : n ≡ length (written e (cut lengths area))) where
+  pub no-room : length room < n → Refused 9 0 ≡ answerFrom9 e lengths area room
+  no-room h = ap (writtenBy e (cut lengths area)) (sym (one-broken 9 _ [] (rw (← en) (lt-ltb (length room) n h))))
 
-  pub all-done : n ≤ length room → Done n ≡ writtenBy l (ruling (roomRule l room ∷ []))
+  pub all-done : n ≤ length room → Done n ≡ answerFrom9 e lengths area room
   unfolding ruling
-  all-done h = ap Done e ∙ ap (writtenBy l) (sym (one-kept 9 _ [] (rw (← e) (le-ltb (length room) n h))))
+  all-done h = ap Done en ∙ ap (writtenBy e (cut lengths area)) (sym (one-kept 9 _ [] (rw (← en) (le-ltb (length room) n h))))
 
-  pub on-front : {out : List ℕ} → n ≤ length room → out ≡ sets room 0 (written l) → out ≡ bytesAfter l room (Done n)
-  on-front h s = s ∙ sets-front room (written l) (omega arith)
+  pub on-front : {out : List ℕ} → n ≤ length room → out ≡ sets room 0 (written e (cut lengths area)) → out ≡ bytesAfter e lengths area room (Done n)
+  on-front h s = s ∙ sets-front room (written e (cut lengths area)) (omega arith)
 
-module _ (l : Lists) (room : List ℕ) where
-  pub record-broken : {n p : ℕ} → ruling (recordRules (filedLists l)) ≡ Broken n p → Refused n p ≡ writtenBy l (ruling (recordRules (filedLists l) ++ (roomRule l room ∷ [])))
-  record-broken e = ap (writtenBy l) (sym (ruled-before (recordRules (filedLists l)) (roomRule l room ∷ []) e))
+module _ (e : ℕ) (lengths area room : List ℕ) where
+  pub record-broken : {n p : ℕ} → ruling (recordRules e (filedLists (cut lengths area))) ≡ Broken n p → Refused n p ≡ answerFrom5 e lengths area room
+  record-broken b =
+      let l = cut lengths area in
+      ap (writtenBy e l) (sym (ruled-before (recordRules e (filedLists l)) (roomRule e l room ∷ []) b))
 
-  pub records-kept : {r : Written} → ruling (recordRules (filedLists l)) ≡ Clean → r ≡ writtenBy l (ruling (roomRule l room ∷ []))
-      → r ≡ writtenBy l (ruling (recordRules (filedLists l) ++ (roomRule l room ∷ [])))
-  records-kept e q = q ∙ ap (writtenBy l) (sym (kept-before (recordRules (filedLists l)) (roomRule l room ∷ []) e))
+  pub records-kept : {r : Written} → ruling (recordRules e (filedLists (cut lengths area))) ≡ Clean → r ≡ answerFrom9 e lengths area room → r ≡ answerFrom5 e lengths area room
+  records-kept c q =
+      let l = cut lengths area in
+      q ∙ ap (writtenBy e l) (sym (kept-before (recordRules e (filedLists l)) (roomRule e l room ∷ []) c))
 
-  pub list-broken : {kind : ℕ} → first (λ k. badList k (ofKind l k)) 5 ≡ At kind → Refused 10 kind ≡ writeAnswer l room
+  pub list-broken : {kind : ℕ} → first (badAt lengths (length area)) (suc kinds) ≡ At kind → Refused 10 kind ≡ writeAnswer e lengths area room
   unfolding writeAnswer listRules
-  list-broken e = ap (writtenBy l) (ruled (rule 10 5 (λ k. badList k (ofKind l k))) (recordRules (filedLists l) ++ (roomRule l room ∷ [])) e)
+  list-broken b =
+      let l = cut lengths area in
+      ap (writtenBy e l) (ruled (rule 10 (suc kinds) (badAt lengths (length area))) (recordRules e (filedLists l) ++ (roomRule e l room ∷ [])) b)
 
-  pub lists-kept : {r : Written} → first (λ k. badList k (ofKind l k)) 5 ≡ Nowhere
-      → r ≡ writtenBy l (ruling (recordRules (filedLists l) ++ (roomRule l room ∷ []))) → r ≡ writeAnswer l room
+  pub lists-kept : {r : Written} → first (badAt lengths (length area)) (suc kinds) ≡ Nowhere → r ≡ answerFrom5 e lengths area room → r ≡ writeAnswer e lengths area room
   unfolding writeAnswer listRules
-  lists-kept e q = q ∙ ap (writtenBy l) (kept (rule 10 5 (λ k. badList k (ofKind l k))) (recordRules (filedLists l) ++ (roomRule l room ∷ [])) e refl)
+  lists-kept c q =
+      let l = cut lengths area in
+      q ∙ ap (writtenBy e l) (kept (rule 10 (suc kinds) (badAt lengths (length area))) (recordRules e (filedLists l) ++ (roomRule e l room ∷ [])) c refl)

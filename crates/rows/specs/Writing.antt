@@ -4,35 +4,46 @@ use mathlib.Core.List.{List, [], _∷_, _++_}
 use lib.ListN.{length}
 use lib.Dec.{ltb}
 use Rattle.form.specs.Ruling.{Rule, rule, ruling}
+use Rattle.form.specs.Records.{recordRules}
 use Rattle.form.specs.declared.Ruling.{Ruling}
 use Rattle.form.specs.declared.Ruling.the-variants.{Clean, Broken}
-use Rattle.filing.specs.Lists.{Lists, filedLists}
+use Rattle.filing.specs.Lists.{Lists, cut, filedLists}
 use Rattle.filing.specs.Written.{bytesOf}
 use Rattle.lists.specs.Rules.{listRules}
 use Rattle.rows.specs.Reading.{onFront}
 use Rattle.rows.specs.declared.Written.{Written}
 use Rattle.rows.specs.declared.Written.the-variants.{Done, Refused}
 
--- the return of some rows
-abbrev pub written : Lists → List ℕ
-written l = bytesOf (filedLists l)
+-- the return of some rows, in an edition
+abbrev pub written : ℕ → Lists → List ℕ
+written edition l = bytesOf edition (filedLists l)
 
 -- 9: "lent room too short", place 0
-abbrev pub roomRule : Lists → List ℕ → Rule
-roomRule l room = rule 9 1 (λ p. ltb (length room) (length (written l)))
+abbrev pub roomRule : ℕ → Lists → List ℕ → Rule
+roomRule edition l room = rule 9 1 (λ p. ltb (length room) (length (written edition l)))
 
-abbrev pub writeRules : Lists → List ℕ → List Rule
-writeRules l room = listRules l ++ (roomRule l room ∷ [])
+abbrev pub writeRules : ℕ → List ℕ → List ℕ → List ℕ → List Rule
+writeRules edition lengths area room = listRules edition lengths area ++ (roomRule edition (cut lengths area) room ∷ [])
 
 -- "a write the number of bytes written", or "a refusal gives number and place"
-abbrev pub writtenBy : Lists → Ruling → Written
-writtenBy l Clean = Done (length (written l))
-writtenBy l (Broken n p) = Refused n p
+abbrev pub writtenBy : ℕ → Lists → Ruling → Written
+writtenBy edition l Clean = Done (length (written edition l))
+writtenBy edition l (Broken n p) = Refused n p
 
-unfoldable pub writeAnswer : Lists → List ℕ → Written
-writeAnswer l room = writtenBy l (ruling (writeRules l room))
+unfoldable pub writeAnswer : ℕ → List ℕ → List ℕ → List ℕ → Written
+writeAnswer edition lengths area room = writtenBy edition (cut lengths area) (ruling (writeRules edition lengths area room))
 
 -- what the room holds after an answer
-abbrev pub bytesAfter : Lists → List ℕ → Written → List ℕ
-bytesAfter l room (Done n) = onFront (written l) room
-bytesAfter l room (Refused n p) = room
+abbrev pub bytesAfter : ℕ → List ℕ → List ℕ → List ℕ → Written → List ℕ
+bytesAfter edition lengths area room (Done n) = onFront (written edition (cut lengths area)) room
+bytesAfter edition lengths area room (Refused n p) = room
+
+-- ---- as the code goes through the rules: the answer from 5 on, where 10 is kept, and from 9 on, where all others are
+
+abbrev pub answerFrom5 : ℕ → List ℕ → List ℕ → List ℕ → Written
+answerFrom5 edition lengths area room =
+    let l = cut lengths area in
+    writtenBy edition l (ruling (recordRules edition (filedLists l) ++ (roomRule edition l room ∷ [])))
+
+abbrev pub answerFrom9 : ℕ → List ℕ → List ℕ → List ℕ → Written
+answerFrom9 edition lengths area room = let l = cut lengths area in writtenBy edition l (ruling (roomRule edition l room ∷ []))

@@ -1,8 +1,8 @@
 -- Where row i of a kind stands in an accepted return, by the counts, and how large the sums are. Assumes nothing.
---     conversion-row, ..    its bytes, from the kind's first block
+--     kind-row              its bytes, from the kind's first block; conversion-row, parameter-row
 --     sound, uptake-small, .., room, columns-small    its limits, and how large the sums are
 --     next, turn            a turn of a loop over the rows
-use Prim.Native.Nat.{ℕ, _+_, _*_, _/_, _%_, _^_, _<_, _≤_}
+use Prim.Native.Nat.{ℕ, zero, suc, _+_, _-_, _*_, _/_, _%_, _^_, _<_, _≤_}
 use mathlib.Core.Path.{_≡_, refl, sym, ap, subst, _∙_}
 use mathlib.Core.Bool.{false}
 use mathlib.Core.List.{List, []}
@@ -10,13 +10,14 @@ use native.Mathlib.Nat.{le-refl, le-trans, mul-le-mul-left}
 use lib.Dec.{lit≤}
 use native.Mathlib.Omega.{arith}
 use lib.ListN.{length, take, getD}
-use Rattle.form.specs.Layout.{layout, conversion, rowAt, aboveLimit}
+use Rattle.form.specs.Layout.{kinds, parametersKind, layout, conversion, rowAt, aboveLimit}
 use Rattle.form.specs.Block.{recordAt}
-use Rattle.form.specs.Verdict.{rowCount, rows, verdictOf}
-use Rattle.form.specs.Standing.{blocksFor, startBlock}
+use Rattle.form.specs.Verdict.{rowCount, countIn, rows, verdictOf}
+use Rattle.form.specs.Standing.{startBlock, firstBlock}
 use Rattle.form.specs.declared.Counts.{Counts}
 use Rattle.form.specs.declared.Verdict.the-variants.{Accepted}
-use Rattle.form.proofs.Accepted.{accepted-counts, few-rows, rows-length, one-row, row-is, inside, within, shrunk}
+use Rattle.form.proofs.Accepted.{accepted-counts, counted, first-block, few-rows, rows-length, one-row, row-is, inside, within, shrunk}
+use Rattle.form.proofs.EachKind.{kinds-are, one-kind, parameters-last}
 use Rattle.totals.specs.Columns.{sumOf, uptakePart, harvestPart, clearedPart, onsitePart, offsitePart, decayPart, columnE, columnK, columnL, onsiteTotal, offsiteTotal, decayTotal}
 use Rattle.totals.specs.Sums.{Sound, partsOf, Added, Summed}
 use Rattle.wide.specs.Numbers.{value}
@@ -40,62 +41,58 @@ module _ (s : List ℕ) (c : Counts) (acc : verdictOf s ≡ Accepted c) where
       let l = rows-length s c acc in
       (l 1 ∙ sym (counts .0), l 2 ∙ sym (counts .1), l 3 ∙ sym (counts .2))
 
-  stands : (k first i at : ℕ) → 1 ≤ k → k ≤ 4 → startBlock k s ≡ first → i < rowCount k s → at ≡ recordAt (first + i / 12) (i % 12) → Stands s k i at
-  stands k first i at lo hi e l q =
-      let p : recordAt (startBlock k s + i / 12) (i % 12) ≡ at = ap (λ (b : ℕ). recordAt (b + i / 12) (i % 12)) e ∙ sym q in
-      subst (Stands s k i) p
-      (record { there = omega (arith, rows-length s c acc k); row = row-is s c acc k i lo hi l; inside = inside s c acc k i lo hi l })
+  -- row i of a kind, from the kind's first block on
+  pub kind-row : (k first i at : ℕ) → 1 ≤ k → k ≤ kinds → first ≡ firstBlock k c → i < countIn c k → at ≡ recordAt (first + i / 12) (i % 12) → Stands s k i at
+  kind-row zero first i at lo hi e l q = absurd (omega arith)
+  kind-row (suc k) first i at lo hi e l q =
+      let n : i < rowCount (suc k) s = omega (arith, counted s c acc k hi) in
+      let b : startBlock (suc k) s ≡ first = sym (e ∙ first-block s c acc (suc k) (omega arith)) in
+      let p : recordAt (startBlock (suc k) s + i / 12) (i % 12) ≡ at = ap (λ (x : ℕ). recordAt (x + i / 12) (i % 12)) b ∙ sym q in
+      subst (Stands s (suc k) i) p
+      (record { there = omega (arith, rows-length s c acc (suc k)); row = row-is s c acc (suc k) i lo hi n; inside = inside s c acc (suc k) i lo hi n })
 
   -- by the counts
   pub conversion-row : (i at : ℕ) → i < c .conversion → at ≡ recordAt (0 + i / 12) (i % 12) → Stands s 1 i at
-  unfolding startBlock
-  conversion-row i at l = stands 1 0 i at (lit≤ tt) (lit≤ tt) refl (omega (arith, counts))
+  unfolding firstBlock
+  conversion-row i at l = kind-row 1 0 i at (lit≤ tt) one-kind refl l
 
-  pub stock-row : (first i at : ℕ) → first ≡ blocksFor (c .conversion) → i < c .stock → at ≡ recordAt (first + i / 12) (i % 12) → Stands s 2 i at
-  unfolding startBlock
-  stock-row first i at e l = stands 2 first i at (lit≤ tt) (lit≤ tt) (omega (arith, counts)) (omega (arith, counts))
-
-  pub harvest-row : (first i at : ℕ) → first ≡ blocksFor (c .conversion) + blocksFor (c .stock) → i < c .harvest
-      → at ≡ recordAt (first + i / 12) (i % 12) → Stands s 3 i at
-  unfolding startBlock
-  harvest-row first i at e l = stands 3 first i at (lit≤ tt) (lit≤ tt) (omega (arith, counts)) (omega (arith, counts))
-
-  pub parameter-row : (first at : ℕ) → first ≡ blocksFor (c .conversion) + blocksFor (c .stock) + blocksFor (c .harvest)
-      → at ≡ recordAt (first + 0 / 12) (0 % 12) → Stands s 4 0 at
-  unfolding startBlock
-  parameter-row first at e = stands 4 first 0 at (lit≤ tt) (lit≤ tt) (omega (arith, counts)) (omega (arith, one-row s c acc))
+  -- the one parameter row
+  pub parameter-row : (first at : ℕ) → first ≡ firstBlock parametersKind c → at ≡ recordAt (first + 0 / 12) (0 % 12) → Stands s parametersKind 0 at
+  parameter-row first at e =
+      let last : parametersKind - 1 < kinds = omega (arith, parameters-last) in
+      kind-row parametersKind first 0 at (lit≤ tt) last e (omega (arith, counted s c acc (parametersKind - 1) last, one-row s c acc))
 
   -- each row keeps the rules, by its number
-  kept : (k i : ℕ) → 1 ≤ k → k ≤ 4 → i < length (rows k s) → aboveLimit (layout k) (getD (rows k s) i []) ≡ false
+  kept : (k i : ℕ) → 1 ≤ k → k ≤ kinds → i < length (rows k s) → aboveLimit (layout k) (getD (rows k s) i []) ≡ false
   kept k i lo hi l = within s c acc k i lo hi (omega (arith, rows-length s c acc k))
 
   pub sound : (i : ℕ) → i < length (rows 1 s) → Sound (getD (rows 1 s) i [])
-  sound i l = record { within = kept 1 i (lit≤ tt) (lit≤ tt) l; shrunk = shrunk s c acc i (omega (arith, rows-length s c acc 1)) }
+  sound i l = record { within = kept 1 i (lit≤ tt) (omega (arith, kinds-are)) l; shrunk = shrunk s c acc i (omega (arith, rows-length s c acc 1)) }
 
   -- what no row of a kind is above, no sum over its first rows is above 32 times
-  small : (k : ℕ) (f : List ℕ → ℕ) (b : ℕ) → 1 ≤ k → k ≤ 4 → ((r : List ℕ) → aboveLimit (layout k) r ≡ false → f r ≤ b)
+  small : (k : ℕ) (f : List ℕ → ℕ) (b : ℕ) → 1 ≤ k → k ≤ kinds → ((r : List ℕ) → aboveLimit (layout k) r ≡ false → f r ≤ b)
       → (i : ℕ) → i ≤ length (rows k s) → sumOf f (take i (rows k s)) ≤ b * 32
   small k f b lo hi h i l =
       le-trans (sum-below f b (rows k s) i (λ j m. h _ (kept k j lo hi m)) l)
       (mul-le-mul-left b (omega (arith, few-rows s c acc k, rows-length s c acc k)))
 
   pub uptake-small : (i : ℕ) → i ≤ length (rows 2 s) → sumOf uptakePart (take i (rows 2 s)) ≤ 10 ^ 14 * 32
-  uptake-small = small 2 uptakePart (10 ^ 14) (lit≤ tt) (lit≤ tt) uptake-below
+  uptake-small = small 2 uptakePart (10 ^ 14) (lit≤ tt) (omega (arith, kinds-are)) uptake-below
 
   pub harvest-small : (i : ℕ) → i ≤ length (rows 3 s) → sumOf harvestPart (take i (rows 3 s)) ≤ 10 ^ 12 * 32
-  harvest-small = small 3 harvestPart (10 ^ 12) (lit≤ tt) (lit≤ tt) harvest-below
+  harvest-small = small 3 harvestPart (10 ^ 12) (lit≤ tt) (omega (arith, kinds-are)) harvest-below
 
   pub cleared-small : (i : ℕ) → i ≤ length (rows 1 s) → sumOf clearedPart (take i (rows 1 s)) ≤ 10 ^ 13 * 32
-  cleared-small = small 1 clearedPart (10 ^ 13) (lit≤ tt) (lit≤ tt) cleared-below
+  cleared-small = small 1 clearedPart (10 ^ 13) (lit≤ tt) (omega (arith, kinds-are)) cleared-below
 
   pub onsite-small : (i : ℕ) → i ≤ length (rows 1 s) → sumOf onsitePart (take i (rows 1 s)) ≤ 10 ^ 19 * 32
-  onsite-small = small 1 onsitePart (10 ^ 19) (lit≤ tt) (lit≤ tt) onsite-below
+  onsite-small = small 1 onsitePart (10 ^ 19) (lit≤ tt) (omega (arith, kinds-are)) onsite-below
 
   pub offsite-small : (i : ℕ) → i ≤ length (rows 1 s) → sumOf offsitePart (take i (rows 1 s)) ≤ 10 ^ 19 * 32
-  offsite-small = small 1 offsitePart (10 ^ 19) (lit≤ tt) (lit≤ tt) offsite-below
+  offsite-small = small 1 offsitePart (10 ^ 19) (lit≤ tt) (omega (arith, kinds-are)) offsite-below
 
   pub decay-small : (i : ℕ) → i ≤ length (rows 1 s) → sumOf decayPart (take i (rows 1 s)) ≤ 10 ^ 19 * 32
-  decay-small = small 1 decayPart (10 ^ 19) (lit≤ tt) (lit≤ tt) decay-below
+  decay-small = small 1 decayPart (10 ^ 19) (lit≤ tt) (omega (arith, kinds-are)) decay-below
 
   -- so there is room for one row more
   pub room : (t : Totals) (i : ℕ) → i ≤ length (rows 1 s) → Summed t (take i (rows 1 s))

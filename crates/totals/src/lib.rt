@@ -4,12 +4,12 @@ ghost use Prim.Native.Nat.{_+_, _-_, _*_, _/_, _%_, _^_, _≤_, _<_};
 ghost use lib.ListN.{length};
 ghost use Rattle.form.specs.Layout.{conversion, stock, harvest, rowAt};
 ghost use Rattle.form.specs.Verdict.{rows, verdictOf};
-ghost use Rattle.form.specs.Standing.{blocksFor};
 ghost use Rattle.form.specs.declared.Verdict.the-variants.{Accepted};
 ghost use Rattle.wide.specs.Numbers.{value};
 ghost use Rattle.totals.specs.Columns.{uptakePart, harvestPart, decayPart, columnE, columnK};
 ghost use Rattle.totals.specs.Sums.{Sound, partsOf, Added, Summed};
 use form::Counts;
+use form::first_block;
 use form::four_at;
 use form::row_start;
 use form::two_at;
@@ -21,13 +21,6 @@ use wide::of;
 pub struct DryMatter(pub Wide);
 
 pub struct Carbon(pub Wide);
-
-// How many blocks some rows take.
-pub fn blocks_for(rows: u32) -> usize
-    ensures { λ r. ⌜ r ≡ blocksFor rows ⌝ }
-{
-    (rows as usize + 11) / 12
-}
 
 // The biomass that an area loses.
 fn lost(area: u32, before: u32, after: u32) -> u64
@@ -157,7 +150,7 @@ pub fn sum_uptake(bytes: &[u8], c: Counts) -> Carbon
     requires { ⌜ verdictOf (now bytes) ≡ Accepted c ⌝ }
     ensures { λ r. ⌜ value (r .0) ≡ columnE (now (bytes .entry)) ⌝ }
 {
-    let first = blocks_for(c.conversion);
+    let first = first_block(c, 2);
     let n = c.stock as usize;
     let mut sum: u64 = 0;
     let mut i: usize = 0;
@@ -182,7 +175,7 @@ pub fn sum_harvest(bytes: &[u8], c: Counts) -> DryMatter
     requires { ⌜ verdictOf (now bytes) ≡ Accepted c ⌝ }
     ensures { λ r. ⌜ value (r .0) ≡ columnK (now (bytes .entry)) ⌝ }
 {
-    let first = blocks_for(c.conversion) + blocks_for(c.stock);
+    let first = first_block(c, 3);
     let n = c.harvest as usize;
     let mut sum: u64 = 0;
     let mut i: usize = 0;

@@ -12,18 +12,20 @@ use lib.Dec.{ltb, eqb, lit<}
 use lib.ListN.{length, getD, take, drop}
 use lib.Seq.{drop-cons, take-at}
 use borrow.Author.Tests.{eqb-true, not-false}
+use Rattle.form.proofs.Stand.{headed}
 use Rattle.form.specs.First.{any}
 use Rattle.form.specs.Bytes.{byteAt, number, strayIn}
 use Rattle.form.specs.Layout.{Layout, layout, rowAt, strayAt}
 use Rattle.form.specs.Block.{blocks, kindOf, countOf, blockNumber, blocksSaid, edition, recordAt, checkSaid, weighed, checkDue, badCheck, badHeader, strayRecord, stray}
 use Rattle.form.specs.Records.{Filed, filed}
 use Rattle.form.proofs.Tests.{or-none}
+use Rattle.form.proofs.Search.{any-each}
 use Rattle.form.proofs.Places.{block-of, position-of}
 use Rattle.filing.specs.Written.{zeros, recordFrom, recordOf, inTurn, headOf, sealed, recordOn, usedFrom, bodyOf, blockOf}
 use Rattle.form.specs.Bytes.{littleEndian}
-use Rattle.filing.proofs.Stands.{Stands, stands-left, stands-right, stands-join, stands-at, Bytes, length-le, any-each, number-read, number-stands, zeros-read, zeros-stand, record-stands}
+use Rattle.filing.proofs.Stands.{Stands, stands-left, stands-right, stands-join, stands-at, Bytes, length-le, number-read, number-stands, zeros-read, zeros-stand, record-stands}
 use Rattle.filing.proofs.Stores.{length-turns}
-use Rattle.filing.proofs.Fields.{ends-40}
+use Rattle.form.proofs.Fields.{ends-40}
 use Rattle.filing.proofs.Parts.{length-head, length-on, length-body, used-count}
 
 module _ (f : ℕ → List ℕ) (w : ℕ) (long : (k : ℕ) → length (f k) ≡ w) (s : List ℕ) where
@@ -56,12 +58,12 @@ module _ (f : ℕ → List ℕ) (w : ℕ) (long : (k : ℕ) → length (f k) ≡
 -- ---- read as it was given
 
 -- what the rules read of block b, where it stands as block b of n of f
-pub record Read (s : List ℕ) (f : Filed) (n b : ℕ) : Type 0 where
+pub record Read (e : ℕ) (s : List ℕ) (f : Filed) (n b : ℕ) : Type 0 where
   pub kind : kindOf s b ≡ f .kind (12 * b)
   pub count : countOf s b ≡ usedFrom f (12 * b) 12
   pub number : blockNumber s b ≡ b
   pub said : blocksSaid s b ≡ n
-  pub edition : edition s b ≡ 1
+  pub edition : edition s b ≡ e
   pub check : checkSaid s b ≡ checkDue s b
   pub records : (r : ℕ) → r < 12 → Stands s (recordAt b r) (recordOn f (12 * b + r))
   pub zeros : strayIn s (512 * b + 488) 20 ≡ false
@@ -114,32 +116,32 @@ weighed-small k n (v ∷ x) b h =
     let one : k * v ≤ n * 255 = mul-le-mul (omega arith) (omega (arith, b .0)) in
     omega (arith, weighed-small (suc k) n x (b .1) (omega arith), mul-suc (n * 255) (length x))
 
-module _ (s : List ℕ) (f : Filed) (n b : ℕ) (kind-small : f .kind (12 * b) < 256) (count-small : usedFrom f (12 * b) 12 < 256) where
-  body-small : Small (bodyOf f 0 n b)
+module _ (e : ℕ) (s : List ℕ) (f : Filed) (n b : ℕ) (kind-small : f .kind (12 * b) < 256) (count-small : usedFrom f (12 * b) 12 < 256) where
+  body-small : Small (bodyOf e f 0 n b)
   unfolding bodyOf headOf Small
   body-small =
-      let numbers = small-append (littleEndian 2 (0 + b)) _ (small-le 2 (0 + b)) (small-append (littleEndian 2 n) (littleEndian 2 1) (small-le 2 n) (small-le 2 1)) in
+      let numbers = small-append (littleEndian 2 (0 + b)) _ (small-le 2 (0 + b)) (small-append (littleEndian 2 n) (littleEndian 2 e) (small-le 2 n) (small-le 2 e)) in
       let records = small-append (inTurn (recordOn f) (12 * b) 12) (zeros 20) (small-turns (recordOn f) (small-on f) (12 * b) 12) (small-zeros 20) in
-      (kind-small, (count-small, small-append (littleEndian 2 (0 + b) ++ (littleEndian 2 n ++ littleEndian 2 1)) _ numbers records))
+      (kind-small, (count-small, small-append (littleEndian 2 (0 + b) ++ (littleEndian 2 n ++ littleEndian 2 e)) _ numbers records))
 
-  pub block-read : b < 65536 → n < 65536 → Stands s (512 * b) (blockOf f 0 n b) → Read s f n b
+  pub block-read : e < 65536 → b < 65536 → n < 65536 → Stands s (512 * b) (blockOf e f 0 n b) → Read e s f n b
   unfolding bodyOf blockOf sealed headOf checkDue
-  block-read bl nl st =
+  block-read el bl nl st =
       let kind = f .kind (12 * b) in
       let count = usedFrom f (12 * b) 12 in
-      let x : List ℕ = bodyOf f 0 n b in
+      let x : List ℕ = bodyOf e f 0 n b in
       let r : List ℕ = inTurn (recordOn f) (12 * b) 12 in
-      let h : List ℕ = headOf kind count (0 + b) n in
-      let lx = length-body f 0 n b in
-      let lh = length-head kind count (0 + b) n in
+      let h : List ℕ = headOf e kind count (0 + b) n in
+      let lx = length-body f e 0 n b in
+      let lh = length-head e kind count (0 + b) n in
       let lr = length-turns (recordOn f) 40 (length-on f) (12 * b) 12 in
       let body = stands-left x (littleEndian 4 (weighed 1 x)) st in
       let head = stands-left h (r ++ zeros 20) body in
       let tail = stands-right h (r ++ zeros 20) {q = 512 * b + 8} (omega arith) body in
       let rs = stands-left r (zeros 20) tail in
-      let numbers = stands-right (kind ∷ count ∷ []) (littleEndian 2 (0 + b) ++ (littleEndian 2 n ++ littleEndian 2 1)) {q = 512 * b + 2} refl head in
-      let after = stands-right (littleEndian 2 (0 + b)) (littleEndian 2 n ++ littleEndian 2 1) {q = 512 * b + 4} (omega (arith, length-le 2 (0 + b))) numbers in
-      let last = stands-right (littleEndian 2 n) (littleEndian 2 1) {q = 512 * b + 6} (omega (arith, length-le 2 n)) after in
+      let numbers = stands-right (kind ∷ count ∷ []) (littleEndian 2 (0 + b) ++ (littleEndian 2 n ++ littleEndian 2 e)) {q = 512 * b + 2} refl head in
+      let after = stands-right (littleEndian 2 (0 + b)) (littleEndian 2 n ++ littleEndian 2 e) {q = 512 * b + 4} (omega (arith, length-le 2 (0 + b))) numbers in
+      let last = stands-right (littleEndian 2 n) (littleEndian 2 e) {q = 512 * b + 6} (omega (arith, length-le 2 n)) after in
       let whole : take 508 (drop (512 * b) s) ≡ x = rw (body .is) (take-at x (body .rest) 508 lx) in
       let room : weighed 1 x < 256 ^ 4 = omega (arith, weighed-small 1 509 x body-small (omega arith)) in
       record {
@@ -157,14 +159,6 @@ module _ (s : List ℕ) (f : Filed) (n b : ℕ) (kind-small : f .kind (12 * b) <
 
 byte-stands : (s : List ℕ) (p : ℕ) → p < length s → Stands s p (byteAt s p ∷ [])
 byte-stands s p h = record { rest = drop (suc p) s; is = drop-cons s p 0 h }
-
-header-numbers : (s : List ℕ) (b : ℕ) → badHeader s b ≡ false → (blockNumber s b ≡ b) × (blocksSaid s b ≡ blocks s) × (edition s b ≡ 1)
-unfolding badHeader
-header-numbers s b e =
-    let f = or-none (ltb (kindOf s b) 1 || ltb 4 (kindOf s b) || not (eqb (blockNumber s b) b) || not (eqb (blocksSaid s b) (blocks s))) _ e in
-    let g = or-none (ltb (kindOf s b) 1 || ltb 4 (kindOf s b) || not (eqb (blockNumber s b) b)) _ (f .0) in
-    let h = or-none (ltb (kindOf s b) 1 || ltb 4 (kindOf s b)) _ (g .0) in
-    (eqb-true (blockNumber s b) b (not-false _ (h .1)), eqb-true (blocksSaid s b) (blocks s) (not-false _ (g .1)), eqb-true (edition s b) 1 (not-false _ (f .1)))
 
 module _ (s : List ℕ) (b : ℕ) (bytes : Bytes s) (room : 512 * b + 512 ≤ length s) where
   used-there : (r : ℕ) → r < 12 → filed s .used (12 * b + r) ≡ ltb r (countOf s b)
@@ -188,40 +182,40 @@ module _ (s : List ℕ) (b : ℕ) (bytes : Bytes s) (room : 512 * b + 512 ≤ le
       go true q = rw (add-zero at) at (record-stands 0 (layout (kindOf s b)) s at (ends-40 (kindOf s b)) bytes (omega arith) q)
       go false q = zeros-stand 40 s at (omega arith) q
 
-  pub block-stands : badCheck s b ≡ false → badHeader s b ≡ false → stray s b ≡ false → countOf s b ≤ 12
-      → Stands s (512 * b) (blockOf (filed s) 0 (blocks s) b)
+  pub block-stands : (e : ℕ) → edition s b ≡ e → badCheck s b ≡ false → badHeader s b ≡ false → stray s b ≡ false → countOf s b ≤ 12
+      → Stands s (512 * b) (blockOf e (filed s) 0 (blocks s) b)
   unfolding badCheck stray checkDue bodyOf blockOf sealed headOf
-  block-stands ec eh es few =
+  block-stands e ee ec eh es few =
       let f = filed s in
       let n = blocks s in
       let kind = f .kind (12 * b) in
       let count = usedFrom f (12 * b) 12 in
-      let hn = header-numbers s b eh in
+      let hn = headed s b eh in
       let clean = or-none (any (strayRecord s b) 12) (strayIn s (512 * b + 488) 20) es in
-      let x : List ℕ = bodyOf f 0 n b in
+      let x : List ℕ = bodyOf e f 0 n b in
       let r : List ℕ = inTurn (recordOn f) (12 * b) 12 in
-      let h : List ℕ = headOf kind count (0 + b) n in
-      let lh = length-head kind count (0 + b) n in
+      let h : List ℕ = headOf e kind count (0 + b) n in
+      let lh = length-head e kind count (0 + b) n in
       let lr = length-turns (recordOn f) 40 (length-on f) (12 * b) 12 in
       let k₀ : Stands s (512 * b) (kind ∷ []) = rw (whole-block b) (byte-stands s (512 * b) (omega arith)) in
       let c₀ : Stands s (512 * b + 1) (count ∷ []) = rw (count-there few) (byte-stands s (512 * b + 1) (omega arith)) in
       let two : (p v : ℕ) → number 2 s p ≡ v → p + 2 ≤ length s → Stands s p (littleEndian 2 v) =
-      λ p v e l. subst (λ (y : ℕ). Stands s p (littleEndian 2 y)) e (number-stands 2 s p bytes l) in
+      λ p v q l. subst (λ (y : ℕ). Stands s p (littleEndian 2 y)) q (number-stands 2 s p bytes l) in
       let numbers =
-      stands-join (littleEndian 2 (0 + b)) (littleEndian 2 n ++ littleEndian 2 1) {q = 512 * b + 4} (omega (arith, length-le 2 (0 + b)))
-      (two (512 * b + 2) (0 + b) (hn .0 ∙ sym (zero-add b)) (omega arith))
-      (stands-join (littleEndian 2 n) (littleEndian 2 1) {q = 512 * b + 6} (omega (arith, length-le 2 n))
-      (two (512 * b + 4) n (hn .1) (omega arith))
-      (two (512 * b + 6) 1 (hn .2) (omega arith))) in
+      stands-join (littleEndian 2 (0 + b)) (littleEndian 2 n ++ littleEndian 2 e) {q = 512 * b + 4} (omega (arith, length-le 2 (0 + b)))
+      (two (512 * b + 2) (0 + b) (hn .number ∙ sym (zero-add b)) (omega arith))
+      (stands-join (littleEndian 2 n) (littleEndian 2 e) {q = 512 * b + 6} (omega (arith, length-le 2 n))
+      (two (512 * b + 4) n (hn .said) (omega arith))
+      (two (512 * b + 6) e ee (omega arith))) in
       let head : Stands s (512 * b) h =
-      stands-join (kind ∷ []) (count ∷ (littleEndian 2 (0 + b) ++ (littleEndian 2 n ++ littleEndian 2 1))) {q = 512 * b + 1} refl k₀
-      (stands-join (count ∷ []) (littleEndian 2 (0 + b) ++ (littleEndian 2 n ++ littleEndian 2 1)) {q = 512 * b + 2} (omega arith) c₀ numbers) in
+      stands-join (kind ∷ []) (count ∷ (littleEndian 2 (0 + b) ++ (littleEndian 2 n ++ littleEndian 2 e))) {q = 512 * b + 1} refl k₀
+      (stands-join (count ∷ []) (littleEndian 2 (0 + b) ++ (littleEndian 2 n ++ littleEndian 2 e)) {q = 512 * b + 2} (omega arith) c₀ numbers) in
       let records : Stands s (512 * b + 8) r =
       turns-stand (recordOn f) 40 (length-on f) s 12 (12 * b) (512 * b + 8) (λ i l. on-stands i l (any-each (strayRecord s b) 12 (clean .0) i l)) in
       let body : Stands s (512 * b) x =
       stands-join h (r ++ zeros 20) {q = 512 * b + 8} (omega arith) head
       (stands-join r (zeros 20) {q = 512 * b + 488} (omega arith) records (zeros-stand 20 s (512 * b + 488) (omega arith) (clean .1))) in
-      let whole : take 508 (drop (512 * b) s) ≡ x = rw (body .is) (take-at x (body .rest) 508 (length-body f 0 n b)) in
+      let whole : take 508 (drop (512 * b) s) ≡ x = rw (body .is) (take-at x (body .rest) 508 (length-body f e 0 n b)) in
       let due : checkSaid s b ≡ weighed 1 x = eqb-true (checkSaid s b) (checkDue s b) (not-false _ ec) ∙ ap (weighed 1) whole in
-      stands-join x (littleEndian 4 (weighed 1 x)) {q = 512 * b + 508} (omega (arith, length-body f 0 n b)) body
+      stands-join x (littleEndian 4 (weighed 1 x)) {q = 512 * b + 508} (omega (arith, length-body f e 0 n b)) body
       (subst (λ (y : ℕ). Stands s (512 * b + 508) (littleEndian 4 y)) due (number-stands 4 s (512 * b + 508) bytes (omega arith)))

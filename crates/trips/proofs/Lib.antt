@@ -7,3 +7,4 @@ pub mod Fitting
 pub mod Standing
 pub mod ReadBack
 pub mod RoundTrips
+pub mod Again

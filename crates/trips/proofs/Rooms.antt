@@ -1,32 +1,33 @@
 -- The rows of an accepted return, filed as lists, are its records. Assumes nothing.
---     list-alike    of one kind; lists-alike, of all four
+--     list-alike    of one kind; lists-alike, of all
 use Prim.Native.Nat.{ℕ, zero, suc, _+_, _-_, _*_, _/_, _%_, _<_, _≤_, min}
-use mathlib.Core.Path.{_≡_, sym, ap, subst₂, _∙_}
+use mathlib.Core.Path.{_≡_, sym, ap, subst, _∙_}
 use mathlib.Core.Bool.{true, cond}
-use mathlib.Core.List.{List, _++_, flatten}
+use mathlib.Core.List.{List, _++_}
 use native.Mathlib.Nat.{zero-add, add-zero, mul-suc, mul-zero, mul-div-cancel-left}
 use native.Mathlib.Decide.{decLt}
 use native.Mathlib.Omega.{arith}
-use lib.Dec.{ltb, lit<}
+use lib.Dec.{ltb}
 use lib.ListN.{length, take, drop}
 use lib.Seq.{take-at, drop-at, drop-drop}
 use borrow.Author.Tests.{lt-ltb, le-ltb, ltb-true}
-use Rattle.form.specs.Layout.{numbersOf}
+use Rattle.form.specs.Layout.{kinds, numbersOf}
 use Rattle.form.specs.Block.{blocks, kindOf, countOf, blocksBelow}
 use Rattle.form.specs.Records.{Filed, filed}
-use Rattle.form.specs.Verdict.{rowCount, rows, verdictOf}
+use Rattle.form.specs.Verdict.{rowCount, verdictOf}
 use Rattle.form.specs.Standing.{blocksFor, startBlock, startPlace}
 use Rattle.form.specs.declared.Counts.{Counts}
 use Rattle.form.specs.declared.Verdict.the-variants.{Accepted}
-use Rattle.form.proofs.Stand.{start-le, start-5, at-start, kind-in, count-in}
+use Rattle.form.proofs.Stand.{start-le, start-all, at-start, kind-in, count-in}
 use Rattle.form.proofs.Accepted.{in-order}
-use Rattle.filing.specs.Lists.{rowsIn, filedList, behind, filedLists}
+use Rattle.filing.specs.Lists.{rowsIn, filedList, behind, filedFrom, filedLists}
 use Rattle.filing.specs.Written.{inTurn}
 use Rattle.filing.specs.Tables.{rowOn}
 use Rattle.filing.proofs.Parts.{length-rowOn}
+use Rattle.form.proofs.Fields.{some-numbers}
 use Rattle.filing.proofs.Alike.{Alike}
-use Rattle.rows.specs.Reading.{rowLists}
-use Rattle.rows.proofs.Rows.{rows-turn, rows-long}
+use Rattle.rows.specs.Reading.{rowsOf, listsFrom, rowLists}
+use Rattle.rows.proofs.Rows.{rows-turn, rows-long, start-next, start-first}
 
 -- ---- parts of one length
 
@@ -66,17 +67,10 @@ behind-alike f g h j m af ag = record { used = λ k l. used k l (decLt k (f .pla
 
 -- ---- one kind
 
-pub some-numbers : (k : ℕ) → k < 4 → 0 < numbersOf (suc k)
-some-numbers zero h = lit< tt
-some-numbers (suc zero) h = lit< tt
-some-numbers (suc (suc zero)) h = lit< tt
-some-numbers (suc (suc (suc zero))) h = lit< tt
-some-numbers (suc (suc (suc (suc k)))) h = absurd (omega arith)
-
-module _ (s : List ℕ) (c : Counts) (acc : verdictOf s ≡ Accepted c) (k : ℕ) (h : k < 4) where
-  pub rows-counted : rowsIn (suc k) (flatten (rows (suc k) s)) ≡ rowCount (suc k) s
+module _ (s : List ℕ) (c : Counts) (acc : verdictOf s ≡ Accepted c) (k : ℕ) (h : k < kinds) where
+  pub rows-counted : rowsIn (suc k) (length (rowsOf s (suc k))) ≡ rowCount (suc k) s
   rows-counted =
-      ap (λ (x : ℕ). x / numbersOf (suc k)) (rows-long s c acc (suc k) (omega arith) (omega arith))
+      ap (λ (x : ℕ). x / numbersOf (suc k)) (rows-long s c acc k h)
       ∙ mul-div-cancel-left (rowCount (suc k) s) (some-numbers k h)
 
   -- the block of a place of the kind
@@ -86,7 +80,7 @@ module _ (s : List ℕ) (c : Counts) (acc : verdictOf s ≡ Accepted c) (k : ℕ
   there i l =
       let o = in-order s c acc in
       let b = (startPlace (suc k) s + i) / 12 in
-      let below : b < blocks s = omega (arith, start-le s o (suc (suc k)) 5 (omega arith), start-5 s o) in
+      let below : b < blocks s = omega (arith, start-le s o (suc (suc k)) (suc kinds) (omega arith), start-all s o) in
       let kind = kind-in s o k b (omega arith) (omega arith) h in
       let at = at-start s o (suc k) b below kind in
       let e : blocksBelow (suc k) s b ≡ i / 12 = omega arith in
@@ -102,43 +96,54 @@ module _ (s : List ℕ) (c : Counts) (acc : verdictOf s ≡ Accepted c) (k : ℕ
       go (yes a) = lt-ltb i (rowCount (suc k) s) a ∙ sym (lt-ltb ((startPlace (suc k) s + i) % 12) n (omega (arith, there i l .1)))
       go (no a) = le-ltb i (rowCount (suc k) s) (omega arith) ∙ sym (le-ltb ((startPlace (suc k) s + i) % 12) n (omega (arith, there i l .1)))
 
-  pub list-alike : Alike (filedList (suc k) (flatten (rows (suc k) s))) 0 (filed s) (startPlace (suc k) s) (12 * blocksFor (rowCount (suc k) s))
+  pub list-alike : Alike (filedList (suc k) (rowsOf s (suc k))) 0 (filed s) (startPlace (suc k) s) (12 * blocksFor (rowCount (suc k) s))
   unfolding filedList rowOn
   list-alike = record {
     used = λ i l. rw (zero-add i, rows-counted) (used-there i l);
     kind = λ i l. sym (there i l .0);
     row = λ i l u.
         let lt : i < rowCount (suc k) s = ltb-true i (rowCount (suc k) s) (rw (zero-add i, rows-counted) at u) in
-        rw (zero-add i, ← rows-turn s c acc (suc k) (omega arith) (omega arith))
+        rw (zero-add i, ← rows-turn s c acc k h)
         (turn-part (rowOn (suc k) s) (numbersOf (suc k)) (length-rowOn (suc k) s) (rowCount (suc k) s) (startPlace (suc k) s) i lt
         ∙ rw (there i l .0));
   }
 
--- ---- all four
+  -- as many places as its blocks have
+  pub list-places : filedList (suc k) (rowsOf s (suc k)) .places ≡ 12 * blocksFor (rowCount (suc k) s)
+  unfolding filedList
+  list-places = ap (λ (x : ℕ). 12 * blocksFor x) rows-counted
+
+-- ---- all kinds
 
 module _ (s : List ℕ) (c : Counts) (acc : verdictOf s ≡ Accepted c) where
+  -- the places of n kinds, from kind k + 1 on
+  places-from : (n k : ℕ) → k + n ≤ kinds → startPlace (suc k) s + filedFrom (suc k) (listsFrom s (suc k) n) .places ≡ startPlace (suc (k + n)) s
+  unfolding listsFrom filedFrom behind
+  places-from zero k h = let e : k + 0 ≡ k = omega arith in rw e (omega arith)
+  places-from (suc n) k h =
+      let e : k + suc n ≡ suc k + n = omega arith in
+      rw e (omega (arith, places-from n (suc k) (omega arith), list-places s c acc k (omega arith), start-next s k))
+
   pub lists-places : filedLists (rowLists s) .places ≡ 12 * blocks s
-  unfolding filedLists behind filedList startBlock
   lists-places =
-      rw (rows-counted s c acc 0 (lit< tt), rows-counted s c acc 1 (lit< tt), rows-counted s c acc 2 (lit< tt), rows-counted s c acc 3 (lit< tt))
-      (omega (arith, start-5 s (in-order s c acc)))
+      let e : 0 + kinds ≡ kinds = omega arith in
+      omega (arith, rw e at (places-from kinds 0 (omega arith)), start-first s, start-all s (in-order s c acc))
+
+  alike-from : (n k : ℕ) → k + n ≤ kinds
+      → Alike (filedFrom (suc k) (listsFrom s (suc k) n)) 0 (filed s) (startPlace (suc k) s) (filedFrom (suc k) (listsFrom s (suc k) n) .places)
+  unfolding listsFrom filedFrom behind
+  alike-from zero k h =
+      record { used = λ q l. absurd (omega arith); kind = λ q l. absurd (omega arith); row = λ q l. absurd (omega arith) }
+  alike-from (suc n) k h =
+      let f = filedList (suc k) (rowsOf s (suc k)) in
+      let g = filedFrom (suc (suc k)) (listsFrom s (suc (suc k)) n) in
+      let p = list-places s c acc k (omega arith) in
+      let e : startPlace (suc k) s + f .places ≡ startPlace (suc (suc k)) s = omega (arith, start-next s k) in
+      behind-alike f g (filed s) (startPlace (suc k) s) (g .places)
+      (subst (λ (m : ℕ). Alike f 0 (filed s) (startPlace (suc k) s) m) (sym p) (list-alike s c acc k (omega arith)))
+      (rw e (alike-from n (suc k) (omega arith)))
 
   pub lists-alike : Alike (filedLists (rowLists s)) 0 (filed s) 0 (filedLists (rowLists s) .places)
-  unfolding filedLists behind filedList startBlock
   lists-alike =
-      let n : (k : ℕ) → k < 4 → 12 * blocksFor (rowsIn (suc k) (flatten (rows (suc k) s))) ≡ 12 * blocksFor (rowCount (suc k) s) =
-      λ k h. ap (λ (x : ℕ). 12 * blocksFor x) (rows-counted s c acc k h) in
-      let at : (k j : ℕ) (h : k < 4) → startPlace (suc k) s ≡ j
-      → Alike (filedList (suc k) (flatten (rows (suc k) s))) 0 (filed s) j (filedList (suc k) (flatten (rows (suc k) s)) .places) =
-      λ k j h e. subst₂ (λ (i m : ℕ). Alike (filedList (suc k) (flatten (rows (suc k) s))) 0 (filed s) i m) e (sym (n k h)) (list-alike s c acc k h) in
-      let f₁ = filedList 1 (flatten (rows 1 s)) in
-      let f₂ = filedList 2 (flatten (rows 2 s)) in
-      let f₃ = filedList 3 (flatten (rows 3 s)) in
-      let f₄ = filedList 4 (flatten (rows 4 s)) in
-      let n₁ = n 0 (lit< tt) in
-      let n₂ = n 1 (lit< tt) in
-      let n₃ = n 2 (lit< tt) in
-      behind-alike f₁ (behind f₂ (behind f₃ f₄)) (filed s) 0 _ (at 0 0 (lit< tt) (omega arith))
-      (behind-alike f₂ (behind f₃ f₄) (filed s) (0 + f₁ .places) _ (at 1 (0 + f₁ .places) (lit< tt) (omega arith))
-      (behind-alike f₃ f₄ (filed s) (0 + f₁ .places + f₂ .places) _ (at 2 (0 + f₁ .places + f₂ .places) (lit< tt) (omega arith))
-      (at 3 (0 + f₁ .places + f₂ .places + f₃ .places) (lit< tt) (omega arith))))
+      let z : startPlace 1 s ≡ 0 = omega (arith, start-first s) in
+      rw z at (alike-from kinds 0 (omega arith))

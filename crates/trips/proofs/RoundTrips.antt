@@ -1,26 +1,75 @@
--- THE ROUND TRIPS, over all lists and all bytes, about the definitions that the contracts of rows::write and rows::read cite. Assumes nothing.
-use Prim.Native.Nat.{ℕ, _<_}
-use mathlib.Core.Path.{_≡_}
-use mathlib.Core.List.{List}
-use lib.ListN.{length}
+-- THE ROUND TRIPS, over all rows and all bytes, about the definitions that the contracts of rows::write and rows::read cite. Assumes nothing.
+--     accepted-again, counts-again, rows-again    written and read: accepted, with the counts and the rows
+--     clean-again, bytes-again                    read and written: no rule broken, and the same bytes
+use Prim.Native.Nat.{ℕ, zero, suc, _<_}
+use mathlib.Core.Path.{_≡_, refl, sym, ap, subst, _∙_}
+use mathlib.Core.List.{List, [], _∷_, _++_, flatten, map}
+use native.Mathlib.Omega.{arith}
+use lib.Dec.{lit<}
+use lib.ListN.{length, getD}
 use Rattle.form.specs.Ruling.{ruling}
 use Rattle.form.specs.Bytes.{byteAt}
-use Rattle.form.specs.Verdict.{verdictOf}
+use Rattle.form.specs.Layout.{kinds}
+use Rattle.form.specs.Verdict.{rowCount, countsOf, verdictOf}
 use Rattle.form.specs.declared.Counts.{Counts}
 use Rattle.form.specs.declared.Ruling.the-variants.{Clean}
 use Rattle.form.specs.declared.Verdict.the-variants.{Accepted}
-use Rattle.filing.specs.Lists.{Lists}
-use Rattle.lists.specs.Rules.{listRules}
-use Rattle.rows.specs.Reading.{rowLists}
+use Rattle.form.proofs.Order.{Kept, AllKept, more, ruling-clean}
+use Rattle.form.proofs.EachKind.{first-edition}
+use Rattle.filing.specs.Lists.{cut, rowsIn}
+use Rattle.filing.specs.Written.{inTurn}
+use Rattle.filing.proofs.Cut.{cut-long, flat-cut}
+use Rattle.lists.specs.Rules.{Good, listRules}
+use Rattle.lists.proofs.Numbers.{good}
+use Rattle.rows.specs.Reading.{rowsOf, areaTo, listsFrom, rowLists, lengthsOf}
 use Rattle.rows.specs.Writing.{written}
-use Rattle.trips.proofs.ReadBack.{rowCounts, accepted-back, rows-back}
-use Rattle.trips.proofs.WriteBack.{rows-clean, written-back}
+use Rattle.trips.proofs.Standing.{Clear, clear}
+use Rattle.trips.proofs.ReadBack.{accepted-back, counts-back, rows-back}
+use Rattle.trips.proofs.WriteBack.{lengths-are, cut-back, rows-clean, first-is-one, written-back}
 
--- rows that no rule refuses: their return is accepted with their counts, and its rows are the rows
-pub write-then-read : (l : Lists) → ruling (listRules l) ≡ Clean → (verdictOf (written l) ≡ Accepted (rowCounts l)) × (rowLists (written l) ≡ l)
-write-then-read l clean = (accepted-back l clean, rows-back l clean)
+-- the rows of a return in one area are its row lists, one after the other
+flat-from : (s : List ℕ) (n k : ℕ) → flatten (listsFrom s k n) ≡ inTurn (rowsOf s) k n
+unfolding flatten listsFrom inTurn
+flat-from s zero k = refl
+flat-from s (suc n) k = ap (λ (x : List ℕ). rowsOf s k ++ x) (flat-from s n (suc k))
 
--- an accepted return: no rule refuses its rows, and their return is the return
-pub read-then-write : (s : List ℕ) (c : Counts) → ((i : ℕ) → i < length s → byteAt s i < 256) → verdictOf s ≡ Accepted c
-    → (ruling (listRules (rowLists s)) ≡ Clean) × (written (rowLists s) ≡ s)
-read-then-write s c bytes acc = (rows-clean s c acc, written-back s c acc bytes)
+pub area-is : (s : List ℕ) → flatten (rowLists s) ≡ areaTo s kinds
+area-is s = flat-from s kinds 1
+
+-- rows that no rule refuses: their return is accepted with their counts, and its rows, kind after kind, are the rows
+module _ (lengths area : List ℕ) (clean : ruling (listRules 1 lengths area) ≡ Clean) where
+  ok : Clear 1 (cut lengths area)
+  ok = clear 1 lengths area clean first-edition (lit< tt)
+
+  good-lists : Good lengths (length area)
+  unfolding listRules Kept
+  good-lists = go (ruling-clean clean)
+    where
+      go : AllKept (listRules 1 lengths area) → Good lengths (length area)
+      go (more h rest) = good lengths (length area) h
+
+  pub accepted-again : verdictOf (written 1 (cut lengths area)) ≡ Accepted (countsOf (written 1 (cut lengths area)))
+  accepted-again = accepted-back 1 (cut lengths area) ok
+
+  pub counts-again : (k : ℕ) → k < kinds → rowCount (suc k) (written 1 (cut lengths area)) ≡ rowsIn (suc k) (getD lengths k 0)
+  counts-again k h =
+      counts-back 1 (cut lengths area) ok k h
+      ∙ ap (rowsIn (suc k)) (cut-long lengths area (omega (arith, good-lists .all)) k (omega (arith, good-lists .each)))
+
+  pub rows-again : areaTo (written 1 (cut lengths area)) kinds ≡ area
+  rows-again =
+      sym (area-is (written 1 (cut lengths area)))
+      ∙ ap flatten (rows-back 1 (cut lengths area) ok)
+      ∙ flat-cut lengths area (good-lists .all)
+
+-- an accepted return: no rule refuses its rows, cut by the lengths that its counts give, and their return is the return
+module _ (s : List ℕ) (c : Counts) (acc : verdictOf s ≡ Accepted c) where
+  pub clean-again : ruling (listRules 1 (lengthsOf c) (areaTo s kinds)) ≡ Clean
+  clean-again =
+      rw (lengths-are s c acc, ← area-is s)
+      (subst (λ (e : ℕ). ruling (listRules e (map length (rowLists s)) (flatten (rowLists s))) ≡ Clean) (first-is-one s c acc) (rows-clean s c acc))
+
+  pub bytes-again : ((i : ℕ) → i < length s → byteAt s i < 256) → written 1 (cut (lengthsOf c) (areaTo s kinds)) ≡ s
+  bytes-again small =
+      rw (lengths-are s c acc, ← area-is s, cut-back s c acc)
+      (subst (λ (e : ℕ). written e (rowLists s) ≡ s) (first-is-one s c acc) (written-back s c acc small))

@@ -2,30 +2,24 @@
 use Prim.Native.Nat.{ℕ, zero, suc, _+_, _-_, _<_}
 use mathlib.Core.Path.{_≡_, refl, ap, ap₂, _∙_}
 use mathlib.Core.Bool.{Bool, true, cond, _&&_}
-use mathlib.Core.List.{List}
+use mathlib.Core.List.{List, [], _∷_}
 use native.Mathlib.Nat.{zero-add}
 use native.Mathlib.Decide.{decLt}
 use native.Mathlib.Omega.{arith}
 use borrow.Author.Tests.{eqb-true, ltb-true, lt-ltb, le-ltb}
-use lib.Dec.{ltb, leb, eqb, lit<}
+use lib.Dec.{ltb, leb, eqb}
 use Rattle.form.specs.First.{first}
 use Rattle.form.specs.Ruling.{refuse, ruling}
-use Rattle.form.specs.Layout.{layout, aboveLimit}
-use Rattle.form.specs.Records.{Filed, hasId, idOf, overspent, grown, badId, badField, badFractions, badDensities, recordRules}
-use Rattle.form.specs.declared.Ruling.the-variants.{Clean}
+use Rattle.form.specs.Records.{Filed, RowTest, RowRule, hasId, idOf, badId, brokenBy, rowRules, overPlaces, recordRules}
 use Rattle.form.proofs.Tests.{guarded}
-use Rattle.filing.specs.Lists.{Lists, filedList, behind, filedLists}
+use Rattle.form.proofs.Search.{first-same}
+use Rattle.filing.specs.Lists.{Lists, filedList, behind, filedFrom}
 use Rattle.filing.proofs.Alike.{Alike}
-use Rattle.lists.proofs.Places.{above-behind}
+use Rattle.lists.proofs.Places.{kinds-from}
 
 -- a used place behind one of its kind: that one is used too
 pub Solid : Filed → ℕ → Type 0
 Solid f n = (j : ℕ) → suc j < n → f .used (suc j) ≡ true → f .kind j ≡ f .kind (suc j) → f .used j ≡ true
-
-first-same : (p q : ℕ → Bool) (n : ℕ) → ((k : ℕ) → k < n → p k ≡ q k) → first p n ≡ first q n
-unfolding first
-first-same p q zero h = refl
-first-same p q (suc n) h = rw (first-same p q n (λ k l. h k (omega arith)), h n (omega arith))
 
 module _ {f g : Filed} {n : ℕ} (a : Alike f 0 g 0 n) where
   used-at : (j : ℕ) → j < n → f .used j ≡ g .used j
@@ -51,27 +45,22 @@ module _ {f g : Filed} {n : ℕ} (a : Alike f 0 g 0 n) where
       (λ q.
       ap₂ (λ x y. leb (idOf x) (idOf y)) (row-at (suc j) h u) (row-at j l (solid j h u (eqb-true (f .kind j) (f .kind (suc j)) q)))))))
 
-  field-same : (j : ℕ) → j < n → badField f j ≡ badField g j
-  unfolding badField
-  field-same j h = rw (← used-at j h, ← kind-at j h) (guarded (f .used j) (λ u. ap (aboveLimit (layout (f .kind j))) (row-at j h u)))
+  row-same : (e : ℕ) (t : RowTest) (j : ℕ) → j < n → brokenBy f e t j ≡ brokenBy g e t j
+  unfolding brokenBy
+  row-same e t j h = rw (← used-at j h, ← kind-at j h) (guarded (f .used j) (λ u. ap (t e (f .kind j)) (row-at j h u)))
 
-  fractions-same : (j : ℕ) → j < n → badFractions f j ≡ badFractions g j
-  unfolding badFractions
-  fractions-same j h = rw (← used-at j h, ← kind-at j h) (guarded (f .used j) (λ u. ap (λ r. eqb (f .kind j) 1 && overspent r) (row-at j h u)))
+module _ (e : ℕ) (f g : Filed) (a : Alike f 0 g 0 (f .places)) (same : f .places ≡ g .places) where
+  at : (p q : ℕ → Bool) → ((j : ℕ) → j < f .places → p j ≡ q j) → first p (f .places) ≡ first q (g .places)
+  at p q h = first-same p q (f .places) h ∙ ap (first q) same
 
-  densities-same : (j : ℕ) → j < n → badDensities f j ≡ badDensities g j
-  unfolding badDensities
-  densities-same j h = rw (← used-at j h, ← kind-at j h) (guarded (f .used j) (λ u. ap (λ r. eqb (f .kind j) 1 && grown r) (row-at j h u)))
+  over-same : (qs : List RowRule) → ruling (overPlaces e f qs) ≡ ruling (overPlaces e g qs)
+  unfolding ruling
+  over-same [] = refl
+  over-same (q ∷ qs) = ap₂ (refuse (q .number)) (at (brokenBy f e (q .breaks)) (brokenBy g e (q .breaks)) (row-same a e (q .breaks))) (over-same qs)
 
-pub rules-same : (f g : Filed) → Alike f 0 g 0 (f .places) → Solid f (f .places) → f .places ≡ g .places → ruling (recordRules f) ≡ ruling (recordRules g)
-unfolding ruling
-rules-same f g a solid e =
-    let at : (p q : ℕ → Bool) → ((j : ℕ) → j < f .places → p j ≡ q j) → first p (f .places) ≡ first q (g .places) =
-    λ p q h. first-same p q (f .places) h ∙ ap (first q) e in
-    ap₂ (refuse 5) (at (badId f) (badId g) (id-same a solid))
-    (ap₂ (refuse 6) (at (badField f) (badField g) (field-same a))
-    (ap₂ (refuse 7) (at (badFractions f) (badFractions g) (fractions-same a))
-    (ap (λ s. refuse 8 s Clean) (at (badDensities f) (badDensities g) (densities-same a)))))
+  pub rules-same : Solid f (f .places) → ruling (recordRules e f) ≡ ruling (recordRules e g)
+  unfolding ruling
+  rules-same solid = ap₂ (refuse 5) (at (badId f) (badId g) (id-same a solid)) (over-same rowRules)
 
 -- ---- the records of lists are solid
 
@@ -95,18 +84,9 @@ solid-behind f g k m kinds above sf sg j h = go (decLt (suc j) (f .places)) (dec
         let s : suc j - f .places ≡ suc (j - f .places) = omega arith in
         rw (le-ltb (suc j) (f .places) (omega arith), le-ltb j (f .places) (omega arith), s) (sg (j - f .places) (omega arith))
 
-pub solid-lists : (l : Lists) → Solid (filedLists l) (filedLists l .places)
-unfolding filedLists filedList behind
-solid-lists l =
-    let c = filedList 1 (l .conversion) in
-    let s = filedList 2 (l .stock) in
-    let h = filedList 3 (l .harvest) in
-    let p = filedList 4 (l .parameters) in
-    let hp : Solid (behind h p) (h .places + p .places) =
-    solid-behind h p 3 (p .places) (λ j. refl) (λ i. lit< tt) (solid-list 3 (l .harvest) (h .places)) (solid-list 4 (l .parameters) (p .places)) in
-    let shp : Solid (behind s (behind h p)) (s .places + (h .places + p .places)) =
-    solid-behind s (behind h p) 2 (h .places + p .places) (λ j. refl) (above-behind h p 2 (λ j. lit< tt) (λ j. lit< tt)) (solid-list 2 (l .stock) (s .places)) hp in
-    solid-behind c (behind s (behind h p)) 1 (s .places + (h .places + p .places)) (λ j. refl)
-    (above-behind s (behind h p) 1 (λ j. lit< tt) (above-behind h p 1 (λ j. lit< tt) (λ j. lit< tt)))
-    (solid-list 1 (l .conversion) (c .places))
-    shp
+pub solid-lists : (k : ℕ) (l : Lists) → Solid (filedFrom k l) (filedFrom k l .places)
+unfolding filedFrom filedList behind Solid
+solid-lists k [] = λ j h. absurd (omega arith)
+solid-lists k (r ∷ l) =
+    solid-behind (filedList k r) (filedFrom (suc k) l) k (filedFrom (suc k) l .places) (λ j. refl) (λ i. kinds-from (suc k) l i)
+    (solid-list k r (filedList k r .places)) (solid-lists (suc k) l)

@@ -3,21 +3,28 @@
 --     list-at       the records of a list, where they stand among all
 use Prim.Native.Nat.{ℕ, zero, suc, _+_, _-_, _*_, _<_, _≤_}
 use mathlib.Core.Path.{_≡_, refl, sym, _∙_}
+use mathlib.Core.List.{List, [], _∷_, map}
 use native.Mathlib.Nat.{zero-add, add-zero}
 use native.Mathlib.Decide.{decLt}
 use native.Mathlib.Omega.{arith}
-use lib.Dec.{lit<}
+use lib.ListN.{length, getD, drop, drop-of-length-le}
+use lib.Seq.{drop-cons}
+use Rattle.form.specs.Layout.{kinds}
 use Rattle.form.specs.Records.{Filed}
-use Rattle.filing.specs.Lists.{Lists, ofKind, blocksOf, filedList, behind, filedLists}
+use Rattle.filing.specs.Lists.{Lists, ofKind, blocksOf, filedList, behind, filedFrom, filedLists}
 use Rattle.filing.proofs.Alike.{Alike, alike-part, front-alike, back-alike}
-use Rattle.rows.proofs.Return.{blocksAll}
+use Rattle.lists.specs.Rules.{blocksFrom}
+
+-- the blocks that the list of a kind takes
+abbrev pub blocksAt : Lists → ℕ → ℕ
+blocksAt l kind = blocksOf kind (length (ofKind l kind))
 
 -- the blocks before those of kind k + 1
 unfoldable pub startOf : Lists → ℕ → ℕ
 startOf l zero = 0
-startOf l (suc k) = startOf l k + blocksOf (suc k) (ofKind l (suc k))
+startOf l (suc k) = startOf l k + blocksAt l (suc k)
 
-pub start-next : (l : Lists) (k : ℕ) → startOf l (suc k) ≡ startOf l k + blocksOf (suc k) (ofKind l (suc k))
+pub start-next : (l : Lists) (k : ℕ) → startOf l (suc k) ≡ startOf l k + blocksAt l (suc k)
 unfolding startOf
 start-next l k = refl
 
@@ -30,29 +37,41 @@ start-up l j (suc d) =
 pub start-mono : (l : Lists) (j k : ℕ) → j ≤ k → startOf l j ≤ startOf l k
 start-mono l j k h = let e : j + (k - j) ≡ k = omega arith in rw e at (start-up l j (k - j))
 
-pub start-all : (l : Lists) → startOf l 4 ≡ blocksAll l
-unfolding startOf
-start-all l = omega arith
-
 first-block : (l : Lists) → startOf l 0 ≡ 0
 unfolding startOf
 first-block l = refl
 
+blocks-cons : (j n : ℕ) (ns : List ℕ) → blocksFrom j (n ∷ ns) ≡ blocksOf j n + blocksFrom (suc j) ns
+unfolding blocksFrom
+blocks-cons j n ns = refl
+
+-- the blocks of the kinds up to one, and of those after it
+start-split : (l : Lists) (k : ℕ) → k ≤ length l → startOf l k + blocksFrom (suc k) (map length (drop k l)) ≡ blocksFrom 1 (map length l)
+unfolding startOf
+start-split l zero h = omega arith
+start-split l (suc k) h =
+    omega (arith, rw (drop-cons l k [] h) at (start-split l k (omega arith)), blocks-cons (suc k) (length (getD l k [])) (map length (drop (suc k) l)))
+
+pub start-all : (l : Lists) → startOf l (length l) ≡ blocksFrom 1 (map length l)
+unfolding blocksFrom
+start-all l =
+    let none : drop (length l) l ≡ [] = drop-of-length-le l {i = length l} (omega arith) in
+    omega (arith, rw none at (start-split l (length l) (omega arith)))
+
 -- block b is one of kind k + 1
 pub record Where (l : Lists) (b : ℕ) : Type 0 where
   pub k : ℕ
-  pub kind : k < 4
+  pub kind : k < kinds
   pub from : startOf l k ≤ b
   pub below : b < startOf l (suc k)
 
-pub whereis : (l : Lists) (b : ℕ) → b < blocksAll l → Where l b
-whereis l b h = go (decLt b (startOf l 1)) (decLt b (startOf l 2)) (decLt b (startOf l 3))
+pub whereis : (l : Lists) (b n : ℕ) → n ≤ kinds → b < startOf l n → Where l b
+whereis l b zero h l₀ = absurd (omega (arith, first-block l))
+whereis l b (suc n) h l₀ = go (λ x. whereis l b n (omega arith) x) (decLt b (startOf l n))
   where
-    go : Dec (b < startOf l 1) → Dec (b < startOf l 2) → Dec (b < startOf l 3) → Where l b
-    go (yes x) y z = record { k = 0; kind = lit< tt; from = omega (arith, first-block l); below = x }
-    go (no x) (yes y) z = record { k = 1; kind = lit< tt; from = omega arith; below = y }
-    go (no x) (no y) (yes z) = record { k = 2; kind = lit< tt; from = omega arith; below = z }
-    go (no x) (no y) (no z) = record { k = 3; kind = lit< tt; from = omega arith; below = omega (arith, start-all l) }
+    go : (b < startOf l n → Where l b) → Dec (b < startOf l n) → Where l b
+    go w (yes x) = w x
+    go w (no x) = record { k = n; kind = h; from = omega arith; below = l₀ }
 
 -- the two kinds of a block are one
 pub where-same : (l : Lists) {b j k : ℕ} → startOf l j ≤ b → b < startOf l (suc j) → startOf l k ≤ b → b < startOf l (suc k) → j ≡ k
@@ -73,37 +92,22 @@ alike-then a b =
       row = λ q l u. a .row q l u ∙ b .row q l (sym (a .used q l) ∙ u);
     }
 
-module _ (f₁ f₂ f₃ f₄ : Filed) where
-  from₃ : (m : ℕ) → Alike (behind f₁ (behind f₂ (behind f₃ f₄))) (f₁ .places + f₂ .places) (behind f₃ f₄) 0 m
-  from₃ m =
-      alike-then
-      (alike-part (back-alike f₁ (behind f₂ (behind f₃ f₄)) (f₂ .places + m)) (f₂ .places) m {j′ = f₂ .places} (omega arith) refl (zero-add (f₂ .places)))
-      (back-alike f₂ (behind f₃ f₄) m)
+alike-self : (f : Filed) (n : ℕ) → Alike f 0 f 0 n
+alike-self f n = record { used = λ k h. refl; kind = λ k h. refl; row = λ k h u. refl }
 
-  from₄ : (m : ℕ) → Alike (behind f₁ (behind f₂ (behind f₃ f₄))) (f₁ .places + f₂ .places + f₃ .places) f₄ 0 m
-  from₄ m =
-      alike-then (alike-part (from₃ (f₃ .places + m)) (f₃ .places) m {j′ = f₃ .places} (omega arith) refl (zero-add (f₃ .places))) (back-alike f₃ f₄ m)
+-- the lists from one on, among all
+from-at : (l : Lists) (k m : ℕ) → k ≤ length l → Alike (filedLists l) (12 * startOf l k) (filedFrom (suc k) (drop k l)) 0 m
+unfolding startOf filedFrom filedList
+from-at l zero m h = alike-self (filedLists l) m
+from-at l (suc k) m h =
+    let n = blocksAt l (suc k) in
+    let f = filedList (suc k) (getD l k []) in
+    let g = filedFrom (suc (suc k)) (drop (suc k) l) in
+    let a : Alike (filedLists l) (12 * startOf l k) (behind f g) 0 (12 * n + m) = rw (drop-cons l k [] h) at (from-at l k (12 * n + m) (omega arith)) in
+    alike-then (alike-part a (12 * n) m {j′ = 12 * n} (omega arith) (omega arith) (zero-add (12 * n))) (back-alike f g m)
 
-pub list-at : (l : Lists) (k : ℕ) → k < 4
-    → Alike (filedLists l) (12 * startOf l k) (filedList (suc k) (ofKind l (suc k))) 0 (12 * blocksOf (suc k) (ofKind l (suc k)))
-unfolding filedLists filedList startOf
-list-at l k h = go k h
-  where
-    F : ℕ → Filed
-    F k = filedList k (ofKind l k)
-
-    n : ℕ → ℕ
-    n k = blocksOf k (ofKind l k)
-
-    go : (k : ℕ) → k < 4 → Alike (filedLists l) (12 * startOf l k) (F (suc k)) 0 (12 * n (suc k))
-    go zero h = front-alike (F 1) (behind (F 2) (behind (F 3) (F 4)))
-    go (suc zero) h =
-        let e : 12 * (0 + n 1) ≡ 12 * n 1 = omega arith in
-        rw e (alike-then (back-alike (F 1) (behind (F 2) (behind (F 3) (F 4))) (12 * n 2)) (front-alike (F 2) (behind (F 3) (F 4))))
-    go (suc (suc zero)) h =
-        let e : 12 * (0 + n 1 + n 2) ≡ 12 * n 1 + 12 * n 2 = omega arith in
-        rw e (alike-then (from₃ (F 1) (F 2) (F 3) (F 4) (12 * n 3)) (front-alike (F 3) (F 4)))
-    go (suc (suc (suc zero))) h =
-        let e : 12 * (0 + n 1 + n 2 + n 3) ≡ 12 * n 1 + 12 * n 2 + 12 * n 3 = omega arith in
-        rw e (from₄ (F 1) (F 2) (F 3) (F 4) (12 * n 4))
-    go (suc (suc (suc (suc k)))) h = absurd (omega arith)
+pub list-at : (l : Lists) (k : ℕ) → k < length l → Alike (filedLists l) (12 * startOf l k) (filedList (suc k) (ofKind l (suc k))) 0 (12 * blocksAt l (suc k))
+unfolding filedFrom filedList
+list-at l k h =
+    alike-then (from-at l k (12 * blocksAt l (suc k)) (omega arith))
+    (rw (drop-cons l k [] h) (front-alike (filedList (suc k) (getD l k [])) (filedFrom (suc (suc k)) (drop (suc k) l))))

@@ -1,174 +1,205 @@
 -- The return of row lists that break no rule: what is read of each of its blocks and records. Assumes nothing.
 use Prim.Native.Nat.{ℕ, zero, suc, _+_, _-_, _*_, _/_, _%_, _<_, _≤_, min}
-use mathlib.Core.Path.{_≡_, refl, sym, subst, _∙_}
+use mathlib.Core.Path.{_≡_, refl, sym, ap, subst, _∙_}
 use mathlib.Core.Bool.{Bool, true, false, cond}
-use mathlib.Core.List.{List}
+use mathlib.Core.List.{List, [], _∷_, map}
 use native.Mathlib.Nat.{zero-add, add-zero}
 use native.Mathlib.Decide.{decLt}
 use native.Mathlib.Omega.{arith}
 use lib.Dec.{ltb, lit<}
-use lib.ListN.{length}
+use lib.ListN.{length, getD}
 use borrow.Author.Tests.{lt-ltb, le-ltb, ltb-true}
 use Rattle.form.specs.Ruling.{ruling}
-use Rattle.form.specs.Layout.{layout, numbersOf, rowAt, strayAt, aboveLimit}
+use Rattle.form.specs.Layout.{kinds, parametersKind, layout, numbersOf, rowAt, strayAt, aboveLimit}
+use Rattle.form.specs.Edition.{lastKind}
 use Rattle.form.specs.Bytes.{strayIn}
-use Rattle.form.specs.Block.{blocks, kindOf, countOf, recordAt, strayRecord}
-use Rattle.form.specs.Records.{badField}
+use Rattle.form.specs.Block.{mostBlocks, blocks, kindOf, countOf, recordAt, strayRecord}
+use Rattle.form.specs.Records.{fieldAbove, brokenBy, recordRules}
 use Rattle.form.specs.declared.Ruling.the-variants.{Clean}
 use Rattle.form.proofs.Order.{Kept, AllKept, more, ruling-clean}
 use Rattle.form.proofs.Tests.{and-rest}
-use Rattle.filing.specs.Lists.{Lists, ofKind, rowsIn, rowOf, blocksOf, filedList, filedLists}
-use Rattle.filing.specs.Written.{recordOf, inTurn, recordOn, usedFrom, blockOf, bytesOf}
+use Rattle.form.proofs.EachKind.{parameters-last, few-kinds}
+use Rattle.filing.specs.Lists.{Lists, ofKind, cut, rowsIn, rowOf, blocksOf, filedList, filedLists}
+use Rattle.filing.specs.Written.{recordOf, inTurn, recordOn, usedFrom, blockOf}
 use Rattle.filing.proofs.Stands.{Stands, stands-whole, record-read, zeros-read}
 use Rattle.filing.proofs.Parts.{length-block, list-used}
 use Rattle.filing.proofs.Alike.{Alike, alike-part, used-alike}
-use Rattle.lists.specs.Rules.{badList, Few, listRules}
-use Rattle.lists.proofs.Numbers.{few, whole}
+use Rattle.filing.proofs.Cut.{cut-length, cut-long}
+use Rattle.lists.specs.Rules.{listRules, blocksFrom}
+use Rattle.lists.proofs.Numbers.{good}
 use Rattle.rows.specs.Writing.{written}
-use Rattle.rows.proofs.Return.{blocksAll, places-blocks, length-written}
+use Rattle.rows.proofs.Return.{places-from, written-turn, length-written}
 use Rattle.trips.proofs.Blocks.{turn-stands, Read, block-read}
-use Rattle.trips.proofs.Shape.{startOf, start-next, start-mono, start-all, Where, list-at}
+use Rattle.trips.proofs.Shape.{blocksAt, startOf, start-next, start-mono, start-all, Where, list-at}
 use Rattle.trips.proofs.Fitting.{fits, length-rowOf}
-
-written-turn : (l : Lists) → written l ≡ inTurn (blockOf (filedLists l) 0 (blocksAll l)) 0 (blocksAll l)
-unfolding bytesOf
-written-turn l =
-    let n : filedLists l .places / 12 ≡ blocksAll l = omega (arith, places-blocks l) in
-    rw n
 
 -- the list that a block is of, and which of the list's blocks it is
 abbrev pub listOf : {l : Lists} {b : ℕ} → Where l b → List ℕ
 listOf {l} w = ofKind l (suc (w .k))
 
+-- how many rows it has
+abbrev pub rowsAt : {l : Lists} {b : ℕ} → Where l b → ℕ
+rowsAt {l} w = rowsIn (suc (w .k)) (length (ofKind l (suc (w .k))))
+
 abbrev pub nth : {l : Lists} {b : ℕ} → Where l b → ℕ
 nth {l} {b} w = b - startOf l (w .k)
 
-module _ (l : Lists) (clean : ruling (listRules l) ≡ Clean) where
-  kept : AllKept (listRules l)
-  kept = ruling-clean clean
+-- lists that break no rule, in an edition that allows every kind
+pub record Clear (e : ℕ) (l : Lists) : Type 0 where
+  pub records : AllKept (recordRules e (filedLists l))
+  pub each : length l ≡ kinds
+  pub whole : (k : ℕ) → k < kinds → length (ofKind l (suc k)) % numbersOf (suc k) ≡ 0
+  pub few : (k : ℕ) → k < kinds → rowsIn (suc k) (length (ofKind l (suc k))) ≤ 32
+  pub one : rowsIn parametersKind (length (ofKind l parametersKind)) ≡ 1
+  pub allows : lastKind e ≡ kinds
+  pub small : e < 65536
 
-  no-bad-list : (kind : ℕ) → kind < 5 → badList kind (ofKind l kind) ≡ false
-  unfolding listRules Kept
-  no-bad-list = go kept
+pub clear : (e : ℕ) (lengths area : List ℕ) → ruling (listRules e lengths area) ≡ Clean → lastKind e ≡ kinds → e < 65536 → Clear e (cut lengths area)
+unfolding listRules Kept
+clear e lengths area clean allows small = go (ruling-clean clean)
+  where
+    go : AllKept (listRules e lengths area) → Clear e (cut lengths area)
+    go (more h rest) =
+        let g = good lengths (length area) h in
+        let long : (k : ℕ) → k < kinds → length (ofKind (cut lengths area) (suc k)) ≡ getD lengths k 0 =
+        λ k l. cut-long lengths area (omega (arith, g .all)) k (omega (arith, g .each)) in
+        record {
+          records = rest;
+          each = cut-length lengths area ∙ g .each;
+          whole = λ k l. rw (long k l) (g .whole k l);
+          few = λ k l. rw (long k l) (g .few k l);
+          one = rw (long (parametersKind - 1) (omega (arith, parameters-last))) (g .one);
+          allows = allows;
+          small = small;
+        }
+
+module _ (e : ℕ) (l : Lists) (ok : Clear e l) where
+  no-bad-field : (j : ℕ) → j < filedLists l .places → brokenBy (filedLists l) e fieldAbove j ≡ false
+  unfolding Kept
+  no-bad-field = go (ok .records)
     where
-      go : AllKept (listRules l) → (kind : ℕ) → kind < 5 → badList kind (ofKind l kind) ≡ false
-      go (more h rest) = h
+      go : AllKept (recordRules e (filedLists l)) → (j : ℕ) → j < filedLists l .places → brokenBy (filedLists l) e fieldAbove j ≡ false
+      go (more h₅ (more h₆ rest)) = h₆
 
-  no-bad-field : (j : ℕ) → j < filedLists l .places → badField (filedLists l) j ≡ false
-  unfolding listRules Kept
-  no-bad-field = go kept
-    where
-      go : AllKept (listRules l) → (j : ℕ) → j < filedLists l .places → badField (filedLists l) j ≡ false
-      go (more h (more h₅ (more h₆ rest))) = h₆
+  all-blocks : blocksFrom 1 (map length l) ≡ startOf l kinds
+  all-blocks = sym (start-all l) ∙ ap (startOf l) (ok .each)
 
-  pub few-lists : Few l
-  few-lists = few l no-bad-list
+  pub places-blocks : filedLists l .places ≡ 12 * startOf l kinds
+  places-blocks = places-from 1 l ∙ rw all-blocks
 
-  pub whole-lists : (kind : ℕ) → kind < 5 → length (ofKind l kind) % numbersOf kind ≡ 0
-  whole-lists = whole l no-bad-list
+  pub written-blocks : written e l ≡ inTurn (blockOf e (filedLists l) 0 (startOf l kinds)) 0 (startOf l kinds)
+  written-blocks = written-turn e l ∙ rw all-blocks
 
-  pub few-of : (k : ℕ) → k < 4 → rowsIn (suc k) (ofKind l (suc k)) ≤ 32
-  few-of zero h = few-lists .conversion
-  few-of (suc zero) h = few-lists .stock
-  few-of (suc (suc zero)) h = few-lists .harvest
-  few-of (suc (suc (suc zero))) h = omega (arith, few-lists .parameters)
-  few-of (suc (suc (suc (suc k)))) h = absurd (omega arith)
+  pub long : length (written e l) ≡ 512 * startOf l kinds
+  long = length-written e l ∙ rw all-blocks
 
-  pub few-blocks : (1 ≤ blocksAll l) × (blocksAll l ≤ 10)
+  -- at most three blocks for the rows of a kind, and one for the parameters
+  few-starts : (k : ℕ) → k ≤ kinds → startOf l k ≤ 3 * k
+  unfolding startOf
+  few-starts zero h = omega arith
+  few-starts (suc k) h = omega (arith, few-starts k (omega arith), ok .few k h)
+
+  -- the parameters' one block, behind those of the kinds before them
+  pub last-block : startOf l kinds ≡ startOf l (parametersKind - 1) + 1
+  last-block =
+      let e : kinds ≡ suc (parametersKind - 1) = parameters-last in
+      ap (startOf l) e ∙ start-next l (parametersKind - 1) ∙ omega (arith, ok .one)
+
+  pub few-blocks : (1 ≤ startOf l kinds) × (startOf l kinds ≤ mostBlocks)
   few-blocks =
-      let f = few-lists in
-      (omega (arith, f .parameters), omega (arith, f .conversion, f .stock, f .harvest, f .parameters))
+      let f = few-starts (parametersKind - 1) (omega (arith, parameters-last)) in
+      (omega (arith, last-block), omega (arith, last-block, parameters-last))
 
-  pub blocks-there : blocks (written l) ≡ blocksAll l
-  blocks-there = omega (arith, length-written l)
+  pub blocks-there : blocks (written e l) ≡ startOf l kinds
+  blocks-there = omega (arith, long)
 
   -- ---- a block
 
   module _ (b : ℕ) (w : Where l b) where
-    pub nth-block : nth w < blocksOf (suc (w .k)) (listOf w)
+    pub nth-block : nth w < blocksAt l (suc (w .k))
     nth-block = omega (arith, w .from, w .below, start-next l (w .k))
 
     alike-there : Alike (filedLists l) (12 * b) (filedList (suc (w .k)) (listOf w)) (12 * nth w) 12
     alike-there =
-        alike-part (list-at l (w .k) (w .kind)) (12 * nth w) 12 (omega (arith, nth-block)) (omega (arith, w .from)) (zero-add (12 * nth w))
+        alike-part (list-at l (w .k) (omega (arith, w .kind, ok .each))) (12 * nth w) 12 (omega (arith, nth-block)) (omega (arith, w .from)) (zero-add (12 * nth w))
 
-    pub in-all : b < blocksAll l
-    in-all = omega (arith, w .below, start-mono l (suc (w .k)) 4 (w .kind), start-all l)
+    pub in-all : b < startOf l kinds
+    in-all = omega (arith, w .below, start-mono l (suc (w .k)) kinds (w .kind))
 
     kind-there : (r : ℕ) → r < 12 → filedLists l .kind (12 * b + r) ≡ suc (w .k)
     unfolding filedList
     kind-there r h = alike-there .kind r h
 
-    used-there : usedFrom (filedLists l) (12 * b) 12 ≡ min 12 (rowsIn (suc (w .k)) (listOf w) - 12 * nth w)
+    used-there : usedFrom (filedLists l) (12 * b) 12 ≡ min 12 (rowsAt w - 12 * nth w)
     used-there = used-alike 12 alike-there ∙ list-used (suc (w .k)) (listOf w) (nth w)
 
     first-kind : filedLists l .kind (12 * b) ≡ suc (w .k)
     first-kind = rw (add-zero (12 * b)) at (kind-there 0 (lit< tt))
 
-    pub read : Read (written l) (filedLists l) (blocksAll l) b
+    pub read : Read e (written e l) (filedLists l) (startOf l kinds) b
     read =
         let f = filedLists l in
-        let whole = subst (λ (x : List ℕ). Stands (written l) 0 x) (written-turn l) (stands-whole (written l)) in
-        let one = turn-stands (blockOf f 0 (blocksAll l)) 512 (length-block f 0 (blocksAll l)) (written l) (blocksAll l) 0 0 b in-all whole in
-        block-read (written l) f (blocksAll l) b (rw first-kind (omega (arith, w .kind))) (rw used-there (omega arith)) (omega (arith, in-all, few-blocks)) (omega (arith, few-blocks))
+        let whole = subst (λ (x : List ℕ). Stands (written e l) 0 x) written-blocks (stands-whole (written e l)) in
+        let one = turn-stands (blockOf e f 0 (startOf l kinds)) 512 (length-block f e 0 (startOf l kinds)) (written e l) (startOf l kinds) 0 0 b in-all whole in
+        block-read e (written e l) f (startOf l kinds) b (rw first-kind (omega (arith, w .kind, few-kinds))) (rw used-there (omega arith)) (ok .small) (omega (arith, in-all, few-blocks, few-kinds)) (omega (arith, few-blocks, few-kinds))
         (rw (zero-add (512 * b), zero-add b) at one)
 
-    pub kind-is : kindOf (written l) b ≡ suc (w .k)
+    pub kind-is : kindOf (written e l) b ≡ suc (w .k)
     kind-is = read .kind ∙ first-kind
 
-    pub count-is : countOf (written l) b ≡ min 12 (rowsIn (suc (w .k)) (listOf w) - 12 * nth w)
+    pub count-is : countOf (written e l) b ≡ min 12 (rowsAt w - 12 * nth w)
     count-is = read .count ∙ used-there
 
-    pub used-is : (r : ℕ) → r < 12 → filedLists l .used (12 * b + r) ≡ ltb r (countOf (written l) b)
+    pub used-is : (r : ℕ) → r < 12 → filedLists l .used (12 * b + r) ≡ ltb r (countOf (written e l) b)
     unfolding filedList
-    used-is r h = alike-there .used r h ∙ go (decLt r (countOf (written l) b))
+    used-is r h = alike-there .used r h ∙ go (decLt r (countOf (written e l) b))
       where
         n : ℕ
-        n = rowsIn (suc (w .k)) (listOf w)
+        n = rowsAt w
 
-        go : Dec (r < countOf (written l) b) → ltb (12 * nth w + r) n ≡ ltb r (countOf (written l) b)
-        go (yes a) = lt-ltb (12 * nth w + r) n (omega (arith, count-is)) ∙ sym (lt-ltb r (countOf (written l) b) a)
-        go (no a) = le-ltb (12 * nth w + r) n (omega (arith, count-is)) ∙ sym (le-ltb r (countOf (written l) b) (omega arith))
+        go : Dec (r < countOf (written e l) b) → ltb (12 * nth w + r) n ≡ ltb r (countOf (written e l) b)
+        go (yes a) = lt-ltb (12 * nth w + r) n (omega (arith, count-is)) ∙ sym (lt-ltb r (countOf (written e l) b) a)
+        go (no a) = le-ltb (12 * nth w + r) n (omega (arith, count-is)) ∙ sym (le-ltb r (countOf (written e l) b) (omega arith))
 
-    pub kind-read : (r : ℕ) → r < 12 → filedLists l .kind (12 * b + r) ≡ kindOf (written l) b
+    pub kind-read : (r : ℕ) → r < 12 → filedLists l .kind (12 * b + r) ≡ kindOf (written e l) b
     kind-read r h = kind-there r h ∙ sym kind-is
 
     -- ---- a record
 
     module _ (r : ℕ) (h : r < 12) where
       place-in : 12 * b + r < filedLists l .places
-      place-in = omega (arith, in-all, places-blocks l)
+      place-in = omega (arith, in-all, places-blocks)
 
       row-there : filedLists l .used (12 * b + r) ≡ true → filedLists l .row (12 * b + r) ≡ rowOf (suc (w .k)) (listOf w) (12 * nth w + r)
       unfolding filedList
       row-there u = alike-there .row r h u
 
-      in-list : filedLists l .used (12 * b + r) ≡ true → 12 * nth w + r < rowsIn (suc (w .k)) (listOf w)
+      in-list : filedLists l .used (12 * b + r) ≡ true → 12 * nth w + r < rowsAt w
       unfolding filedList
-      in-list u = ltb-true (12 * nth w + r) (rowsIn (suc (w .k)) (listOf w)) (sym (alike-there .used r h) ∙ u)
+      in-list u = ltb-true (12 * nth w + r) (rowsAt w) (sym (alike-there .used r h) ∙ u)
 
       within : filedLists l .used (12 * b + r) ≡ true → aboveLimit (layout (suc (w .k))) (rowOf (suc (w .k)) (listOf w) (12 * nth w + r)) ≡ false
-      unfolding badField
+      unfolding brokenBy
       within u =
           rw (kind-there r h, row-there u) at (and-rest (filedLists l .used (12 * b + r)) _ u (no-bad-field (12 * b + r) place-in))
 
       -- a used record is read as its row, and has no stray byte
       pub used-read : filedLists l .used (12 * b + r) ≡ true
-          → (rowAt (layout (kindOf (written l) b)) (written l) (recordAt b r) ≡ filedLists l .row (12 * b + r))
-          × (strayAt (layout (kindOf (written l) b)) (written l) (recordAt b r) ≡ false)
+          → (rowAt (layout (kindOf (written e l) b)) (written e l) (recordAt b r) ≡ filedLists l .row (12 * b + r))
+          × (strayAt (layout (kindOf (written e l) b)) (written e l) (recordAt b r) ≡ false)
       unfolding recordOn
       used-read u =
           let row = rowOf (suc (w .k)) (listOf w) (12 * nth w + r) in
-          let st : Stands (written l) (recordAt b r + 0) (recordOf (layout (suc (w .k))) row) =
+          let st : Stands (written e l) (recordAt b r + 0) (recordOf (layout (suc (w .k))) row) =
           rw (add-zero (recordAt b r)) (rw (u, kind-there r h, row-there u) at (read .records r h)) in
           rw (kind-is, row-there u)
-          (record-read 0 (layout (suc (w .k))) row (written l) (recordAt b r) (fits (suc (w .k)) row (within u)) (length-rowOf (suc (w .k)) (listOf w) (12 * nth w + r) (in-list u)) st)
+          (record-read 0 (layout (suc (w .k))) row (written e l) (recordAt b r) (fits (suc (w .k)) row (within u)) (length-rowOf (suc (w .k)) (listOf w) (12 * nth w + r) (in-list u)) st)
 
-      pub no-stray : strayRecord (written l) b r ≡ false
+      pub no-stray : strayRecord (written e l) b r ≡ false
       unfolding strayRecord recordOn
       no-stray = rw (← used-is r h) (go (filedLists l .used (12 * b + r)) refl)
         where
           go : (u : Bool) → filedLists l .used (12 * b + r) ≡ u
-              → cond (filedLists l .used (12 * b + r)) (strayAt (layout (kindOf (written l) b)) (written l) (recordAt b r)) (strayIn (written l) (recordAt b r) 40) ≡ false
+              → cond (filedLists l .used (12 * b + r)) (strayAt (layout (kindOf (written e l) b)) (written e l) (recordAt b r)) (strayIn (written e l) (recordAt b r) 40) ≡ false
           go true u = rw u (used-read u .1)
-          go false u = rw u (zeros-read 40 (written l) (recordAt b r) (rw u at (read .records r h)))
+          go false u = rw u (zeros-read 40 (written e l) (recordAt b r) (rw u at (read .records r h)))

@@ -1,51 +1,59 @@
 -- THE SECOND ROUND TRIP: an accepted return, read and written again, is itself. Assumes nothing.
+--     cut-back        its rows in one area, cut by their lengths, are its row lists
 --     rows-clean      no rule of writing is broken by its rows
 --     written-back    and the bytes written are its own
 use Prim.Native.Nat.{ℕ, zero, suc, _+_, _*_, _/_, _%_, _<_, _≤_}
-use mathlib.Core.Path.{_≡_, refl, sym, ap, _∙_}
-use mathlib.Core.Bool.{false, not, _&&_, _||_}
-use mathlib.Core.List.{List, flatten}
-use native.Mathlib.Nat.{zero-add, mul-mod-right}
-use native.Mathlib.Decide.{decLt}
+use mathlib.Core.Path.{_≡_, refl, sym, ap, ap₂, _∙_}
+use mathlib.Core.Bool.{false, not, _&&_, _||_, and-false}
+use mathlib.Core.List.{List, [], _∷_, flatten, map}
+use native.Mathlib.Nat.{zero-add, mul-mod-right, mul-div-cancel-left}
+use native.Mathlib.Decide.{decLt, ℕ-discrete}
 use native.Mathlib.Omega.{arith}
 use lib.Dec.{eqb, lit<}
-use lib.ListN.{length, List·getD-eq-default}
-use borrow.Author.Tests.{le-ltb, eq-eqb}
+use lib.ListN.{length, getD, List·getD-eq-default}
+use borrow.Author.Tests.{le-ltb, eq-eqb, ne-eqb}
 use Rattle.form.specs.Ruling.{rule, ruling}
 use Rattle.form.specs.Bytes.{byteAt}
-use Rattle.form.specs.Layout.{numbersOf}
-use Rattle.form.specs.Block.{blocks, kindFalls, wrongEnd, fourthOfKind, badCount, notFilled, overFilled, stray, badCheck, badHeader, badBlock}
+use Rattle.form.specs.Layout.{kinds, parametersKind, numbersOf}
+use Rattle.form.specs.Block.{blocks, edition, kindFalls, wrongEnd, fourthOfKind, badCount, notFilled, overFilled, stray, badCheck, badHeader, badBlock}
 use Rattle.form.specs.Records.{filed, recordRules}
-use Rattle.form.specs.Verdict.{blockRules, rules, rowCount, rows, verdictOf}
+use Rattle.form.specs.Verdict.{blockRules, rules, rowCount, countList, verdictOf}
 use Rattle.form.specs.declared.Counts.{Counts}
-use Rattle.form.specs.declared.Ruling.{Ruling}
-use Rattle.form.specs.declared.Ruling.the-variants.{Clean, Broken}
+use Rattle.form.specs.declared.Ruling.the-variants.{Clean}
 use Rattle.form.specs.declared.Verdict.the-variants.{Accepted}
 use Rattle.form.proofs.Search.{first-is-none}
-use Rattle.form.proofs.Order.{kept, orRule, ruling-append, Kept, AllKept, more, ruling-clean}
+use Rattle.form.proofs.Order.{kept, or-second, ruling-append, Kept, AllKept, more, ruling-clean}
 use Rattle.form.proofs.Tests.{or-none}
-use Rattle.form.proofs.Accepted.{accepted-ruling, in-order, whole-blocks, few-rows, one-row}
-use Rattle.filing.specs.Lists.{ofKind, rowsIn, filedLists}
+use Rattle.form.proofs.EachKind.{known-edition}
+use Rattle.form.proofs.Stand.{headed}
+use Rattle.form.proofs.Accepted.{eachFrom, counts-listed, accepted-counts, accepted-ruling, in-order, whole-blocks, few-rows, one-row}
+use Rattle.filing.specs.Lists.{Lists, cut, total, rowsIn, filedLists}
 use Rattle.filing.specs.Written.{inTurn, blockOf, bytesOf}
 use Rattle.filing.proofs.Stands.{Stands, stands-all, Bytes}
 use Rattle.filing.proofs.Parts.{length-block}
+use Rattle.form.proofs.Fields.{some-numbers}
 use Rattle.filing.proofs.Alike.{alike-part, block-alike}
-use Rattle.lists.specs.Rules.{badList, listRules}
-use Rattle.rows.specs.Reading.{rowLists}
+use Rattle.filing.proofs.Cut.{cut-flat, total-flat}
+use Rattle.lists.specs.Rules.{badList, badLengths, badAt, listRules}
+use Rattle.rows.specs.Reading.{rowsOf, listsFrom, rowLists, lengthsFrom, lengthsOf}
 use Rattle.rows.specs.Writing.{written}
-use Rattle.rows.proofs.Return.{places-blocks, length-written}
+use Rattle.rows.proofs.Return.{places-from, length-written}
 use Rattle.rows.proofs.Rows.{rows-long}
 use Rattle.trips.proofs.Same.{rules-same, solid-lists}
 use Rattle.trips.proofs.Blocks.{turns-stand, block-stands}
 use Rattle.trips.proofs.Rooms.{rows-counted, lists-places, lists-alike}
 
-or-second : (u v : Ruling) → orRule u v ≡ Clean → v ≡ Clean
-or-second Clean v e = e
-or-second (Broken n i) v e = let z : _≡_ {A = ℕ} 0 1 = cc in absurd (omega arith)
+length-map : (l : Lists) → length (map length l) ≡ length l
+length-map [] = refl
+length-map (x ∷ l) = ap suc (length-map l)
 
-good-list : (kind : ℕ) (r : List ℕ) → length r % numbersOf kind ≡ 0 → rowsIn kind r ≤ 32 → (eqb kind 4 && not (eqb (rowsIn kind r) 1)) ≡ false → badList kind r ≡ false
+good-list : (kind n : ℕ) → n % numbersOf kind ≡ 0 → rowsIn kind n ≤ 32 → (kind ≡ parametersKind → rowsIn kind n ≡ 1) → badList kind n ≡ false
 unfolding badList
-good-list kind r m few one = rw (eq-eqb (length r % numbersOf kind) 0 m, le-ltb 32 (rowsIn kind r) few, one)
+good-list kind n m few one = rw (eq-eqb (n % numbersOf kind) 0 m, le-ltb 32 (rowsIn kind n) few) (go (ℕ-discrete kind parametersKind))
+  where
+    go : Dec (kind ≡ parametersKind) → (eqb kind parametersKind && not (eqb (rowsIn kind n) 1)) ≡ false
+    go (yes e) = simp (eq-eqb (rowsIn kind n) 1 (one e), and-false)
+    go (no d) = rw (ne-eqb kind parametersKind d)
 
 -- what rules 2 to 4 say of a block
 block-kept : (s : List ℕ) → AllKept (rules s) → (b : ℕ) → b < blocks s → (badCheck s b ≡ false) × (badHeader s b ≡ false) × (badBlock s b ≡ false)
@@ -57,43 +65,87 @@ unfolding badBlock
 no-stray s b e = or-none (kindFalls s b || wrongEnd s b || fourthOfKind s b || badCount s b || notFilled s b || overFilled s b) (stray s b) e .1
 
 module _ (s : List ℕ) (c : Counts) (acc : verdictOf s ≡ Accepted c) where
-  list-good : (k : ℕ) (h : k < 4) → (eqb (suc k) 4 && not (eqb (rowsIn (suc k) (flatten (rows (suc k) s))) 1)) ≡ false → badList (suc k) (flatten (rows (suc k) s)) ≡ false
-  list-good k h one =
-      let r = flatten (rows (suc k) s) in
+  lists-length : (k n : ℕ) → length (listsFrom s k n) ≡ n
+  unfolding listsFrom
+  lists-length k zero = refl
+  lists-length k (suc n) = ap suc (lists-length (suc k) n)
+
+  list-at : (n k i : ℕ) → i < n → getD (map length (listsFrom s k n)) i 0 ≡ length (rowsOf s (k + i))
+  unfolding listsFrom
+  list-at zero k i h = absurd (omega arith)
+  list-at (suc n) k zero h = let e : k + 0 ≡ k = omega arith in rw e
+  list-at (suc n) k (suc i) h = let e : k + suc i ≡ suc k + i = omega arith in rw e (list-at n (suc k) i (omega arith))
+
+  length-at : (k : ℕ) → k < kinds → getD (map length (rowLists s)) k 0 ≡ numbersOf (suc k) * rowCount (suc k) s
+  length-at k h = let e : 1 + k ≡ suc k = omega arith in list-at kinds 1 k h ∙ rw e (rows-long s c acc k h)
+
+  -- as the counts give them
+  lengths-from : (n k : ℕ) → k + n ≡ kinds → lengthsFrom (suc k) (eachFrom (λ x. rowCount x s) (suc k) n) ≡ map length (listsFrom s (suc k) n)
+  unfolding lengthsFrom eachFrom listsFrom
+  lengths-from zero k h = refl
+  lengths-from (suc n) k h =
+      ap₂ (λ (x : ℕ) (y : List ℕ). x ∷ y) (sym (rows-long s c acc k (omega arith))) (lengths-from n (suc k) (omega arith))
+
+  pub lengths-are : lengthsOf c ≡ map length (rowLists s)
+  lengths-are =
+      ap (λ (x : Counts). lengthsFrom 1 (countList x)) (accepted-counts s c acc)
+      ∙ ap (lengthsFrom 1) (counts-listed s)
+      ∙ lengths-from kinds 0 (omega arith)
+
+  -- the area of the rows, cut by their lengths, is the lists
+  pub cut-back : cut (map length (rowLists s)) (flatten (rowLists s)) ≡ rowLists s
+  cut-back = cut-flat (rowLists s)
+
+  list-good : (k : ℕ) → k < kinds → badList (suc k) (getD (map length (rowLists s)) k 0) ≡ false
+  list-good k h =
       let n = rows-counted s c acc k h in
-      let m : length r % numbersOf (suc k) ≡ 0 =
-      ap (λ (x : ℕ). x % numbersOf (suc k)) (rows-long s c acc (suc k) (omega arith) (omega arith)) ∙ mul-mod-right (numbersOf (suc k)) (rowCount (suc k) s) in
-      good-list (suc k) r m (rw n (few-rows s c acc (suc k))) one
+      rw (length-at k h)
+      (good-list (suc k) (numbersOf (suc k) * rowCount (suc k) s) (mul-mod-right (numbersOf (suc k)) (rowCount (suc k) s))
+      (rw count (few-rows s c acc (suc k)))
+      (λ e. rw count (rw e (one-row s c acc))))
+    where
+      count : rowsIn (suc k) (numbersOf (suc k) * rowCount (suc k) s) ≡ rowCount (suc k) s
+      count = mul-div-cancel-left (rowCount (suc k) s) (some-numbers k h)
 
-  kinds-good : (k : ℕ) → k < 5 → badList k (ofKind (rowLists s) k) ≡ false
-  unfolding badList
-  kinds-good zero h = refl
-  kinds-good (suc zero) h = list-good 0 (lit< tt) refl
-  kinds-good (suc (suc zero)) h = list-good 1 (lit< tt) refl
-  kinds-good (suc (suc (suc zero))) h = list-good 2 (lit< tt) refl
-  kinds-good (suc (suc (suc (suc zero)))) h = list-good 3 (lit< tt) (rw (eq-eqb (rowsIn 4 (flatten (rows 4 s))) 1 (rows-counted s c acc 3 (lit< tt) ∙ one-row s c acc)))
-  kinds-good (suc (suc (suc (suc (suc k))))) h = absurd (omega arith)
+  lengths-good : badLengths (map length (rowLists s)) (length (flatten (rowLists s))) ≡ false
+  unfolding badLengths
+  lengths-good =
+      rw (eq-eqb (length (map length (rowLists s))) kinds (length-map (rowLists s) ∙ lists-length 1 kinds), eq-eqb (total (map length (rowLists s))) _ (total-flat (rowLists s)))
 
-  pub rows-clean : ruling (listRules (rowLists s)) ≡ Clean
+  all-good : (p : ℕ) → p < suc kinds → badAt (map length (rowLists s)) (length (flatten (rowLists s))) p ≡ false
+  all-good zero h = lengths-good
+  all-good (suc k) h = list-good k (omega arith)
+
+  pub rows-clean : ruling (listRules (edition s 0) (map length (rowLists s)) (flatten (rowLists s))) ≡ Clean
   unfolding listRules
   rows-clean =
       let f = filedLists (rowLists s) in
-      let records : ruling (recordRules (filed s)) ≡ Clean =
-      or-second (ruling (blockRules s)) (ruling (recordRules (filed s))) (sym (ruling-append (blockRules s) (recordRules (filed s))) ∙ accepted-ruling s c acc) in
-      let same = rules-same f (filed s) (lists-alike s c acc) (solid-lists (rowLists s)) (lists-places s c acc) in
-      sym (kept (rule 10 5 (λ kind. badList kind (ofKind (rowLists s) kind))) (recordRules f)
-      (first-is-none (λ kind. badList kind (ofKind (rowLists s) kind)) 5 kinds-good) (sym (same ∙ records)))
+      let e = edition s 0 in
+      let records : ruling (recordRules e (filed s)) ≡ Clean =
+      or-second (ruling (blockRules s)) (ruling (recordRules e (filed s))) (sym (ruling-append (blockRules s) (recordRules e (filed s))) ∙ accepted-ruling s c acc) in
+      let same = rules-same e f (filed s) (lists-alike s c acc) (lists-places s c acc) (solid-lists 1 (rowLists s)) in
+      rw cut-back
+      (sym (kept (rule 10 (suc kinds) (badAt (map length (rowLists s)) (length (flatten (rowLists s))))) (recordRules e f)
+      (first-is-none (badAt (map length (rowLists s)) (length (flatten (rowLists s)))) (suc kinds) all-good) (sym (same ∙ records))))
 
-  pub written-back : ((i : ℕ) → i < length s → byteAt s i < 256) → written (rowLists s) ≡ s
+  -- one edition throughout
+  pub same-edition : (b : ℕ) → b < blocks s → edition s b ≡ 1
+  same-edition b h = known-edition (edition s b) (headed s b (block-kept s (ruling-clean (accepted-ruling s c acc)) b h .1) .edition)
+
+  pub first-is-one : edition s 0 ≡ 1
+  first-is-one = let w = whole-blocks s c acc in same-edition 0 (omega arith)
+
+  pub written-back : ((i : ℕ) → i < length s → byteAt s i < 256) → written (edition s 0) (rowLists s) ≡ s
   unfolding bytesOf
   written-back small =
       let f = filedLists (rowLists s) in
+      let e = edition s 0 in
       let n : f .places / 12 ≡ blocks s = omega (arith, lists-places s c acc) in
       let w = whole-blocks s c acc in
-      let long : length s ≡ length (written (rowLists s)) = omega (arith, length-written (rowLists s), places-blocks (rowLists s), lists-places s c acc) in
-      let stands : Stands s 0 (inTurn (blockOf f 0 (blocks s)) 0 (blocks s)) =
-      turns-stand (blockOf f 0 (blocks s)) 512 (length-block f 0 (blocks s)) s (blocks s) 0 0 block in
-      sym (stands-all s (written (rowLists s)) long (rw n stands))
+      let long : length s ≡ length (written e (rowLists s)) = omega (arith, length-written e (rowLists s), places-from 1 (rowLists s), lists-places s c acc) in
+      let stands : Stands s 0 (inTurn (blockOf e f 0 (blocks s)) 0 (blocks s)) =
+      turns-stand (blockOf e f 0 (blocks s)) 512 (length-block f e 0 (blocks s)) s (blocks s) 0 0 block in
+      sym (stands-all s (written e (rowLists s)) long (rw n stands))
     where
       bytes : Bytes s
       bytes i = go (decLt i (length s))
@@ -102,11 +154,12 @@ module _ (s : List ℕ) (c : Counts) (acc : verdictOf s ≡ Accepted c) where
           go (yes l) = small i l
           go (no l) = rw (List·getD-eq-default s 0 {n = i} (omega arith)) (lit< tt)
 
-      block : (b : ℕ) → b < blocks s → Stands s (0 + 512 * b) (blockOf (filedLists (rowLists s)) 0 (blocks s) (0 + b))
+      block : (b : ℕ) → b < blocks s → Stands s (0 + 512 * b) (blockOf (edition s 0) (filedLists (rowLists s)) 0 (blocks s) (0 + b))
       block b l =
           let f = filedLists (rowLists s) in
           let k = block-kept s (ruling-clean (accepted-ruling s c acc)) b l in
           let w = whole-blocks s c acc in
-          let same = block-alike {f = f} {g = filed s} b b 0 0 (blocks s) (alike-part (lists-alike s c acc) (12 * b) 12 (omega (arith, lists-places s c acc)) (zero-add (12 * b)) (zero-add (12 * b))) refl in
+          let e = edition s 0 in
+          let same = block-alike {f = f} {g = filed s} e b b 0 0 (blocks s) (alike-part (lists-alike s c acc) (12 * b) 12 (omega (arith, lists-places s c acc)) (zero-add (12 * b)) (zero-add (12 * b))) refl in
           rw (zero-add (512 * b), zero-add b, same)
-          (block-stands s b bytes (omega arith) (k .0) (k .1) (no-stray s b (k .2)) (in-order s c acc .twelve b l))
+          (block-stands s b bytes (omega arith) e (same-edition b l ∙ sym first-is-one) (k .0) (k .1) (no-stray s b (k .2)) (in-order s c acc .twelve b l))

@@ -1,13 +1,10 @@
 -- Worked examples: the definitions compute. Assumes nothing.
 use mathlib.Core.Path.{_≡_, refl}
-use mathlib.Core.List.{[], _∷_}
 use Prim.Native.Nat.{_+_, _-_, _*_, _^_}
 use lib.IntN.{pos, negsuc}
-use lib.ListN.{replicate}
 use Rattle.wide.specs.Numbers.{value}
 use Rattle.wide.specs.Rounding.{settled, nearest}
 use Rattle.wide.specs.Signs.{nearestZ}
-use Rattle.wide.specs.Digits.{digits, decimal, marked}
 
 two-words : value (record { lo = 5; hi = 1 }) ≡ 2 ^ 64 + 5
 unfolding value
@@ -34,16 +31,3 @@ half-below-zero = refl
 quarter-below-zero : nearestZ (negsuc 0) 4 ≡ pos 0
 unfolding settled
 quarter-below-zero = refl
-
--- 0, 320000000000000000000 and -6 as text
-nothing : decimal 0 ≡ 48 ∷ []
-unfolding digits
-nothing = refl
-
-largest : decimal (32 * 10 ^ 19) ≡ 51 ∷ 50 ∷ replicate 19 48
-unfolding digits
-largest = refl
-
-minus-six : marked (negsuc 5) ≡ 45 ∷ 54 ∷ []
-unfolding digits
-minus-six = refl

@@ -1,5 +1,4 @@
 pub mod Numbers
 pub mod Rounding
 pub mod Signs
-pub mod Digits
 mod Examples

@@ -1,7 +1,6 @@
 // Exact numbers beyond one word.
 pub mod rounding;
 pub mod signed;
-pub mod text;
 
 ghost use mathlib.Core.Path.{_≡_};
 ghost use Prim.Native.Nat.{_+_, _-_, _*_, _/_, _%_, _^_, _<_, _≤_};

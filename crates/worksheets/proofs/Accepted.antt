@@ -7,10 +7,11 @@ use mathlib.Core.List.{List, []}
 use native.Mathlib.Omega.{arith}
 use lib.Dec.{lit<, lit≤}
 use lib.ListN.{getD}
-use Rattle.form.specs.Layout.{field, parameters}
+use Rattle.form.specs.Layout.{field, parametersKind, parameters}
 use Rattle.form.specs.Verdict.{rows, verdictOf}
 use Rattle.form.specs.declared.Counts.{Counts}
 use Rattle.form.specs.declared.Verdict.the-variants.{Accepted}
+use Rattle.form.proofs.EachKind.{parameters-last}
 use Rattle.form.proofs.Accepted.{one-row, limit-of, within}
 use Rattle.wide.specs.Numbers.{value}
 use Rattle.totals.specs.Columns.{columnE, columnK}
@@ -31,8 +32,8 @@ ratios s c acc = record {
   nox = fits 5 (lit< tt);
 }
   where
-    fits : (i : ℕ) → i < 6 → getD (getD (rows 4 s) 0 []) i 0 ≤ getD parameters i (field 0 0 0) .limit
-    fits i l = limit-of parameters _ i (field 0 0 0) l (within s c acc 4 0 (lit≤ tt) (lit≤ tt) (omega (arith, one-row s c acc)))
+    fits : (i : ℕ) → i < 6 → getD (getD (rows parametersKind s) 0 []) i 0 ≤ getD parameters i (field 0 0 0) .limit
+    fits i l = limit-of parameters _ i (field 0 0 0) l (within s c acc parametersKind 0 (lit≤ tt) (omega (arith, parameters-last)) (omega (arith, one-row s c acc)))
 
 pub figures-are : (s : List ℕ) (f : Figures) {t : Totals} {p : Parameters} {e k : ℕ} → Summed t (rows 1 s) → p ≡ given s → e ≡ columnE s → k ≡ columnK s
     → (stocksSaid (f .stocks) ≡ stocksOf e k (value (t .cleared .0)) (p .n)) × Plain (f .stocks)

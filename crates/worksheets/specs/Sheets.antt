@@ -3,6 +3,7 @@ use Prim.Native.Nat.{ℕ, _+_, _*_, _^_, _≤_}
 use mathlib.Core.List.{List, []}
 use lib.ListN.{getD}
 use lib.IntN.{ℤ, pos, negℤ, _-ℤ_, _*ℤ_}
+use Rattle.form.specs.Layout.{parametersKind}
 use Rattle.form.specs.Verdict.{rows}
 use Rattle.wide.specs.Rounding.{nearest}
 use Rattle.wide.specs.Signs.{nearestZ}
@@ -15,7 +16,7 @@ parametersOf r = record { n = getD r 0 0; ch4 = getD r 1 0; co = getD r 2 0; nc 
 
 -- "always one parameter row"
 abbrev pub given : List ℕ → Parameters
-given s = parametersOf (getD (rows 4 s) 0 [])
+given s = parametersOf (getD (rows parametersKind s) 0 [])
 
 -- "The workbook's default ratios stand with the parameter type itself: N 500, CH4 12, CO 60, N/C 10, N2O 7, NOx 121."
 abbrev pub standard : Parameters

@@ -24,11 +24,12 @@ use crate::units::net_co2;
 use crate::units::net_wood;
 use crate::units::nitrogen_in;
 use form::Counts;
+use form::PARAMETERS;
+use form::first_block;
 use form::row_start;
 use form::two_at;
 use totals::Carbon;
 use totals::DryMatter;
-use totals::blocks_for;
 
 // The parameter row, in thousandths.
 pub struct Parameters {
@@ -87,7 +88,7 @@ pub fn read_parameters(bytes: &[u8], c: Counts) -> Parameters
     requires { ⌜ verdictOf (now bytes) ≡ Accepted c ⌝ }
     ensures { λ r. ⌜ r ≡ given (now (bytes .entry)) ⌝ }
 {
-    let first = blocks_for(c.conversion) + blocks_for(c.stock) + blocks_for(c.harvest);
+    let first = first_block(c, PARAMETERS);
     parameters_at(bytes, row_start(first, 0))
 }
 

@@ -103,17 +103,16 @@ mod run {
     #[cfg(plain)]
     #[allow(unsafe_code)]
     mod plain {
+        #[cfg(feature = "rows")]
+        use second::kinds::ROWS_ROOM;
+
         extern "C" {
             fn plain_judge(bytes: *const u8, length: usize, counts: *mut u32) -> u32;
             #[cfg(feature = "doubles")]
             fn plain_subtotal(bytes: *const u8, length: usize, code: u32, room: *mut f64) -> u32;
             #[cfg(feature = "rows")]
-            fn plain_read(
-                bytes: *const u8,
-                length: usize,
-                rooms: *const *mut u32,
-                counts: *mut u32,
-            ) -> u32;
+            fn plain_read(bytes: *const u8, length: usize, rows: *mut u32, counts: *mut u32)
+                -> u32;
         }
 
         // In each, every pointer is good for what the C function does with it.
@@ -126,18 +125,11 @@ mod run {
             unsafe { plain_subtotal(bytes.as_ptr(), bytes.len(), code, room) }
         }
 
-        /// Rooms for 480 numbers each, which any return's rows fit.
+        /// Room for any return's rows.
         #[cfg(feature = "rows")]
-        pub fn read(bytes: &[u8], rooms: &mut [[u32; 480]; 4], counts: &mut [u32; 4]) -> u32 {
-            let rooms = rooms.each_mut().map(|room| room.as_mut_ptr());
-            unsafe {
-                plain_read(
-                    bytes.as_ptr(),
-                    bytes.len(),
-                    rooms.as_ptr(),
-                    counts.as_mut_ptr(),
-                )
-            }
+        pub fn read(bytes: &[u8], rows: &mut [u32; ROWS_ROOM], counts: &mut [u32; 4]) -> u32 {
+            let (rows, counts) = (rows.as_mut_ptr(), counts.as_mut_ptr());
+            unsafe { plain_read(bytes.as_ptr(), bytes.len(), rows, counts) }
         }
     }
 
@@ -245,62 +237,58 @@ mod run {
     mod rows {
         use super::*;
         use second::ffi::rows::{first_read, first_write};
-        use second::reader::{read, Rooms};
+        use second::kinds::{RETURN_ROOM, ROWS_ROOM};
+        use second::reader::read;
         use second::rowlists::RowLists;
         use second::writer::write;
 
         pub fn bench(load: &Load) {
-            let [mut a, mut b] = [const { [const { [0u32; 480] }; 5] }; 2];
+            let [mut a, mut b] = [[0; ROWS_ROOM]; 2];
+            let [mut counts_a, mut counts_b] = [[0; 4]; 2];
             bench_two(
                 "read",
                 load,
                 &load.returns,
                 |bytes| {
-                    let rooms = a.each_mut().map(|room| Lent::whole(room.as_mut_slice()));
-                    assert_eq!(first_read(black_box(bytes), rooms), 0);
+                    let (rows, counts) = (Lent::whole(&mut a), Lent::whole(&mut counts_a));
+                    assert_eq!(first_read(black_box(bytes), rows, counts), 0);
                 },
-                |bytes| {
-                    let [conversion, stock, harvest, parameters, counts] = &mut b;
-                    let rooms = Rooms {
-                        conversion,
-                        stock,
-                        harvest,
-                        parameters,
-                        counts,
-                    };
-                    assert_eq!(read(black_box(bytes), rooms), 0);
-                },
+                |bytes| assert_eq!(read(black_box(bytes), &mut b, &mut counts_b), 0),
             );
 
             #[cfg(plain)]
             {
-                let (mut c, mut counts) = ([[0u32; 480]; 4], [0; 4]);
+                let (mut c, mut counts_c) = ([0; ROWS_ROOM], [0; 4]);
                 let done = bench_two(
                     "read/C",
                     load,
                     &load.returns,
                     |bytes| {
-                        let rooms = a.each_mut().map(|room| Lent::whole(room.as_mut_slice()));
-                        assert_eq!(first_read(black_box(bytes), rooms), 0);
+                        let (rows, counts) = (Lent::whole(&mut a), Lent::whole(&mut counts_a));
+                        assert_eq!(first_read(black_box(bytes), rows, counts), 0);
                     },
-                    |bytes| assert_eq!(plain::read(black_box(bytes), &mut c, &mut counts), 0),
+                    |bytes| assert_eq!(plain::read(black_box(bytes), &mut c, &mut counts_c), 0),
                 );
-                assert!(!done || a[..4] == c);
+                assert!(!done || (a, counts_a) == (c, counts_c));
             }
 
             let lists = load.rows.iter();
             let lists: Vec<RowLists> = lists.map(|r| RowLists::of(String::new(), r)).collect();
-            let [mut a, mut b] = [[0; 5_120]; 2];
+            let [mut a, mut b] = [[0; RETURN_ROOM]; 2];
             let [mut size_a, mut size_b] = [[0; 1]; 2];
             bench_two(
                 "write",
                 load,
                 &lists,
                 |lists| {
+                    let RowLists { rows, lengths, .. } = black_box(lists);
                     let (room, size) = (Lent::whole(&mut a), Lent::whole(&mut size_a));
-                    assert_eq!(first_write(black_box(lists).borrow(), room, size), 0);
+                    assert_eq!(first_write(rows, lengths, room, size), 0);
                 },
-                |lists| assert_eq!(write(black_box(lists).borrow(), &mut b, &mut size_b), 0),
+                |lists| {
+                    let RowLists { rows, lengths, .. } = black_box(lists);
+                    assert_eq!(write(rows, lengths, &mut b, &mut size_b), 0);
+                },
             );
             // With no room all rules are tried and nothing is written.
             bench_two(
@@ -308,10 +296,14 @@ mod run {
                 load,
                 &lists,
                 |lists| {
+                    let RowLists { rows, lengths, .. } = black_box(lists);
                     let (room, size) = (Lent::front(&mut a, 0), Lent::whole(&mut size_a));
-                    assert_eq!(first_write(black_box(lists).borrow(), room, size), 9000);
+                    assert_eq!(first_write(rows, lengths, room, size), 9000);
                 },
-                |lists| assert_eq!(write(black_box(lists).borrow(), &mut [], &mut size_b), 9000),
+                |lists| {
+                    let RowLists { rows, lengths, .. } = black_box(lists);
+                    assert_eq!(write(rows, lengths, &mut [], &mut size_b), 9000);
+                },
             );
         }
     }

@@ -20,6 +20,9 @@ mul-byte-at-2 c = search needs
 byte-at-requires-2 : tie.Need-byte-at-requires-2
 byte-at-requires-2 c κs = search needs
 
+cast-result : tie.Need-cast-result
+cast-result c = search needs
+
 returns : tie.Need-returns
 unfolding badCount
 returns c = cc
@@ -27,4 +30,4 @@ returns c = cc
 pub bad-count-spec : {M : Type 1} → statement M
 bad-count-spec =
     tie.close
-    (tie.spec mul-byte-at add-byte-at byte-at-requires mul-byte-at-2 byte-at-requires-2 returns)
+    (tie.spec mul-byte-at add-byte-at byte-at-requires mul-byte-at-2 byte-at-requires-2 cast-result returns)

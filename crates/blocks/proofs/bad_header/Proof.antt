@@ -4,6 +4,11 @@ use native.Mathlib.Omega.{arith}
 use borrow.Author.Needs.{needs}
 use Rattle.blocks.proofs.bad_header.Statement.{statement}
 use Rattle.blocks.proofs.bad_header.Tie as tie
+use Rattle.blocks.proofs.bad_header.Reads as reads
+use Rattle.blocks.proofs.bad_header.Lts as lts
+use Rattle.form.proofs.byte_at.Reads as byte-at-reads
+use Rattle.form.proofs.last_kind.Reads as last-kind-reads
+use Rattle.form.proofs.two_at.Reads as two-at-reads
 
 mul-byte-at : tie.Need-mul-byte-at
 mul-byte-at c = search needs
@@ -20,8 +25,8 @@ add-two-at c = search needs
 two-at-requires : tie.Need-two-at-requires
 two-at-requires c κs = search needs
 
-cast-result : tie.Need-cast-result
-cast-result c = search needs
+last-kind-requires : tie.Need-last-kind-requires
+last-kind-requires c κs = search needs
 
 mul-two-at-2 : tie.Need-mul-two-at-2
 mul-two-at-2 c = search needs
@@ -32,8 +37,8 @@ add-two-at-2 c = search needs
 two-at-requires-2 : tie.Need-two-at-requires-2
 two-at-requires-2 c κs = search needs
 
-cast-result-2 : tie.Need-cast-result-2
-cast-result-2 c = search needs
+cast-result : tie.Need-cast-result
+cast-result c = search needs
 
 mul-two-at-3 : tie.Need-mul-two-at-3
 mul-two-at-3 c = search needs
@@ -43,6 +48,9 @@ add-two-at-3 c = search needs
 
 two-at-requires-3 : tie.Need-two-at-requires-3
 two-at-requires-3 c κs = search needs
+
+cast-result-2 : tie.Need-cast-result-2
+cast-result-2 c = search needs
 
 returns : tie.Need-returns
 unfolding badHeader
@@ -57,12 +65,13 @@ bad-header-spec =
     mul-two-at
     add-two-at
     two-at-requires
-    cast-result
+    last-kind-requires
     mul-two-at-2
     add-two-at-2
     two-at-requires-2
-    cast-result-2
+    cast-result
     mul-two-at-3
     add-two-at-3
     two-at-requires-3
+    cast-result-2
     returns)

@@ -1,5 +1,6 @@
 -- `blocks::bad_length` meets its contract. Assumes nothing.
 use mathlib.Core.Path.{refl}
+use Rattle.form.specs.Layout.{kinds}
 use Rattle.form.specs.Block.{badLength}
 use borrow.Author.Needs.{needs}
 use native.Mathlib.Omega.{arith}
@@ -7,7 +8,7 @@ use Rattle.blocks.proofs.bad_length.Statement.{statement}
 use Rattle.blocks.proofs.bad_length.Tie as tie
 
 returns : tie.Need-returns
-unfolding badLength
+unfolding badLength kinds
 returns c = refl
 
 pub bad-length-spec : {M : Type 1} → statement M

@@ -11,6 +11,9 @@ mul-byte-at c = search needs
 byte-at-requires : tie.Need-byte-at-requires
 byte-at-requires c κs = search needs
 
+cast-parameters : tie.Need-cast-parameters
+cast-parameters c = search needs
+
 add-last : tie.Need-add-last
 add-last c = search needs
 
@@ -19,4 +22,4 @@ unfolding wrongEnd
 returns c = cc
 
 pub wrong-end-spec : {M : Type 1} → statement M
-wrong-end-spec = tie.close (tie.spec mul-byte-at byte-at-requires add-last returns)
+wrong-end-spec = tie.close (tie.spec mul-byte-at byte-at-requires cast-parameters add-last returns)

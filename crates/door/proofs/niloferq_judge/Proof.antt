@@ -3,6 +3,7 @@ use denote.Ref.{now}
 use mathlib.Core.Path.{_≡_, refl, sym, ap, _∙_}
 use native.Mathlib.Omega.{arith}
 use Rattle.form.proofs.Meaning.{small}
+use Rattle.form.proofs.EachKind.{kinds-are, few-kinds}
 use Rattle.door.proofs.Rooms.{refused-out, short-out, done-out}
 use borrow.Author.Needs.{needs}
 use Rattle.door.proofs.niloferq_judge.Statement.{statement}
@@ -17,7 +18,7 @@ enum-known-number c = search needs
 refusal-requires : tie.Need-refusal-requires
 refusal-requires c κs =
     let e = c .before .before .before in
-    omega (arith, small _ _ _ (sym (e .judge .ensures) ∙ c .before .number .given .1) .1)
+    omega (arith, few-kinds, small _ _ _ (sym (e .judge .ensures) ∙ c .before .number .given .1) .1)
 
 enum-known-c : tie.Need-enum-known-c
 enum-known-c c = search needs
@@ -29,10 +30,10 @@ returns : tie.Need-returns
 returns c =
     let d = c .before .before in
     let e = d .before .before .before in
-    short-out _ _ _ _ (sym (e .judge .ensures) ∙ d .before .c .given .1) (c .before .if1 .taken) (c .refusal2 .ensures)
+    short-out _ _ _ _ (sym (e .judge .ensures) ∙ d .before .c .given .1) (omega (arith, kinds-are, c .before .if1 .taken)) (c .refusal2 .ensures)
 
 put-counts-requires : tie.Need-put-counts-requires
-put-counts-requires c κs = search needs
+put-counts-requires c κs = omega (arith, kinds-are, c .before .if1 .left)
 
 returns-2 : tie.Need-returns-2
 returns-2 c =
@@ -48,7 +49,7 @@ returns-3 c =
     let d = c .before .before .before .before .before in
     let e = d .before .before .before in
     let a = e .before .before .before .args in
-    done-out (now (a .bytes)) (now (a .counts)) _ _ (sym (e .judge .ensures) ∙ d .before .c .given .1) (c .before .before .before .before .if1 .left) (c .before .before .put-counts .ensures)
+    done-out (now (a .bytes)) (now (a .counts)) _ _ (sym (e .judge .ensures) ∙ d .before .c .given .1) (omega (arith, kinds-are, c .before .before .before .before .if1 .left)) (c .before .before .put-counts .ensures)
 
 pub niloferq-judge-spec : {M : Type 1} → statement M
 niloferq-judge-spec =

@@ -1,15 +1,12 @@
 -- `door::niloferq_read` meets its contract. Assumes nothing.
 use denote.Ref.{now}
 use mathlib.Core.Path.{sym, ap, _∙_}
-use Rattle.filing.specs.Lists.{Lists, lists}
+use Rattle.form.proofs.EachKind.{kinds-are}
 use Rattle.door.proofs.Reading.{codeBy, countsBy, judged-out, read-out, read-small}
 use native.Mathlib.Omega.{arith}
 use borrow.Author.Needs.{needs}
 use Rattle.door.proofs.niloferq_read.Statement.{statement}
 use Rattle.door.proofs.niloferq_read.Tie as tie
-
-abbrev rooms : tie.Start → Lists
-rooms c = let a = c .args in lists (now (a .conversion)) (now (a .stock)) (now (a .harvest)) (now (a .parameters))
 
 niloferq-judge-requires : tie.Need-niloferq-judge-requires
 niloferq-judge-requires c κs = search needs
@@ -21,8 +18,8 @@ returns : tie.Need-returns
 returns c =
     let j = c .before .before in
     let t = j .before .before in
-    let enter = t .before .before .before .before .before .before .before in
-    judged-out (now (enter .args .bytes)) (rooms enter) (now (enter .args .counts)) (t .if1 .taken) (j .niloferq-judge .ensures .0) (j .niloferq-judge .ensures .1)
+    let a = t .before .before .before .before .args in
+    judged-out (now (a .bytes)) (now (a .rows)) (now (a .counts)) (omega (arith, kinds-are, t .if1 .taken)) (j .niloferq-judge .ensures .0) (j .niloferq-judge .ensures .1)
 
 read-requires : tie.Need-read-requires
 read-requires c κs = search needs
@@ -32,17 +29,29 @@ enum-known-number c = search needs
 
 refusal-requires : tie.Need-refusal-requires
 refusal-requires c κs =
-    let r = c .before .before .before .before .before .before .before .before .before .before .before in
+    let r = c .before .before .before .before .before in
     read-small _ _ (sym (r .read .ensures .0) ∙ c .before .number .given .1)
 
 enum-known-c : tie.Need-enum-known-c
 enum-known-c c = search needs
 
 put-counts-requires : tie.Need-put-counts-requires
-put-counts-requires c κs = search needs
+put-counts-requires c κs =
+    let t = c .before .before .before .before .before .before .before .before in
+    omega (arith, kinds-are, t .if1 .left)
 
 same-length-2 : tie.Need-same-length-2
 same-length-2 c = search needs
+
+returns-2 : tie.Need-returns-2
+returns-2 c =
+    let r = c .before .before .before .before .before .before in
+    let t = r .before .before in
+    let a = t .before .before .before .before .args in
+    let e = c .before .before .number .given .1 in
+    let s = r .read .ensures in
+    read-out (now (a .bytes)) (now (a .rows)) (now (a .counts)) _ (omega (arith, kinds-are, t .if1 .left)) (s .0) (c .refusal .ensures ∙ ap codeBy (sym e))
+    (s .1) (ap (countsBy (now (a .counts))) (sym e))
 
 same-length-3 : tie.Need-same-length-3
 same-length-3 c = search needs
@@ -50,45 +59,17 @@ same-length-3 c = search needs
 same-length-4 : tie.Need-same-length-4
 same-length-4 c = search needs
 
-same-length-5 : tie.Need-same-length-5
-same-length-5 c = search needs
-
-returns-2 : tie.Need-returns-2
-returns-2 c =
-    let r = c .before .before .before .before .before .before .before .before .before .before .before .before in
-    let t = r .before .before .before .before .before in
-    let enter = t .before .before .before .before .before .before .before in
-    let e = c .before .before .number .given .1 in
-    let s = r .read .ensures in
-    read-out (now (enter .args .bytes)) (rooms enter) (now (enter .args .counts)) _ (t .if1 .left) (s .0) (c .refusal .ensures ∙ ap codeBy (sym e))
-    (s .1 .0) (s .1 .1 .0) (s .1 .1 .1 .0) (s .1 .1 .1 .1) (ap (countsBy (now (enter .args .counts))) (sym e))
-
-same-length-6 : tie.Need-same-length-6
-same-length-6 c = search needs
-
-same-length-7 : tie.Need-same-length-7
-same-length-7 c = search needs
-
-same-length-8 : tie.Need-same-length-8
-same-length-8 c = search needs
-
-same-length-9 : tie.Need-same-length-9
-same-length-9 c = search needs
-
-same-length-10 : tie.Need-same-length-10
-same-length-10 c = search needs
-
 returns-3 : tie.Need-returns-3
 returns-3 c =
     let k = c .before .before in
     let at-c = k .before .before .before in
-    let r = at-c .before .before .before .before .before .before .before .before .before .before in
-    let t = r .before .before .before .before .before in
-    let enter = t .before .before .before .before .before .before .before in
+    let r = at-c .before .before .before .before in
+    let t = r .before .before in
+    let a = t .before .before .before .before .args in
     let e = at-c .c .given .1 in
     let s = r .read .ensures in
-    read-out (now (enter .args .bytes)) (rooms enter) (now (enter .args .counts)) _ (t .if1 .left) (s .0) (ap codeBy (sym e))
-    (s .1 .0) (s .1 .1 .0) (s .1 .1 .1 .0) (s .1 .1 .1 .1) (k .put-counts .ensures ∙ ap (countsBy (now (enter .args .counts))) (sym e))
+    read-out (now (a .bytes)) (now (a .rows)) (now (a .counts)) _ (omega (arith, kinds-are, t .if1 .left)) (s .0) (ap codeBy (sym e))
+    (s .1) (k .put-counts .ensures ∙ ap (countsBy (now (a .counts))) (sym e))
 
 pub niloferq-read-spec : {M : Type 1} → statement M
 niloferq-read-spec =
@@ -103,13 +84,7 @@ niloferq-read-spec =
     enum-known-c
     put-counts-requires
     same-length-2
+    returns-2
     same-length-3
     same-length-4
-    same-length-5
-    returns-2
-    same-length-6
-    same-length-7
-    same-length-8
-    same-length-9
-    same-length-10
     returns-3)

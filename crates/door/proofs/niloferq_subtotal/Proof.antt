@@ -1,4 +1,5 @@
 -- `door::niloferq_subtotal` meets its contract. Assumes nothing.
+use Rattle.form.proofs.EachKind.{few-kinds}
 use denote.Ref.{now}
 use mathlib.Core.Path.{_≡_, sym, subst, _∙_}
 use mathlib.Core.Bool.{not}
@@ -20,7 +21,7 @@ enum-known-number c = search needs
 refusal-requires : tie.Need-refusal-requires
 refusal-requires c κs =
     let e = c .before .before .before in
-    omega (arith, small _ _ _ (refused-verdict _ _ _ (sym (e .subtotals .ensures) ∙ c .before .number .given .1)) .1)
+    omega (arith, few-kinds, small _ _ _ (refused-verdict _ _ _ (sym (e .subtotals .ensures) ∙ c .before .number .given .1)) .1)
 
 enum-known-d : tie.Need-enum-known-d
 enum-known-d c = search needs

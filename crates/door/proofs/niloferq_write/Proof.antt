@@ -1,7 +1,6 @@
 -- `door::niloferq_write` meets its contract. Assumes nothing.
 use denote.Ref.{now}
 use mathlib.Core.Path.{sym, ap, _∙_}
-use Rattle.filing.specs.Lists.{Lists, lists}
 use Rattle.door.proofs.Rooms.{one-store}
 use Rattle.door.proofs.Writing.{codeBy, sizeBy, unsized-out, written-out, write-small, done-small}
 use native.Mathlib.Omega.{arith}
@@ -9,17 +8,14 @@ use borrow.Author.Needs.{needs}
 use Rattle.door.proofs.niloferq_write.Statement.{statement}
 use Rattle.door.proofs.niloferq_write.Tie as tie
 
-abbrev handed : tie.Start → Lists
-handed c = let a = c .args in lists (now (a .conversion)) (now (a .stock)) (now (a .harvest)) (now (a .parameters))
-
 without-size-requires : tie.Need-without-size-requires
 without-size-requires c κs = search needs
 
 returns : tie.Need-returns
 returns c =
     let t = c .before in
-    let enter = t .before .before .before .before .before .before .before in
-    unsized-out (handed enter) (now (enter .args .room)) (now (enter .args .size)) (t .if1 .taken) (c .without-size .ensures)
+    let a = t .before .before .before .before .before .args in
+    unsized-out (now (a .rows)) (now (a .lengths)) (now (a .room)) (now (a .size)) (t .if1 .taken) (c .without-size .ensures)
 
 write-requires : tie.Need-write-requires
 write-requires c κs = search needs
@@ -30,7 +26,7 @@ enum-known-number c = search needs
 refusal-requires : tie.Need-refusal-requires
 refusal-requires c κs =
     let w = c .before .before .before .before .before in
-    write-small _ _ (sym (w .write .ensures .0) ∙ c .before .number .given .1)
+    write-small _ _ _ (sym (w .write .ensures .0) ∙ c .before .number .given .1)
 
 enum-known-n : tie.Need-enum-known-n
 enum-known-n c = search needs
@@ -38,7 +34,7 @@ enum-known-n c = search needs
 cast-size : tie.Need-cast-size
 cast-size c =
     let w = c .before .before .before .before .before in
-    omega (arith, done-small _ _ (sym (w .write .ensures .0) ∙ c .before .n .given .1))
+    omega (arith, done-small _ _ _ (sym (w .write .ensures .0) ∙ c .before .n .given .1))
 
 slice-write-size : tie.Need-slice-write-size
 slice-write-size c = search needs
@@ -50,10 +46,10 @@ returns-2 : tie.Need-returns-2
 returns-2 c =
     let w = c .before .before .before .before .before .before in
     let t = w .before .before in
-    let enter = t .before .before .before .before .before .before .before in
+    let a = t .before .before .before .before .before .args in
     let e = c .before .before .number .given .1 in
-    written-out (handed enter) (now (enter .args .room)) (now (enter .args .size)) _ (t .if1 .left) (w .write .ensures .0) (c .refusal .ensures ∙ ap codeBy (sym e))
-    (w .write .ensures .1) (ap (sizeBy (now (enter .args .size))) (sym e))
+    written-out (now (a .rows)) (now (a .lengths)) (now (a .room)) (now (a .size)) _ (t .if1 .left) (w .write .ensures .0) (c .refusal .ensures ∙ ap codeBy (sym e))
+    (w .write .ensures .1) (ap (sizeBy (now (a .size))) (sym e))
 
 same-length-2 : tie.Need-same-length-2
 same-length-2 c = search needs
@@ -65,10 +61,10 @@ returns-3 : tie.Need-returns-3
 returns-3 c =
     let w = c .before .before .before .before .before in
     let t = w .before .before in
-    let enter = t .before .before .before .before .before .before .before in
+    let a = t .before .before .before .before .before .args in
     let e = c .before .n .given .1 in
-    written-out (handed enter) (now (enter .args .room)) (now (enter .args .size)) _ (t .if1 .left) (w .write .ensures .0) (ap codeBy (sym e))
-    (w .write .ensures .1) (one-store (now (enter .args .size)) _ (t .if1 .left) ∙ ap (sizeBy (now (enter .args .size))) (sym e))
+    written-out (now (a .rows)) (now (a .lengths)) (now (a .room)) (now (a .size)) _ (t .if1 .left) (w .write .ensures .0) (ap codeBy (sym e))
+    (w .write .ensures .1) (one-store (now (a .size)) _ (t .if1 .left) ∙ ap (sizeBy (now (a .size))) (sym e))
 
 pub niloferq-write-spec : {M : Type 1} → statement M
 niloferq-write-spec =

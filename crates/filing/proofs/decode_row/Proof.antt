@@ -2,8 +2,8 @@
 use Prim.Native.Nat.{_+_, _-_, _≤_, _<_}
 use lib.ListN.{length}
 use Rattle.form.specs.Layout.{layout, numbersOf}
-use Rattle.filing.specs.Tables.{fieldAt}
-use Rattle.filing.proofs.Fields.{ends-40, Decoding, decoding-none, decoding-in, decoding-more, decoding-all}
+use Rattle.form.proofs.Fields.{ends-40, Readable, field-readable}
+use Rattle.filing.proofs.Fields.{Decoding, decoding-none, decoding-in, decoding-more, decoding-all}
 use borrow.Author.Needs.{needs}
 use native.Mathlib.Omega.{arith}
 use Rattle.filing.proofs.decode_row.Statement.{statement}
@@ -15,15 +15,23 @@ Inv-loop bytes kind at room₀ to n k₀ i₀ room k i = Decoding (layout kind) 
 abbrev μ-loop : tie.MeasureT-loop
 μ-loop bytes kind at room₀ to n k₀ i₀ room k i = n - i
 
--- in a turn: the field is in the layout, its bytes are in the record, and its number has room
-inside : (c : tie.In-loop Inv-loop μ-loop)
-    → let v = c .before .loop in
-    let a = c .before .before .before .before .before .args in
-    let f = fieldAt (layout (a .kind)) (v .i) in
-    (v .i < numbersOf (a .kind)) × (v .i < 16) × (v .k + f .zeros + f .width ≤ 40) × (a .to + v .i < length (v .room))
+-- in a turn: the field is in the layout, its bytes are in the record and can be read, and its number has room
+counted : (c : tie.In-loop Inv-loop μ-loop) → c .before .loop .i < numbersOf (c .before .before .before .before .before .args .kind)
+counted c = rw (c .before .before .numbers .ensures .0) at (c .loop-test .taken)
+
+inside : (c : tie.After-field Inv-loop μ-loop)
+    → let v = c .before .before .loop in
+    let f = c .field .result in
+    (v .k + f .zeros + f .width ≤ 40) × (c .before .before .before .before .before .before .args .to + v .i < length (v .room))
 inside c =
-    let i = rw (c .before .before .numbers .ensures .0) at (c .loop-test .taken) in
-    omega (arith, decoding-in (c .before .loop .inv) i, c .before .loop .inv .same)
+    let v = c .before .before .loop in
+    let i = counted (c .before) in
+    (rw (c .field .ensures) (decoding-in (v .inv) i), omega (arith, v .inv .same))
+
+fits : (c : tie.After-field Inv-loop μ-loop) → Readable (c .field .result .width)
+fits c =
+    let t = c .before .before in
+    rw (c .field .ensures) (field-readable (t .before .before .before .before .args .kind) (t .loop .i) (counted (c .before)))
 
 numbers-requires : tie.Need-numbers-requires Inv-loop μ-loop
 numbers-requires c κs = search needs
@@ -31,31 +39,26 @@ numbers-requires c κs = search needs
 loop-holds : tie.Need-loop-holds Inv-loop μ-loop
 loop-holds c = decoding-none (ends-40 (c .before .before .before .args .kind))
 
-zeros-before-requires : tie.Need-zeros-before-requires Inv-loop μ-loop
-zeros-before-requires c κs = omega (arith, inside c)
+field-requires : tie.Need-field-requires Inv-loop μ-loop
+field-requires c κs = counted c
 
 add-k : tie.Need-add-k Inv-loop μ-loop
 add-k c = omega (arith, inside (c .before))
 
-width-requires : tie.Need-width-requires Inv-loop μ-loop
-width-requires c κs = omega (arith, inside (c .before))
-
 add-number-at : tie.Need-add-number-at Inv-loop μ-loop
-add-number-at c = omega (arith, inside (c .before .before))
+add-number-at c = omega (arith, inside (c .before))
 
 number-at-requires : tie.Need-number-at-requires Inv-loop μ-loop
-number-at-requires c κs =
-    let w = c .width .ensures in
-    (w .1, w .2, w .3, omega (arith, inside (c .before .before)))
+number-at-requires c κs = let w = fits (c .before) in (w .0, w .1, w .2, omega (arith, inside (c .before)))
 
 add-room : tie.Need-add-room Inv-loop μ-loop
-add-room c = omega (arith, inside (c .before .before .before))
+add-room c = omega (arith, inside (c .before .before))
 
 mul-room : tie.Need-mul-room Inv-loop μ-loop
 mul-room c = search needs
 
 slice-write-room : tie.Need-slice-write-room Inv-loop μ-loop
-slice-write-room c = omega (arith, inside (c .before .before .before))
+slice-write-room c = omega (arith, inside (c .before .before))
 
 add-k-2 : tie.Need-add-k-2 Inv-loop μ-loop
 add-k-2 c = omega (arith, inside (c .before .before .before))
@@ -68,10 +71,9 @@ loop-less c = search needs
 
 loop-again : tie.Need-loop-again Inv-loop μ-loop
 loop-again c =
-    let at-width = c .before in
-    let at-zeros = at-width .before in
-    let turn = at-zeros .before in
-    decoding-more (turn .before .loop .inv) (inside turn .0) (at-zeros .zeros-before .ensures) (at-width .width .ensures .0) (c .number-at .ensures)
+    let n = c .before in
+    let f = n .before .before in
+    decoding-more (f .before .before .loop .inv) (counted (f .before)) (f .field .ensures) (n .number-at .ensures)
 
 same-length : tie.Need-same-length Inv-loop μ-loop
 same-length c = search needs
@@ -87,9 +89,8 @@ decode-row-spec =
     μ-loop
     numbers-requires
     loop-holds
-    zeros-before-requires
+    field-requires
     add-k
-    width-requires
     add-number-at
     number-at-requires
     add-room

@@ -12,10 +12,10 @@ use Rattle.filing.proofs.decode_rows.Statement.{statement}
 use Rattle.filing.proofs.decode_rows.Tie as tie
 
 abbrev Inv-loop : tie.InvT-loop
-Inv-loop bytes kind place n room₀ m to₀ i₀ room to i = Filling (rowOn kind bytes) (numbersOf kind) place n room₀ 0 room to i
+Inv-loop bytes kind place n room₀ start m to₀ i₀ room to i = Filling (rowOn kind bytes) (numbersOf kind) place n room₀ start room to i
 
 abbrev μ-loop : tie.MeasureT-loop
-μ-loop bytes kind place n room₀ m to₀ i₀ room to i = n - i
+μ-loop bytes kind place n room₀ start m to₀ i₀ room to i = n - i
 
 -- in a turn: the row has room
 inside : (c : tie.In-loop Inv-loop μ-loop)

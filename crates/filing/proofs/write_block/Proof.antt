@@ -63,8 +63,8 @@ returns c =
     let at-used = at-head .before .before in
     let enter = at-used .before .before .before in
     let a = enter .args in
-    let count = at-used .used-in .ensures ∙ ap (λ (m : ℕ). min 12 (m - 12 * a .b)) (enter .pre .0 .2) ∙ sym (list-used (a .kind) (a .rows .now) (a .b)) in
-    block-stored (filedList (a .kind) (a .rows .now)) (a .start) (a .n) (a .b) (a .out .now) refl (search needs) count
+    let count = at-used .used-in .ensures ∙ ap (λ (m : ℕ). min 12 (m - 12 * a .b)) (enter .pre .0 .1) ∙ sym (list-used (a .kind) (a .rows .now) (a .b)) in
+    block-stored (a .edition) (filedList (a .kind) (a .rows .now)) (a .start) (a .n) (a .b) (a .out .now) refl (search needs) count
     (at-head .write-head .ensures)
     (at-records .write-records .ensures)
     (at-clear .clear .ensures)

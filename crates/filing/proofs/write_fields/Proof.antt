@@ -4,8 +4,8 @@ use mathlib.Core.Path.{sym}
 use lib.ListN.{length, drop}
 use lib.Seq.{getD-drop}
 use Rattle.form.specs.Layout.{layout, numbersOf}
-use Rattle.filing.specs.Tables.{fieldAt}
-use Rattle.filing.proofs.Fields.{ends-40, Encoding, encoding-none, encoding-in, encoding-end, encoding-more, encoding-all}
+use Rattle.form.proofs.Fields.{ends-40, Readable, field-readable}
+use Rattle.filing.proofs.Fields.{Encoding, encoding-none, encoding-in, encoding-end, encoding-more, encoding-all}
 use borrow.Author.Needs.{needs}
 use native.Mathlib.Omega.{arith}
 use Rattle.filing.proofs.write_fields.Statement.{statement}
@@ -18,14 +18,24 @@ abbrev μ-loop : tie.MeasureT-loop
 μ-loop kind rows from out₀ to n k₀ i₀ out k i = n - i
 
 -- in a turn: the field is in the layout, its number is in the row, and its bytes are in the record
-inside : (c : tie.In-loop Inv-loop μ-loop)
-    → let v = c .before .loop in
-    let a = c .before .before .before .before .before .args in
-    let f = fieldAt (layout (a .kind)) (v .i) in
-    (v .i < numbersOf (a .kind)) × (v .i < 16) × (a .from + v .i < length (a .rows .now)) × (a .to + (v .k + f .zeros + f .width) ≤ length (v .out)) × (v .k + f .zeros + f .width ≤ 40)
+counted : (c : tie.In-loop Inv-loop μ-loop) → c .before .loop .i < numbersOf (c .before .before .before .before .before .args .kind)
+counted c = rw (c .before .before .numbers .ensures .0) at (c .loop-test .taken)
+
+inside : (c : tie.After-field Inv-loop μ-loop)
+    → let v = c .before .before .loop in
+    let a = c .before .before .before .before .before .before .args in
+    let f = c .field .result in
+    (v .k + f .zeros + f .width ≤ 40) × (a .from + v .i < length (a .rows .now)) × (a .to + (v .k + f .zeros + f .width) ≤ length (v .out))
 inside c =
-    let i = rw (c .before .before .numbers .ensures .0) at (c .loop-test .taken) in
-    omega (arith, encoding-in (c .before .loop .inv) i, c .before .loop .inv .same)
+    let v = c .before .before .loop in
+    let i = counted (c .before) in
+    let e = rw (← c .field .ensures) at (encoding-in (v .inv) i) in
+    (e, omega arith, omega (arith, v .inv .same))
+
+fits : (c : tie.After-field Inv-loop μ-loop) → Readable (c .field .result .width)
+fits c =
+    let t = c .before .before in
+    rw (c .field .ensures) (field-readable (t .before .before .before .before .args .kind) (t .loop .i) (counted (c .before)))
 
 numbers-requires : tie.Need-numbers-requires Inv-loop μ-loop
 numbers-requires c κs = search needs
@@ -33,59 +43,56 @@ numbers-requires c κs = search needs
 loop-holds : tie.Need-loop-holds Inv-loop μ-loop
 loop-holds c = encoding-none (ends-40 (c .before .before .before .args .kind))
 
-zeros-before-requires : tie.Need-zeros-before-requires Inv-loop μ-loop
-zeros-before-requires c κs = omega (arith, inside c)
-
-width-requires : tie.Need-width-requires Inv-loop μ-loop
-width-requires c κs = omega (arith, inside (c .before))
+field-requires : tie.Need-field-requires Inv-loop μ-loop
+field-requires c κs = counted c
 
 add-clear : tie.Need-add-clear Inv-loop μ-loop
-add-clear c = omega (arith, inside (c .before .before .before))
+add-clear c = omega (arith, inside (c .before))
 
 clear-requires : tie.Need-clear-requires Inv-loop μ-loop
-clear-requires c κs = omega (arith, inside (c .before .before .before))
+clear-requires c κs = omega (arith, inside (c .before))
 
 add-put-number : tie.Need-add-put-number Inv-loop μ-loop
-add-put-number c = omega (arith, inside (c .before .before .before .before .before .before .before))
+add-put-number c = omega (arith, inside (c .before .before .before .before .before))
 
 add-put-number-2 : tie.Need-add-put-number-2 Inv-loop μ-loop
-add-put-number-2 c = omega (arith, inside (c .before .before .before .before .before .before .before))
+add-put-number-2 c = omega (arith, inside (c .before .before .before .before .before .before))
 
 add-put-number-3 : tie.Need-add-put-number-3 Inv-loop μ-loop
-add-put-number-3 c = omega (arith, inside (c .before .before .before .before .before .before .before))
+add-put-number-3 c = omega (arith, inside (c .before .before .before .before .before .before))
 
 mul-put-number : tie.Need-mul-put-number Inv-loop μ-loop
 mul-put-number c = search needs
 
 shared-slice-read-put-number : tie.Need-shared-slice-read-put-number Inv-loop μ-loop
-shared-slice-read-put-number c = omega (arith, inside (c .before .before .before .before .before .before .before .before))
+shared-slice-read-put-number c = omega (arith, inside (c .before .before .before .before .before .before .before))
 
 put-number-requires : tie.Need-put-number-requires Inv-loop μ-loop
 put-number-requires c κs =
-    let w = c .before .before .before .before .before .before .width .ensures in
-    (w .1, w .2, w .3, omega (arith, inside (c .before .before .before .before .before .before .before .before), c .before .before .before .before .clear .kept))
+    let f = c .before .before .before .before .before .before .before in
+    let w = fits f in
+    (w .0, w .1, w .2, omega (arith, inside f, c .before .before .before .before .before .clear .kept))
 
 add-k : tie.Need-add-k Inv-loop μ-loop
 add-k c = omega (arith, inside (c .before .before .before .before .before .before .before .before .before .before .before))
 
 add-k-2 : tie.Need-add-k-2 Inv-loop μ-loop
-add-k-2 c = omega (arith, inside (c .before .before .before .before .before .before .before .before .before .before .before))
+add-k-2 c = omega (arith, inside (c .before .before .before .before .before .before .before .before .before .before .before .before))
 
 add-i : tie.Need-add-i Inv-loop μ-loop
-add-i c = omega (arith, inside (c .before .before .before .before .before .before .before .before .before .before .before))
+add-i c = omega (arith, inside (c .before .before .before .before .before .before .before .before .before .before .before .before))
 
 loop-less : tie.Need-loop-less Inv-loop μ-loop
 loop-less c = search needs
 
 loop-again : tie.Need-loop-again Inv-loop μ-loop
 loop-again c =
-    let at-put = c .before .before in
-    let at-clear = at-put .before .before .before .before .before in
-    let at-width = at-clear .before .before in
-    let turn = at-width .before .before in
-    let a = turn .before .before .before .before .before .args in
-    encoding-more (turn .before .loop .inv) (inside turn .0) (at-width .before .zeros-before .ensures) (at-width .width .ensures .0)
-    (sym (getD-drop (a .from) (a .rows .now) (turn .before .loop .i) 0))
+    let at-put = c .before .before .before .before in
+    let at-clear = at-put .before .before .before .before .before .before in
+    let f = at-clear .before .before in
+    let a = f .before .before .before .before .before .before .args in
+    encoding-more (f .before .before .loop .inv) (counted (f .before)) (f .field .ensures)
+    (sym (getD-drop (a .from) (a .rows .now) (f .before .before .loop .i) 0))
     (at-clear .clear .ensures)
     (at-put .put-number .ensures)
 
@@ -114,8 +121,7 @@ write-fields-spec =
     μ-loop
     numbers-requires
     loop-holds
-    zeros-before-requires
-    width-requires
+    field-requires
     add-clear
     clear-requires
     add-put-number

@@ -48,7 +48,7 @@ returns c =
     let p2 = p3 .before .before .before .before in
     let p1 = p2 .before .before .before .before in
     let a = p1 .before .before .before .args in
-    head-stored (a .out .now) (a .to) (a .kind) (a .count) (a .b) (a .n)
+    head-stored (a .out .now) (a .to) (a .edition) (a .kind) (a .count) (a .b) (a .n)
     (p1 .put-byte .ensures) (p2 .put-byte2 .ensures) (p3 .put-two .ensures) (p4 .put-two2 .ensures) (p5 .put-two3 .ensures)
 
 pub write-head-spec : {M : Type 1} → statement M

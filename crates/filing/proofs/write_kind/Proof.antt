@@ -7,22 +7,24 @@ use Rattle.filing.specs.Lists.{rowsIn, filedList}
 use Rattle.filing.specs.Written.{blockOf}
 use Rattle.filing.proofs.Stores.{Filling, filling-none, filling-more, filling-all}
 use Rattle.filing.proofs.Parts.{length-block}
+use Rattle.form.proofs.Fields.{kind-numbers}
+use Rattle.form.proofs.EachKind.{few-kinds}
 use borrow.Author.Needs.{needs}
 use native.Mathlib.Omega.{arith}
 use Rattle.filing.proofs.write_kind.Statement.{statement}
 use Rattle.filing.proofs.write_kind.Tie as tie
 
 abbrev Inv-loop : tie.InvT-loop
-Inv-loop kind rows start n out₀ m blocks b₀ out b = Filling (blockOf (filedList kind rows) start n) 512 0 blocks out₀ (512 * start) out (512 * (start + b)) b
+Inv-loop edition kind rows start n out₀ m blocks b₀ out b = Filling (blockOf edition (filedList kind rows) start n) 512 0 blocks out₀ (512 * start) out (512 * (start + b)) b
 
 abbrev μ-loop : tie.MeasureT-loop
-μ-loop kind rows start n out₀ m blocks b₀ out b = blocks - b
+μ-loop edition kind rows start n out₀ m blocks b₀ out b = blocks - b
 
 -- in a turn: the block is one of the list's
 inside : (c : tie.In-loop Inv-loop μ-loop)
     → let a = c .before .before .before .before .before .args in
     let m = length (a .rows .now) / c .before .before .numbers .result in
-    (m ≡ rowsIn (a .kind) (a .rows .now)) × (12 * c .before .loop .b ≤ m) × (a .start + c .before .loop .b < a .n) × (512 * a .n ≤ length (c .before .loop .out))
+    (m ≡ rowsIn (a .kind) (length (a .rows .now))) × (12 * c .before .loop .b ≤ m) × (a .start + c .before .loop .b < a .n) × (512 * a .n ≤ length (c .before .loop .out))
 inside c =
     let a = c .before .before .before .before .before .args in
     let e = ap (λ (x : ℕ). length (a .rows .now) / x) (c .before .before .numbers .ensures .0) in
@@ -32,7 +34,9 @@ numbers-requires : tie.Need-numbers-requires Inv-loop μ-loop
 numbers-requires c κs = search needs
 
 div-m : tie.Need-div-m Inv-loop μ-loop
-div-m c = search needs
+div-m c =
+    let enter = c .before .before .before in
+    omega (arith, c .numbers .ensures .0, kind-numbers (enter .args .kind) (enter .pre .0 .0) (enter .pre .0 .1))
 
 add-blocks : tie.Need-add-blocks Inv-loop μ-loop
 add-blocks c = omega (arith, div-le-self (length (c .before .before .before .args .rows .now)) (c .numbers .result))
@@ -46,7 +50,7 @@ loop-holds c =
 write-block-requires : tie.Need-write-block-requires Inv-loop μ-loop
 write-block-requires c κs =
     let i = inside (c .before) in
-    ((search needs, search needs, i .0, i .1), (i .2, search needs, i .3))
+    ((omega (arith, few-kinds), i .0, i .1), (i .2, search needs, i .3))
 
 add-b : tie.Need-add-b Inv-loop μ-loop
 add-b c = omega (arith, inside (c .before .before .before .before))
@@ -61,7 +65,7 @@ loop-again c =
     let a = turn .before .before .before .before .before .args in
     let v = turn .before .loop in
     filling-more (v .inv) (turn .loop-test .taken)
-    (length-block (filedList (a .kind) (a .rows .now)) (a .start) (a .n) (0 + v .b))
+    (length-block (filedList (a .kind) (a .rows .now)) (a .edition) (a .start) (a .n) (0 + v .b))
     (rw (zero-add (v .b)) (at-block .write-block .ensures))
     (omega arith)
 

@@ -13,7 +13,7 @@ inside : (c : tie.After-numbers) → let a = c .before .before .before .before .
 inside c =
     let start = c .before .before .before .before in
     let a = start .args in
-    rw (c .numbers .ensures .0) (row-in (numbersOf (a .kind)) (a .j) (length (a .rows .now)) (rw (start .pre .2) at (c .before .if1 .taken)))
+    rw (c .numbers .ensures .0) (row-in (numbersOf (a .kind)) (a .j) (length (a .rows .now)) (rw (start .pre .0) at (c .before .if1 .taken)))
 
 numbers-requires : tie.Need-numbers-requires
 numbers-requires c κs = search needs
@@ -35,7 +35,7 @@ returns c =
     let at-numbers = c .before .before .before .before in
     let start = at-numbers .before .before .before .before in
     let a = start .args in
-    rw (list-row (a .kind) (a .rows .now) (a .j) (rw (start .pre .2) at (at-numbers .before .if1 .taken)))
+    rw (list-row (a .kind) (a .rows .now) (a .j) (rw (start .pre .0) at (at-numbers .before .if1 .taken)))
     (rw (at-numbers .numbers .ensures .0) at (c .before .before .write-record .ensures))
 
 same-length-2 : tie.Need-same-length-2
@@ -46,7 +46,7 @@ returns-2 c =
     let test = c .before .before .before .before in
     let start = test .before .before .before in
     let a = start .args in
-    rw (list-none (a .kind) (a .rows .now) (a .j) (rw (start .pre .2) at (test .if1 .left))) (c .before .before .clear .ensures)
+    rw (list-none (a .kind) (a .rows .now) (a .j) (rw (start .pre .0) at (test .if1 .left))) (c .before .before .clear .ensures)
 
 pub write-place-spec : {M : Type 1} → statement M
 write-place-spec =

@@ -1,7 +1,6 @@
 -- `filing::write_record` meets its contract. Assumes nothing.
-use mathlib.Core.Path.{_≡_}
-use borrow.Author.Needs.{needs}
 use native.Mathlib.Omega.{arith}
+use borrow.Author.Needs.{needs}
 use Rattle.filing.proofs.write_record.Statement.{statement}
 use Rattle.filing.proofs.write_record.Tie as tie
 
@@ -14,12 +13,11 @@ write-fields-requires-2 c κs = rw (c .before .match .keys2) at (c .before .befo
 write-fields-requires-3 : tie.Need-write-fields-requires-3
 write-fields-requires-3 c κs = rw (c .before .match .keys3) at (c .before .before .before .before .pre)
 
--- the kinds before are told apart, so that the last is left
-fourth : (c : tie.After-write-fields-arg4) → c .before .before .before .before .args .kind ≡ 4
-fourth c = omega arith
-
 write-fields-requires-4 : tie.Need-write-fields-requires-4
-write-fields-requires-4 c κs = rw (fourth c) at (c .before .before .before .before .pre)
+write-fields-requires-4 c κs = rw (c .before .match .keys4) at (c .before .before .before .before .pre)
+
+write-fields-requires-5 : tie.Need-write-fields-requires-5
+write-fields-requires-5 c κs = search needs
 
 same-length : tie.Need-same-length
 same-length c = search needs
@@ -43,7 +41,13 @@ same-length-4 : tie.Need-same-length-4
 same-length-4 c = search needs
 
 returns-4 : tie.Need-returns-4
-returns-4 c = rw (fourth (c .before .before .before)) (c .before .before .write-fields4 .ensures)
+returns-4 c = rw (c .before .before .before .before .match .keys4) (c .before .before .write-fields4 .ensures)
+
+same-length-5 : tie.Need-same-length-5
+same-length-5 c = search needs
+
+returns-5 : tie.Need-returns-5
+returns-5 c = search needs
 
 pub write-record-spec : {M : Type 1} → statement M
 write-record-spec =
@@ -53,6 +57,7 @@ write-record-spec =
     write-fields-requires-2
     write-fields-requires-3
     write-fields-requires-4
+    write-fields-requires-5
     same-length
     returns
     same-length-2
@@ -60,4 +65,6 @@ write-record-spec =
     same-length-3
     returns-3
     same-length-4
-    returns-4)
+    returns-4
+    same-length-5
+    returns-5)

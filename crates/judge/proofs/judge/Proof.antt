@@ -1,5 +1,5 @@
 -- `judge::judge` meets its contract. Assumes nothing.
-use mathlib.Core.Path.{_≡_, refl, sym, ap, _∙_}
+use mathlib.Core.Path.{sym, ap, _∙_}
 use denote.Ref.{now}
 use Rattle.form.specs.declared.Verdict.the-variants.{Accepted}
 use Rattle.form.specs.Verdict.{verdictBy, verdictOf}

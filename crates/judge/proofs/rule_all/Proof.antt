@@ -1,10 +1,11 @@
 -- `judge::rule_all` meets its contract. Assumes nothing.
 use Prim.Native.Nat.{ℕ}
 use mathlib.Core.List.{List}
-use mathlib.Core.Path.{_≡_, refl, sym, ap, _∙_}
+use mathlib.Core.Path.{_≡_, sym, ap, _∙_}
 use denote.Ref.{now}
 use Rattle.form.specs.declared.Ruling.{Ruling}
 use Rattle.form.specs.Ruling.{ruling}
+use Rattle.form.specs.Block.{edition}
 use Rattle.form.specs.Records.{filed, recordRules}
 use Rattle.form.specs.Verdict.{blockRules, rules}
 use Rattle.form.proofs.Order.{orRule, ruling-append}
@@ -15,8 +16,8 @@ use Rattle.judge.proofs.rule_all.Statement.{statement}
 use Rattle.judge.proofs.rule_all.Tie as tie
 
 -- the ruling of all, from that of the blocks
-joined : (s : List ℕ) {u : Ruling} → ruling (blockRules s) ≡ u → ruling (rules s) ≡ orRule u (ruling (recordRules (filed s)))
-joined s e = ruling-append (blockRules s) (recordRules (filed s)) ∙ ap (λ (v : Ruling). orRule v (ruling (recordRules (filed s)))) e
+joined : (s : List ℕ) {u : Ruling} → ruling (blockRules s) ≡ u → ruling (rules s) ≡ orRule u (ruling (recordRules (edition s 0) (filed s)))
+joined s e = ruling-append (blockRules s) (recordRules (edition s 0) (filed s)) ∙ ap (λ (v : Ruling). orRule v (ruling (recordRules (edition s 0) (filed s)))) e
 
 rule-blocks-requires : tie.Need-rule-blocks-requires
 rule-blocks-requires c κs = search needs

@@ -1,5 +1,5 @@
 -- `judge::rule_blocks` meets its contract. Assumes nothing.
-use Prim.Native.Nat.{ℕ, _≤_}
+use Prim.Native.Nat.{ℕ, _^_, _<_}
 use mathlib.Core.Path.{_≡_, refl, sym, _∙_}
 use mathlib.Core.List.{List}
 use lib.ListN.{length, drop}
@@ -9,7 +9,7 @@ use Rattle.form.specs.Ruling.{ruling}
 use Rattle.form.specs.Verdict.{blockRules}
 use Rattle.form.proofs.Search.{first-zero, first-more, first-found}
 use Rattle.form.proofs.Order.{ruled, kept}
-use Rattle.form.proofs.Lengths.{few-blocks}
+use Rattle.form.proofs.Lengths.{short}
 use native.Mathlib.Omega.{arith}
 use borrow.Author.Needs.{needs}
 use Rattle.judge.proofs.rule_blocks.Statement.{statement}
@@ -32,8 +32,8 @@ at4 c = at3 (c .before .before .before)
 abbrev from : ℕ → List ℕ → Ruling
 from k s = ruling (drop k (blockRules s))
 
-fine : (c : tie.Else1) → length (at1 c) ≤ 5120
-fine c = few-blocks _ (sym (c .before .bad-length .ensures) ∙ c .if1 .left)
+fine : (c : tie.Else1) → length (at1 c) < 2 ^ 24
+fine c = short _ (sym (c .before .bad-length .ensures) ∙ c .if1 .left)
 
 -- it is the whole ruling, where the rules before are kept
 past1 : (c : tie.Else1) {v : Ruling} → v ≡ from 1 (at1 c) → v ≡ from 0 (at1 c)

@@ -1,6 +1,7 @@
 -- `lists::bad_id` meets its contract. Assumes nothing.
 use Rattle.lists.proofs.Numbers.{id-later, id-parameters, id-none}
 use Rattle.filing.proofs.Parts.{row-in}
+use Rattle.form.proofs.Fields.{kind-numbers}
 use Rattle.form.specs.Layout.{numbersOf}
 use native.Mathlib.Nat.{mul-le-mul-left}
 use lib.ListN.{length}
@@ -29,7 +30,8 @@ inside c =
     let e = c .numbers .ensures .0 in
     let row = row-in (numbersOf (a .kind)) (a .j) (length (a .rows .now)) (c .before .before .before .before .pre .2) in
     let earlier = mul-le-mul-left {m = a .j - 1} {n = a .j} (numbersOf (a .kind)) (omega arith) in
-    let some = rw e at (c .numbers .ensures .1) in
+    let enter = c .before .before .before .before in
+    let some = kind-numbers (a .kind) (enter .pre .0) (enter .pre .1) in
     rw e (omega arith, omega arith)
 
 mul-result : tie.Need-mul-result
@@ -58,7 +60,7 @@ returns-3 c =
     let n = c .before .before .numbers in
     let enter = c .before .before .before .before .before .before in
     let a = enter .args in
-    sym (id-later (a .kind) (a .rows .now) (a .j) (enter .pre .2) (n .ensures .0) (n .ensures .1) (search needs) (omega arith) (omega arith))
+    sym (id-later (a .kind) (a .rows .now) (a .j) (enter .pre .2) (n .ensures .0) (rw (n .ensures .0) (kind-numbers (a .kind) (enter .pre .0) (enter .pre .1))) (enter .pre .0) (enter .pre .1) (omega arith) (omega arith))
 
 pub bad-id-spec : {M : Type 1} → statement M
 bad-id-spec =

@@ -1,79 +1,100 @@
 -- `lists::first_bad_list` meets its contract. Assumes nothing.
-use Prim.Native.Nat.{ℕ}
-use mathlib.Core.Path.{_≡_, refl, sym, _∙_}
-use mathlib.Core.Bool.{Bool, false}
-use denote.Ref.{now}
-use Rattle.filing.specs.Lists.{Lists, lists, ofKind}
-use Rattle.lists.specs.Rules.{badList}
-use Rattle.lists.proofs.ByKind.{kind-1, kind-2, kind-3, kind-4, no-kind}
+use Prim.Native.Nat.{ℕ, suc, _+_, _-_, _≤_}
+use mathlib.Core.Path.{_≡_, sym, ap, _∙_}
+use mathlib.Core.Bool.{Bool}
+use native.Mathlib.Numerals.{add-one}
+use lib.ListN.{length, getD}
+use Rattle.form.specs.First.{first}
+use Rattle.form.specs.Layout.{kinds}
+use Rattle.form.specs.declared.Spot.the-variants.{Nowhere}
+use Rattle.form.proofs.Search.{first-zero, first-more, first-found}
+use Rattle.form.proofs.EachKind.{kinds-are, few-kinds}
+use Rattle.lists.specs.Rules.{badList, badAt}
+use Rattle.lists.proofs.Numbers.{lengths-each}
 use borrow.Author.Needs.{needs}
+use native.Mathlib.Omega.{arith}
 use Rattle.lists.proofs.first_bad_list.Statement.{statement}
 use Rattle.lists.proofs.first_bad_list.Tie as tie
 
-test : Lists → ℕ → Bool
-test l kind = badList kind (ofKind l kind)
+abbrev Inv-loop : tie.InvT-loop
+Inv-loop lengths m k₀ k = (k ≤ kinds) × (length lengths ≡ kinds) × (first (badAt lengths m) (k + 1) ≡ Nowhere)
 
-none : (l : Lists) → test l 0 ≡ false
-unfolding test badList
-none l = refl
+abbrev μ-loop : tie.MeasureT-loop
+μ-loop lengths m k₀ k = kinds - k
 
-bad-list-requires : tie.Need-bad-list-requires
-bad-list-requires c κs = search needs
+-- what the list of a kind gives
+said : (c : tie.After-bad-list Inv-loop μ-loop)
+    → let v = c .before .before .before .loop in
+    let a = c .before .before .before .before .before .before .before .args in
+    badAt (a .lengths .now) (a .m) (v .k + 1) ≡ c .bad-list .result
+said c =
+    let v = c .before .before .before .loop in
+    rw (add-one (v .k)) (sym (c .bad-list .ensures ∙ rw (add-one (v .k), c .before .length-at .ensures .0)))
 
-returns : tie.Need-returns
-unfolding test
-returns c =
-    let a = c .before .before .before .before .before .before .args in
-    let l = lists (now (a .conversion)) (now (a .stock)) (now (a .harvest)) (now (a .parameters)) in
-    kind-1 (test l) (none l) (sym (c .before .bad-list .ensures) ∙ c .if1 .taken)
+bad-lengths-requires : tie.Need-bad-lengths-requires Inv-loop μ-loop
+bad-lengths-requires c κs = search needs
 
-bad-list-requires-2 : tie.Need-bad-list-requires-2
-bad-list-requires-2 c κs = search needs
+returns : tie.Need-returns Inv-loop μ-loop
+returns c = sym (first-found _ 0 _ (first-zero _) (sym (c .before .bad-lengths .ensures) ∙ c .if1 .taken) (omega arith))
 
-returns-2 : tie.Need-returns-2
-unfolding test
+loop-holds : tie.Need-loop-holds Inv-loop μ-loop
+loop-holds c =
+    let none = sym (c .before .bad-lengths .ensures) ∙ c .if1 .left in
+    (omega arith, lengths-each _ _ none, first-more _ 0 (first-zero _) none)
+
+add-bad-list : tie.Need-add-bad-list Inv-loop μ-loop
+add-bad-list c = omega (arith, few-kinds)
+
+length-at-requires : tie.Need-length-at-requires Inv-loop μ-loop
+length-at-requires c κs = omega (arith, kinds-are)
+
+bad-list-requires : tie.Need-bad-list-requires Inv-loop μ-loop
+bad-list-requires c κs = (omega arith, omega (arith, kinds-are))
+
+cast-t9 : tie.Need-cast-t9 Inv-loop μ-loop
+cast-t9 c = omega (arith, few-kinds)
+
+add-t10 : tie.Need-add-t10 Inv-loop μ-loop
+add-t10 c = omega (arith, few-kinds)
+
+returns-2 : tie.Need-returns-2 Inv-loop μ-loop
 returns-2 c =
-    let a = c .before .before .before .before .before .before .before .before .args in
-    let l = lists (now (a .conversion)) (now (a .stock)) (now (a .harvest)) (now (a .parameters)) in
-    kind-2 (test l) (none l) (sym (c .before .before .before .bad-list .ensures) ∙ c .before .before .if1 .left) (sym (c .before .bad-list2 .ensures) ∙ c .if2 .taken)
+    let v = c .before .before .before .before .loop in
+    sym (first-found _ (v .k + 1) _ (v .inv .2) (said (c .before) ∙ c .if2 .taken) (omega (arith, kinds-are)))
 
-bad-list-requires-3 : tie.Need-bad-list-requires-3
-bad-list-requires-3 c κs = search needs
+add-k : tie.Need-add-k Inv-loop μ-loop
+add-k c = omega (arith, few-kinds)
 
-returns-3 : tie.Need-returns-3
-unfolding test
+loop-less : tie.Need-loop-less Inv-loop μ-loop
+loop-less c = omega (arith, kinds-are)
+
+loop-again : tie.Need-loop-again Inv-loop μ-loop
+loop-again c =
+    let v = c .before .before .before .before .loop in
+    (omega (arith, kinds-are), v .inv .1, first-more _ (v .k + 1) (v .inv .2) (said (c .before) ∙ c .if2 .left))
+
+returns-3 : tie.Need-returns-3 Inv-loop μ-loop
 returns-3 c =
-    let a = c .before .before .before .before .before .before .before .before .before .before .args in
-    let l = lists (now (a .conversion)) (now (a .stock)) (now (a .harvest)) (now (a .parameters)) in
-    kind-3 (test l) (none l) (sym (c .before .before .before .before .before .bad-list .ensures) ∙ c .before .before .before .before .if1 .left) (sym (c .before .before .before .bad-list2 .ensures) ∙ c .before .before .if2 .left) (sym (c .before .bad-list3 .ensures) ∙ c .if3 .taken)
-
-bad-list-requires-4 : tie.Need-bad-list-requires-4
-bad-list-requires-4 c κs = search needs
-
-returns-4 : tie.Need-returns-4
-unfolding test
-returns-4 c =
-    let a = c .before .before .before .before .before .before .before .before .before .before .before .before .args in
-    let l = lists (now (a .conversion)) (now (a .stock)) (now (a .harvest)) (now (a .parameters)) in
-    kind-4 (test l) (none l) (sym (c .before .before .before .before .before .before .before .bad-list .ensures) ∙ c .before .before .before .before .before .before .if1 .left) (sym (c .before .before .before .before .before .bad-list2 .ensures) ∙ c .before .before .before .before .if2 .left) (sym (c .before .before .before .bad-list3 .ensures) ∙ c .before .before .if3 .left) (sym (c .before .bad-list4 .ensures) ∙ c .if4 .taken)
-
-returns-5 : tie.Need-returns-5
-unfolding test
-returns-5 c =
-    let a = c .before .before .before .before .before .before .before .before .before .before .before .before .args in
-    let l = lists (now (a .conversion)) (now (a .stock)) (now (a .harvest)) (now (a .parameters)) in
-    no-kind (test l) (none l) (sym (c .before .before .before .before .before .before .before .bad-list .ensures) ∙ c .before .before .before .before .before .before .if1 .left) (sym (c .before .before .before .before .before .bad-list2 .ensures) ∙ c .before .before .before .before .if2 .left) (sym (c .before .before .before .bad-list3 .ensures) ∙ c .before .before .if3 .left) (sym (c .before .bad-list4 .ensures) ∙ c .if4 .left)
+    let v = c .before .loop in
+    let e : v .k + 1 ≡ suc kinds = omega (arith, kinds-are) in
+    sym (rw e at (v .inv .2))
 
 pub first-bad-list-spec : {M : Type 1} → statement M
 first-bad-list-spec =
     tie.close
     (tie.spec
-    bad-list-requires
+    Inv-loop
+    μ-loop
+    bad-lengths-requires
     returns
-    bad-list-requires-2
+    loop-holds
+    add-bad-list
+    length-at-requires
+    bad-list-requires
+    cast-t9
+    add-t10
     returns-2
-    bad-list-requires-3
-    returns-3
-    bad-list-requires-4
-    returns-4
-    returns-5)
+    add-k
+    loop-less
+    loop-again
+    returns-3)

@@ -1,81 +1,134 @@
 -- `lists::first_broken` meets its contract. Assumes nothing.
-use Rattle.lists.proofs.Places.{firstOf, shift-zero, first-lists}
-use Rattle.lists.specs.Rules.{shifted}
-use Rattle.lists.specs.declared.Starts.{Starts}
-use Rattle.filing.specs.Lists.{lists, filedList}
-use Rattle.form.specs.First.{orElse}
-use Rattle.form.specs.declared.Spot.{Spot}
-use lib.Dec.{lit<}
-use denote.Ref.{now}
-use mathlib.Core.List.{List}
-use mathlib.Core.Path.{sym, ap, ap₂, _∙_}
-use Prim.Native.Nat.{ℕ, _≤_}
-use native.Mathlib.Omega.{arith}
+use native.Mathlib.Numerals.{add-one}
+use Prim.Native.Nat.{ℕ, _+_, _-_, _*_, _≤_, _<_}
+use mathlib.Core.Path.{_≡_, sym, ap, _∙_}
+use lib.ListN.{length, getD}
+use Rattle.form.specs.Layout.{kinds}
+use Rattle.form.proofs.EachKind.{kinds-are, few-kinds}
+use Rattle.lists.specs.Rules.{Good}
+use Rattle.lists.proofs.Scan.{Scanning, scan-none, scan-in, scan-few, scan-found, scan-more, scan-all}
 use borrow.Author.Needs.{needs}
+use native.Mathlib.Omega.{arith}
 use Rattle.lists.proofs.first_broken.Statement.{statement}
 use Rattle.lists.proofs.first_broken.Tie as tie
 
--- the places have room
-small : (c : tie.Start) → let at = c .args .at in (at .stock ≤ 120) × (at .harvest ≤ 120) × (at .parameters ≤ 120)
-small c =
-    let f = c .pre .1 .0 in
-    let e = c .pre .1 .1 in
-    let s = ap (λ (x : Starts). x .stock) e in
-    let h = ap (λ (x : Starts). x .harvest) e in
-    let p = ap (λ (x : Starts). x .parameters) e in
-    (omega (arith, s, f .conversion), omega (arith, h, f .conversion, f .stock), omega (arith, p, f .conversion, f .stock, f .harvest))
+abbrev Inv-loop : tie.InvT-loop
+Inv-loop number edition lengths area from₀ start₀ k₀ from start k = Scanning number edition lengths area from start k
 
-first-in-requires : tie.Need-first-in-requires
-first-in-requires c κs = search needs
+abbrev μ-loop : tie.MeasureT-loop
+μ-loop number edition lengths area from₀ start₀ k₀ from start k = kinds - k
 
-first-in-requires-2 : tie.Need-first-in-requires-2
-first-in-requires-2 c κs =
-    let enter = c .before .before .before .before .before in
-    (enter .pre .0, lit< tt, lit< tt, enter .pre .1 .0 .stock, omega (arith, small enter))
+-- in a turn: there is a kind left, and its part is in the area
+inside : (c : tie.After-length-at Inv-loop μ-loop)
+    → let v = c .before .before .loop in
+    let a = c .before .before .before .before .before .args in
+    (v .k < kinds) × (v .from + c .length-at .result ≤ length (a .area .now))
+inside c =
+    let k : c .before .before .loop .k < kinds = omega (arith, kinds-are, c .before .loop-test .taken) in
+    (k, scan-in (c .before .before .before .before .before .pre) (c .before .before .loop .inv) k (c .length-at .ensures .0))
 
-first-in-requires-3 : tie.Need-first-in-requires-3
-first-in-requires-3 c κs =
-    let enter = c .before .before .before .before .before .before in
-    (enter .pre .0, lit< tt, lit< tt, enter .pre .1 .0 .harvest, omega (arith, small enter))
+loop-holds : tie.Need-loop-holds Inv-loop μ-loop
+loop-holds c = scan-none _ _ _ _
 
-first-in-requires-4 : tie.Need-first-in-requires-4
-first-in-requires-4 c κs =
-    let enter = c .before .before .before .before .before .before .before in
-    let one = enter .pre .1 .0 .parameters in
-    (enter .pre .0, lit< tt, lit< tt, omega (arith, one), omega (arith, small enter))
+length-at-requires : tie.Need-length-at-requires Inv-loop μ-loop
+length-at-requires c κs = let g = c .before .before .before .before .pre in omega (arith, kinds-are, g .each)
 
-or-else-requires : tie.Need-or-else-requires
-or-else-requires c κs = search needs
+add-end : tie.Need-add-end Inv-loop μ-loop
+add-end c = omega (arith, inside c .1)
 
-or-else-requires-2 : tie.Need-or-else-requires-2
-or-else-requires-2 c κs = search needs
+add-first-in : tie.Need-add-first-in Inv-loop μ-loop
+add-first-in c = omega (arith, few-kinds)
 
-or-else-requires-3 : tie.Need-or-else-requires-3
-or-else-requires-3 c κs = search needs
+mul-first-in : tie.Need-mul-first-in Inv-loop μ-loop
+mul-first-in c = let i = inside c in search needs
 
-returns : tie.Need-returns
+sub-first-in : tie.Need-sub-first-in Inv-loop μ-loop
+sub-first-in c = search needs
+
+part-first-in-start : tie.Need-part-first-in-start Inv-loop μ-loop
+part-first-in-start c = let i = inside c in search needs
+
+part-first-in-end : tie.Need-part-first-in-end Inv-loop μ-loop
+part-first-in-end c = let i = inside c in search needs
+
+first-in-requires : tie.Need-first-in-requires Inv-loop μ-loop
+first-in-requires c κs =
+    let turn = c .before in
+    let i = inside turn in
+    let v = turn .before .before .loop in
+    let g = turn .before .before .before .before .before .pre in
+    (omega arith, omega (arith, i .0), scan-few g (v .inv) (i .0) (turn .length-at .ensures .0), omega (arith, v .inv .low, few-kinds, i .0))
+
+enum-known-place : tie.Need-enum-known-place Inv-loop μ-loop
+enum-known-place c = search needs
+
+returns : tie.Need-returns Inv-loop μ-loop
 returns c =
-    let enter = c .before .before .before .before .before .before .before .before .before .before .before in
-    let a = enter .args in
-    let l = lists (now (a .conversion)) (now (a .stock)) (now (a .harvest)) (now (a .parameters)) in
-    let F : ℕ → List ℕ → Spot = λ k r. firstOf (a .q) (filedList k r) in
-    let s = c .before .before .before .before .before .first-in2 .ensures ∙ ap (λ (x : Starts). shifted (x .stock) (F 2 (now (a .stock)))) (enter .pre .1 .1) in
-    let h = c .before .before .before .before .first-in3 .ensures ∙ ap (λ (x : Starts). shifted (x .harvest) (F 3 (now (a .harvest)))) (enter .pre .1 .1) in
-    let p = c .before .before .before .first-in4 .ensures ∙ ap (λ (x : Starts). shifted (x .parameters) (F 4 (now (a .parameters)))) (enter .pre .1 .1) in
-    c .or-else3 .ensures
-    ∙ ap₂ orElse (c .before .before .before .before .before .before .first-in .ensures ∙ shift-zero (F 1 (now (a .conversion))))
-    (c .before .or-else2 .ensures ∙ ap₂ orElse s (c .before .before .or-else .ensures ∙ ap₂ orElse h p))
-    ∙ sym (first-lists (a .q) l)
+    let at-first = c .before .before .before in
+    let turn = at-first .before .before in
+    scan-found (turn .before .before .before .before .before .pre) (turn .before .before .loop .inv) (inside turn .0) (turn .length-at .ensures .0)
+    (at-first .first-in .ensures) (c .before .place .given .1)
+
+enum-told : tie.Need-enum-told Inv-loop μ-loop
+enum-told c = search needs
+
+add-blocks-of : tie.Need-add-blocks-of Inv-loop μ-loop
+add-blocks-of c = omega (arith, few-kinds)
+
+blocks-of-requires : tie.Need-blocks-of-requires Inv-loop μ-loop
+blocks-of-requires c κs =
+    let turn = c .before .before .before .before in
+    let i = inside turn in
+    let v = turn .before .before .loop in
+    let g = turn .before .before .before .before .before .pre in
+    (omega arith, omega (arith, i .0), rw (add-one (v .k), turn .length-at .ensures .0) (g .few (v .k) (i .0)))
+
+mul-start : tie.Need-mul-start Inv-loop μ-loop
+mul-start c = omega (arith, c .blocks-of .ensures .1)
+
+add-start : tie.Need-add-start Inv-loop μ-loop
+add-start c = omega (arith, few-kinds, c .blocks-of .ensures .1, c .before .before .before .before .before .before .before .loop .inv .low)
+
+add-k : tie.Need-add-k Inv-loop μ-loop
+add-k c = omega (arith, few-kinds)
+
+loop-less : tie.Need-loop-less Inv-loop μ-loop
+loop-less c = omega (arith, kinds-are)
+
+loop-again : tie.Need-loop-again Inv-loop μ-loop
+loop-again c =
+    let told = c .before in
+    let at-first = told .before .before in
+    let turn = at-first .before .before in
+    scan-more (turn .before .before .before .before .before .pre) (turn .before .before .loop .inv) (inside turn .0) (turn .length-at .ensures .0)
+    (at-first .first-in .ensures) (told .enum-told .given .1) (ap (λ (x : ℕ). 12 * x) (c .blocks-of .ensures .0))
+
+returns-2 : tie.Need-returns-2 Inv-loop μ-loop
+returns-2 c = scan-all (c .before .before .before .before .pre) (c .before .loop .inv) (omega (arith, kinds-are, c .loop-test .left))
 
 pub first-broken-spec : {M : Type 1} → statement M
 first-broken-spec =
     tie.close
     (tie.spec
+    Inv-loop
+    μ-loop
+    loop-holds
+    length-at-requires
+    add-end
+    add-first-in
+    mul-first-in
+    sub-first-in
+    part-first-in-start
+    part-first-in-end
     first-in-requires
-    first-in-requires-2
-    first-in-requires-3
-    first-in-requires-4
-    or-else-requires
-    or-else-requires-2
-    or-else-requires-3
-    returns)
+    enum-known-place
+    returns
+    enum-told
+    add-blocks-of
+    blocks-of-requires
+    mul-start
+    add-start
+    add-k
+    loop-less
+    loop-again
+    returns-2)

@@ -2,10 +2,10 @@
 use Prim.Native.Nat.{_-_, _≤_}
 use mathlib.Core.Path.{_≡_, sym, _∙_}
 use Rattle.form.specs.First.{first}
+use Rattle.form.specs.Records.{testOf}
 use Rattle.form.specs.declared.Spot.the-variants.{Nowhere}
 use Rattle.form.proofs.Search.{first-zero, first-more}
 use Rattle.filing.specs.Lists.{filedList}
-use Rattle.lists.specs.Rules.{recordRule}
 use Rattle.lists.proofs.Places.{list-found, list-clean}
 use borrow.Author.Needs.{needs}
 use native.Mathlib.Omega.{arith}
@@ -13,32 +13,32 @@ use Rattle.lists.proofs.first_in.Statement.{statement}
 use Rattle.lists.proofs.first_in.Tie as tie
 
 abbrev Inv-loop : tie.InvT-loop
-Inv-loop q kind rows start n j₀ j = (j ≤ n) × (first (recordRule (filedList kind rows) q .broken) j ≡ Nowhere)
+Inv-loop number edition kind rows start n j₀ j = (j ≤ n) × (first (testOf number edition (filedList kind rows)) j ≡ Nowhere)
 
 abbrev μ-loop : tie.MeasureT-loop
-μ-loop q kind rows start n j₀ j = n - j
+μ-loop number edition kind rows start n j₀ j = n - j
 
 count-requires : tie.Need-count-requires Inv-loop μ-loop
-count-requires c κs = search needs
+count-requires c κs = (c .before .pre .0, c .before .pre .1)
 
 loop-holds : tie.Need-loop-holds Inv-loop μ-loop
 loop-holds c = (search needs, first-zero _)
 
 breaks-requires : tie.Need-breaks-requires Inv-loop μ-loop
-breaks-requires c κs = search needs
+breaks-requires c κs = (c .before .before .before .before .pre .0, c .before .before .before .before .pre .1, omega (arith, c .before .before .count .ensures .0))
 
-add-t9 : tie.Need-add-t9 Inv-loop μ-loop
-add-t9 c = search needs
+add-t11 : tie.Need-add-t11 Inv-loop μ-loop
+add-t11 c = search needs
 
-cast-t10 : tie.Need-cast-t10 Inv-loop μ-loop
-cast-t10 c = search needs
+cast-t12 : tie.Need-cast-t12 Inv-loop μ-loop
+cast-t12 c = search needs
 
 returns : tie.Need-returns Inv-loop μ-loop
 returns c =
     let at-breaks = c .before in
     let v = at-breaks .before .before .loop in
     let a = at-breaks .before .before .before .before .before .args in
-    list-found (a .q) (a .kind) (a .rows .now) (a .start) (v .j) (v .inv .1) (sym (at-breaks .breaks .ensures) ∙ c .if1 .taken) (omega arith)
+    list-found (a .number) (a .edition) (a .kind) (a .rows .now) (a .start) (v .j) (v .inv .1) (sym (at-breaks .breaks .ensures) ∙ c .if1 .taken) (omega (arith, at-breaks .before .before .before .count .ensures .0))
 
 add-j : tie.Need-add-j Inv-loop μ-loop
 add-j c = search needs
@@ -55,7 +55,7 @@ returns-2 : tie.Need-returns-2 Inv-loop μ-loop
 returns-2 c =
     let v = c .before .loop in
     let a = c .before .before .before .before .args in
-    list-clean (a .q) (a .kind) (a .rows .now) (a .start) (v .j) (v .inv .1) (omega arith)
+    list-clean (a .number) (a .edition) (a .kind) (a .rows .now) (a .start) (v .j) (v .inv .1) (omega (arith, c .before .before .count .ensures .0))
 
 pub first-in-spec : {M : Type 1} → statement M
 first-in-spec =
@@ -66,8 +66,8 @@ first-in-spec =
     count-requires
     loop-holds
     breaks-requires
-    add-t9
-    cast-t10
+    add-t11
+    cast-t12
     returns
     add-j
     loop-less

@@ -1,58 +1,67 @@
+-- The text straight in the lent room, or first in room of our own: each is enough for any text. Assumes nothing.
 use native.Mathlib.Omega.{arith}
 use denote.Ref.{now}
 use Rattle.report.specs.Lines.{printed}
-use Rattle.report.proofs.Room.{short-out, done-out}
+use Rattle.report.proofs.Room.{straight-out, short-out, done-out}
+use Rattle.report.proofs.Short.{printed-short}
 use borrow.Author.Needs.{needs}
 use Rattle.report.proofs.lines.Statement.{statement}
 use Rattle.report.proofs.lines.Tie as tie
-use Rattle.report.proofs.lines.Reads as reads
-use Rattle.report.proofs.lines.Lts as lts
-use Rattle.report.proofs.text.put.Reads as put-reads
-use Rattle.report.proofs.text.write_lines.Reads as write-lines-reads
 
--- src/lib.rt:20:38
-slice-aggregate-write-lines : tie.Need-slice-aggregate-write-lines
-slice-aggregate-write-lines c = search needs
-
--- src/lib.rt:20:9
 write-lines-requires : tie.Need-write-lines-requires
-write-lines-requires c κs = search needs
+write-lines-requires c κs =
+    let i = c .before in
+    omega (arith, i .if1 .taken, printed-short (now (i .before .before .before .args .bytes)))
 
--- src/lib.rt:22:9
-returns : tie.Need-returns
-returns c =
-    let w = c .before .before in
-    let a = w .before .before .before .before .args in
-    short-out (printed (now (a .bytes))) _ _ (now (a .room)) _ (w .write-lines .ensures .0) (c .if1 .taken)
-
--- src/lib.rt:24:15
-slice-aggregate-put : tie.Need-slice-aggregate-put
-slice-aggregate-put c = search needs
-
--- src/lib.rt:24:5
-put-requires : tie.Need-put-requires
-put-requires c κs = search needs
-
--- src/lib.rt:15:1
 same-length : tie.Need-same-length
 same-length c = search needs
 
--- src/lib.rt:15:1
+returns : tie.Need-returns
+returns c =
+    let w = c .before .before in
+    let i = w .before .before in
+    let a = i .before .before .before .args in
+    straight-out (printed (now (a .bytes))) (now (a .room)) _ _ (w .write-lines .ensures) (omega (arith, i .if1 .taken, printed-short (now (a .bytes))))
+
+slice-aggregate-write-lines : tie.Need-slice-aggregate-write-lines
+slice-aggregate-write-lines c = search needs
+
+write-lines-requires-2 : tie.Need-write-lines-requires-2
+write-lines-requires-2 c κs = omega (arith, printed-short (now (c .before .before .before .before .args .bytes)))
+
 returns-2 : tie.Need-returns-2
 returns-2 c =
+    let w = c .before .before in
+    let a = w .before .before .before .before .before .args in
+    short-out (printed (now (a .bytes))) _ _ (now (a .room)) _ (w .write-lines2 .ensures) (c .if2 .taken)
+
+slice-aggregate-put : tie.Need-slice-aggregate-put
+slice-aggregate-put c = search needs
+
+put-requires : tie.Need-put-requires
+put-requires c κs = search needs
+
+same-length-2 : tie.Need-same-length-2
+same-length-2 c = search needs
+
+returns-3 : tie.Need-returns-3
+returns-3 c =
     let p = c .before .before in
     let w = p .before .before .before .before .before in
-    let a = w .before .before .before .before .args in
-    done-out (printed (now (a .bytes))) _ _ (now (a .room)) _ (w .write-lines .ensures .0) _ _ (omega (arith, w .write-lines .ensures .1)) (omega arith) (p .put .ensures)
+    let a = w .before .before .before .before .before .args in
+    done-out (printed (now (a .bytes))) _ _ (now (a .room)) _ (w .write-lines2 .ensures) _ _ (omega arith) (omega arith) (p .put .ensures)
 
 pub lines-spec : {M : Type 1} → statement M
 lines-spec =
     tie.close
     (tie.spec
-    slice-aggregate-write-lines
     write-lines-requires
+    same-length
     returns
+    slice-aggregate-write-lines
+    write-lines-requires-2
+    returns-2
     slice-aggregate-put
     put-requires
-    same-length
-    returns-2)
+    same-length-2
+    returns-3)

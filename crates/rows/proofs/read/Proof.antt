@@ -1,8 +1,8 @@
 -- `rows::read` meets its contract. Assumes nothing.
 use mathlib.Core.Path.{refl, sym, _∙_}
 use denote.Ref.{now}
-use Rattle.filing.specs.Lists.{lists}
 use Rattle.rows.proofs.Rows.{judged}
+use native.Mathlib.Omega.{arith}
 use borrow.Author.Needs.{needs}
 use Rattle.rows.proofs.read.Statement.{statement}
 use Rattle.rows.proofs.read.Tie as tie
@@ -18,26 +18,17 @@ enum-known-counts c = search needs
 
 read-accepted-requires : tie.Need-read-accepted-requires
 read-accepted-requires c κs =
-    let told = c .before .before .before .before in
+    let told = c .before in
     sym (told .before .before .before .judge .ensures) ∙ told .before .counts .given .1
 
 returns : tie.Need-returns
 returns c =
     let at-judge = c .before .before .before in
-    let a = at-judge .before .before .before .before .before .before .args in
-    (judged (now (a .bytes)) (lists (now (a .conversion)) (now (a .stock)) (now (a .harvest)) (now (a .parameters))) (sym (at-judge .judge .ensures) ∙ c .before .number .given .1), (refl, (refl, (refl, refl))))
+    let a = at-judge .before .before .before .args in
+    (judged (now (a .bytes)) (now (a .room)) (sym (at-judge .judge .ensures) ∙ c .before .number .given .1), refl)
 
 same-length : tie.Need-same-length
 same-length c = search needs
-
-same-length-2 : tie.Need-same-length-2
-same-length-2 c = search needs
-
-same-length-3 : tie.Need-same-length-3
-same-length-3 c = search needs
-
-same-length-4 : tie.Need-same-length-4
-same-length-4 c = search needs
 
 returns-2 : tie.Need-returns-2
 returns-2 c = search needs
@@ -52,7 +43,4 @@ read-spec =
     read-accepted-requires
     returns
     same-length
-    same-length-2
-    same-length-3
-    same-length-4
     returns-2)

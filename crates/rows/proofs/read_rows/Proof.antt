@@ -1,131 +1,175 @@
 -- `rows::read_rows` meets its contract. Assumes nothing.
-use Prim.Native.Nat.{_≤_}
-use denote.Ref.{now}
-use lib.Dec.{lit<, lit≤}
-use Rattle.rows.proofs.Rows.{Counted, counted, places-in, decoded}
-use native.Mathlib.Omega.{arith}
+use mathlib.Core.List.{List}
+use Prim.Native.Nat.{ℕ, suc, _+_, _-_, _*_, _≤_, _<_}
+use mathlib.Core.Path.{_≡_, refl, sym, ap, ap₂, _∙_}
+use native.Mathlib.Numerals.{add-one}
+use lib.ListN.{length}
+use lib.Seq.{sets}
+use Rattle.form.specs.Block.{blocks}
+use Rattle.form.specs.Layout.{kinds, numbersOf}
+use Rattle.form.specs.Verdict.{rowCount}
+use Rattle.form.specs.Standing.{blocksFor, startBlock}
+use Rattle.form.proofs.EachKind.{kinds-are, few-kinds}
+use Rattle.form.proofs.Accepted.{counted, few-rows, whole-blocks}
+use Rattle.filing.specs.Written.{inTurn}
+use Rattle.filing.specs.Tables.{rowOn}
+use Rattle.filing.proofs.Laying.{Laying, laying-none, laying-in, laying-more, laying-all}
+use Rattle.rows.specs.Reading.{rowsOf}
+use Rattle.rows.proofs.Rows.{rows-turn, rows-long, rows-few, places-in, start-first, start-next}
 use borrow.Author.Needs.{needs}
+use native.Mathlib.Omega.{arith}
 use Rattle.rows.proofs.read_rows.Statement.{statement}
 use Rattle.rows.proofs.read_rows.Tie as tie
 
-known : (c : tie.Start) → Counted (now (c .args .bytes)) (c .args .counts)
-known c = counted (now (c .args .bytes)) (c .args .counts) (c .pre .0)
+abbrev Inv-loop : tie.InvT-loop
+Inv-loop bytes counts room₀ first₀ to₀ k₀ room first to k = (Laying (rowsOf bytes) kinds room₀ room to k) × (first ≡ startBlock (suc k) bytes)
 
-cast-c : tie.Need-cast-c
-cast-c c = search needs
+abbrev μ-loop : tie.MeasureT-loop
+μ-loop bytes counts room₀ first₀ to₀ k₀ room first to k = kinds - k
 
-cast-s : tie.Need-cast-s
-cast-s c = search needs
+-- in a turn: the kind, its rows' number, where they stand and where they go
+record Here (s : List ℕ) (length-room to first k n : ℕ) : Type 0 where
+  kind : k < kinds
+  rows : n ≡ rowCount (suc k) s
+  few : n ≤ 32
+  places : 12 * first + n ≤ 12 * blocks s
+  blocks : blocks s ≤ 58
+  room : to + numbersOf (suc k) * n ≤ length-room
 
-cast-h : tie.Need-cast-h
-cast-h c = search needs
+here : (c : tie.After-count-of Inv-loop μ-loop)
+    → let v = c .before .before .loop in
+    let a = c .before .before .before .before .before .args in
+    Here (a .bytes .now) (length (v .room)) (v .to) (v .first) (v .k) (c .count-of .result)
+here c =
+    let v = c .before .before .loop in
+    let enter = c .before .before .before .before .before in
+    let a = enter .args in
+    let s = a .bytes .now in
+    let acc = enter .pre .0 in
+    let h : v .k < kinds = omega (arith, kinds-are, c .before .loop-test .taken) in
+    let n : c .count-of .result ≡ rowCount (suc (v .k)) s = rw (add-one (v .k)) at (c .count-of .ensures) ∙ counted s (a .counts) acc (v .k) h in
+    record {
+      kind = h;
+      rows = n;
+      few = rw n (few-rows s (a .counts) acc (suc (v .k)));
+      places = rw n (omega (arith, v .inv .1, places-in s (a .counts) acc (v .k) h));
+      blocks = omega (arith, whole-blocks s (a .counts) acc .1, few-kinds);
+      room = rw (n, ← rows-long s (a .counts) acc (v .k) h) (omega (arith, laying-in (v .inv .0) h, v .inv .0 .same, enter .pre .1));
+    }
 
-cast-p : tie.Need-cast-p
-cast-p c = search needs
+loop-holds : tie.Need-loop-holds Inv-loop μ-loop
+loop-holds c = (laying-none, sym (start-first _))
 
-add-stock-at : tie.Need-add-stock-at
-add-stock-at c = search needs
+add-count-of : tie.Need-add-count-of Inv-loop μ-loop
+add-count-of c = omega (arith, few-kinds)
 
-mul-stock-at : tie.Need-mul-stock-at
-mul-stock-at c = search needs
+count-of-requires : tie.Need-count-of-requires Inv-loop μ-loop
+count-of-requires c κs = search needs
 
-add-harvest-at : tie.Need-add-harvest-at
-add-harvest-at c = search needs
+cast-n : tie.Need-cast-n Inv-loop μ-loop
+cast-n c = search needs
 
-mul-harvest-at : tie.Need-mul-harvest-at
-mul-harvest-at c = search needs
+add-decode-kind : tie.Need-add-decode-kind Inv-loop μ-loop
+add-decode-kind c = omega (arith, few-kinds)
 
-add-harvest-at-2 : tie.Need-add-harvest-at-2
-add-harvest-at-2 c = search needs
+mul-decode-kind : tie.Need-mul-decode-kind Inv-loop μ-loop
+mul-decode-kind c = omega (arith, here c)
 
-add-parameters-at : tie.Need-add-parameters-at
-add-parameters-at c = search needs
+decode-kind-requires : tie.Need-decode-kind-requires Inv-loop μ-loop
+decode-kind-requires c κs =
+    let h = here (c .before) in
+    (h .places, rw (add-one (c .before .before .before .loop .k)) (h .room))
 
-mul-parameters-at : tie.Need-mul-parameters-at
-mul-parameters-at c = search needs
+add-numbers : tie.Need-add-numbers Inv-loop μ-loop
+add-numbers c = omega (arith, few-kinds)
 
-add-parameters-at-2 : tie.Need-add-parameters-at-2
-add-parameters-at-2 c = search needs
+-- the numbers of the kind's rows
+numbers-here : (c : tie.After-numbers Inv-loop μ-loop)
+    → let at-count = c .before .before .before .before .before in
+    let a = at-count .before .before .before .before .before .args in
+    c .numbers .result * at-count .count-of .result ≡ length (rowsOf (a .bytes .now) (suc (at-count .before .before .loop .k)))
+numbers-here c =
+    let at-count = c .before .before .before .before .before in
+    let k = at-count .before .before .loop .k in
+    let enter = at-count .before .before .before .before .before in
+    let h = here at-count in
+    ap₂ (λ (x y : ℕ). x * y) (rw (add-one k) at (c .numbers .ensures .0)) (h .rows)
+    ∙ sym (rows-long (enter .args .bytes .now) (enter .args .counts) (enter .pre .0) k (h .kind))
 
-decode-rows-requires : tie.Need-decode-rows-requires
-decode-rows-requires c κs =
-    let enter = c .before .before .before .before .before .before .before .before .before .before in
-    let n = known enter in
-    (lit< tt, lit< tt, omega (arith, n .conversion, n .conversion-at, places-in (enter .args .bytes .now) (enter .args .counts) (enter .pre .0) 0 (lit< tt)), enter .pre .1 .0)
+-- and that they have room
+small : (c : tie.After-numbers Inv-loop μ-loop)
+    → let at-count = c .before .before .before .before .before in
+    at-count .before .before .loop .to + c .numbers .result * at-count .count-of .result ≤ length (at-count .before .before .loop .room)
+small c =
+    let at-count = c .before .before .before .before .before in
+    let k = at-count .before .before .loop .k in
+    rw (rw (add-one k) at (c .numbers .ensures .0)) (here at-count .room)
 
-decode-rows-requires-2 : tie.Need-decode-rows-requires-2
-decode-rows-requires-2 c κs =
-    let enter = c .before .before .before .before .before .before .before .before .before .before .before .before .before .before in
-    let n = known enter in
-    (lit< tt, lit< tt, omega (arith, n .stock, n .stock-at, places-in (enter .args .bytes .now) (enter .args .counts) (enter .pre .0) 1 (lit< tt)), enter .pre .1 .1)
+numbers-requires : tie.Need-numbers-requires Inv-loop μ-loop
+numbers-requires c κs = search needs
 
-decode-rows-requires-3 : tie.Need-decode-rows-requires-3
-decode-rows-requires-3 c κs =
-    let enter = c .before .before .before .before .before .before .before .before .before .before .before .before .before .before .before .before .before .before in
-    let n = known enter in
-    (lit< tt, lit< tt, omega (arith, n .harvest, n .harvest-at, places-in (enter .args .bytes .now) (enter .args .counts) (enter .pre .0) 2 (lit< tt)), enter .pre .1 .2)
+mul-to : tie.Need-mul-to Inv-loop μ-loop
+mul-to c = omega (arith, small c)
 
-decode-rows-requires-4 : tie.Need-decode-rows-requires-4
-decode-rows-requires-4 c κs =
-    let enter = c .before .before .before .before .before .before .before .before .before .before .before .before .before .before .before .before .before .before .before .before .before .before in
-    let n = known enter in
-    (lit< tt, lit< tt, omega (arith, n .parameters, n .parameters-at, places-in (enter .args .bytes .now) (enter .args .counts) (enter .pre .0) 3 (lit< tt)), enter .pre .1 .3)
+add-to : tie.Need-add-to Inv-loop μ-loop
+add-to c = omega (arith, small c)
 
-same-length : tie.Need-same-length
+blocks-for-requires : tie.Need-blocks-for-requires Inv-loop μ-loop
+blocks-for-requires c κs = let h = here (c .before .before .before .before .before) in omega (arith, h .few)
+
+add-first : tie.Need-add-first Inv-loop μ-loop
+add-first c = let h = here (c .before .before .before .before .before .before) in omega (arith, h .few, h .places, h .blocks, c .blocks-for .ensures)
+
+add-k : tie.Need-add-k Inv-loop μ-loop
+add-k c = omega (arith, few-kinds)
+
+loop-less : tie.Need-loop-less Inv-loop μ-loop
+loop-less c = omega (arith, kinds-are)
+
+loop-again : tie.Need-loop-again Inv-loop μ-loop
+loop-again c =
+    let at-numbers = c .before in
+    let at-decode = at-numbers .before .before .before in
+    let at-count = at-decode .before .before in
+    let v = at-count .before .before .loop in
+    let enter = at-count .before .before .before .before .before in
+    let a = enter .args in
+    let s = a .bytes .now in
+    let h = here at-count in
+    let r : inTurn (rowOn (v .k + 1) s) (12 * v .first) (at-count .count-of .result) ≡ rowsOf s (suc (v .k)) =
+    rw (add-one (v .k), v .inv .1, h .rows) (rows-turn s (a .counts) (enter .pre .0) (v .k) (h .kind)) in
+    let e : suc (v .k + 1) ≡ suc (suc (v .k)) = omega arith in (
+      laying-more (v .inv .0) (h .kind) (at-decode .decode-kind .ensures ∙ ap (sets (v .room) (v .to)) r) (ap (λ (x : ℕ). v .to + x) (numbers-here at-numbers)),
+      ap₂ (λ (x y : ℕ). x + y) (v .inv .1) (c .blocks-for .ensures ∙ ap blocksFor (h .rows)) ∙ rw e (sym (start-next s (v .k))),
+    )
+
+same-length : tie.Need-same-length Inv-loop μ-loop
 same-length c = search needs
 
-same-length-2 : tie.Need-same-length-2
-same-length-2 c = search needs
-
-same-length-3 : tie.Need-same-length-3
-same-length-3 c = search needs
-
-same-length-4 : tie.Need-same-length-4
-same-length-4 c = search needs
-
-returns : tie.Need-returns
-returns c =
-    let k4 = c .before .before in
-    let k3 = k4 .before .before .before .before in
-    let k2 = k3 .before .before .before .before in
-    let k1 = k2 .before .before .before .before in
-    let enter = k1 .before .before .before .before .before .before .before .before .before .before .before in
-    let s = now (enter .args .bytes) in
-    let n = enter .args .counts in
-    let acc = enter .pre .0 in
-    let e = known enter in (
-      decoded s n acc 1 (lit≤ tt) (lit≤ tt) (e .conversion-at) (e .conversion) (enter .args .conversion .now) (k1 .decode-rows .ensures),
-      (
-        decoded s n acc 2 (lit≤ tt) (lit≤ tt) (e .stock-at) (e .stock) (enter .args .stock .now) (k2 .decode-rows2 .ensures),
-        (
-          decoded s n acc 3 (lit≤ tt) (lit≤ tt) (e .harvest-at) (e .harvest) (enter .args .harvest .now) (k3 .decode-rows3 .ensures),
-          decoded s n acc 4 (lit≤ tt) (lit≤ tt) (e .parameters-at) (e .parameters) (enter .args .parameters .now) (k4 .decode-rows4 .ensures),
-        ),
-      ),
-    )
+returns : tie.Need-returns Inv-loop μ-loop
+returns c = laying-all (c .before .loop .inv .0) (omega (arith, kinds-are, c .loop-test .left))
 
 pub read-rows-spec : {M : Type 1} → statement M
 read-rows-spec =
     tie.close
     (tie.spec
-    cast-c
-    cast-s
-    cast-h
-    cast-p
-    add-stock-at
-    mul-stock-at
-    add-harvest-at
-    mul-harvest-at
-    add-harvest-at-2
-    add-parameters-at
-    mul-parameters-at
-    add-parameters-at-2
-    decode-rows-requires
-    decode-rows-requires-2
-    decode-rows-requires-3
-    decode-rows-requires-4
+    Inv-loop
+    μ-loop
+    loop-holds
+    add-count-of
+    count-of-requires
+    cast-n
+    add-decode-kind
+    mul-decode-kind
+    decode-kind-requires
+    add-numbers
+    numbers-requires
+    mul-to
+    add-to
+    blocks-for-requires
+    add-first
+    add-k
+    loop-less
+    loop-again
     same-length
-    same-length-2
-    same-length-3
-    same-length-4
     returns)

@@ -2,9 +2,9 @@
 use mathlib.Core.Path.{refl, sym, _∙_}
 use denote.Ref.{now}
 use Rattle.form.proofs.Search.{first-none}
-use Rattle.filing.specs.Lists.{lists}
-use Rattle.lists.proofs.Numbers.{few}
+use Rattle.lists.proofs.Numbers.{good}
 use Rattle.rows.proofs.Return.{list-broken, lists-kept}
+use native.Mathlib.Omega.{arith}
 use borrow.Author.Needs.{needs}
 use Rattle.rows.proofs.write.Statement.{statement}
 use Rattle.rows.proofs.write.Tie as tie
@@ -22,16 +22,13 @@ write-whole-requires : tie.Need-write-whole-requires
 write-whole-requires c κs =
     let told = c .before in
     let at-list = told .before .before in
-    let a = at-list .before .before .before .before .before .before .args in
-    let l = lists (now (a .conversion)) (now (a .stock)) (now (a .harvest)) (now (a .parameters)) in
-    few l (first-none _ (sym (at-list .first-bad-list .ensures) ∙ told .enum-told .given .1))
+    good _ _ (first-none _ (sym (at-list .first-bad-list .ensures) ∙ told .enum-told .given .1))
 
 returns : tie.Need-returns
 returns c =
     let at-list = c .before .before .before in
-    let a = at-list .before .before .before .before .before .before .args in
-    let l = lists (now (a .conversion)) (now (a .stock)) (now (a .harvest)) (now (a .parameters)) in
-    (list-broken l (a .room .now) (sym (at-list .first-bad-list .ensures) ∙ c .before .place .given .1), refl)
+    let a = at-list .before .before .before .before .args in
+    (list-broken 1 (a .lengths .now) (a .rows .now) (now (a .room)) (sym (at-list .first-bad-list .ensures) ∙ c .before .place .given .1), refl)
 
 same-length : tie.Need-same-length
 same-length c = search needs
@@ -41,9 +38,8 @@ returns-2 c =
     let at-whole = c .before .before in
     let told = at-whole .before .before in
     let at-list = told .before .before in
-    let a = at-list .before .before .before .before .before .before .args in
-    let l = lists (now (a .conversion)) (now (a .stock)) (now (a .harvest)) (now (a .parameters)) in
-    (lists-kept l (a .room .now) (sym (at-list .first-bad-list .ensures) ∙ told .enum-told .given .1) (at-whole .write-whole .ensures .0), at-whole .write-whole .ensures .1)
+    let a = at-list .before .before .before .before .args in
+    (lists-kept 1 (a .lengths .now) (a .rows .now) (now (a .room)) (sym (at-list .first-bad-list .ensures) ∙ told .enum-told .given .1) (at-whole .write-whole .ensures .0), at-whole .write-whole .ensures .1)
 
 pub write-spec : {M : Type 1} → statement M
 write-spec =

@@ -1,72 +1,139 @@
 -- `rows::write_blocks` meets its contract. Assumes nothing.
-use Prim.Native.Nat.{_*_, _/_, _≤_}
-use denote.Ref.{now}
-use lib.Dec.{lit<}
+use Prim.Native.Nat.{ℕ, suc, _+_, _-_, _*_, _≤_, _<_}
+use mathlib.Core.Path.{_≡_, refl, sym, ap, _∙_}
+use native.Mathlib.Numerals.{add-one}
 use lib.ListN.{length}
-use Rattle.filing.specs.Lists.{lists}
-use Rattle.rows.proofs.Return.{InBlocks, in-blocks, length-written, blocks-stored}
-use native.Mathlib.Omega.{arith}
+use Rattle.form.specs.Layout.{kinds}
+use Rattle.form.proofs.EachKind.{kinds-are, few-kinds}
+use Rattle.rows.proofs.Return.{Storing, storing-none, storing-in, storing-room, storing-more, storing-all}
 use borrow.Author.Needs.{needs}
+use native.Mathlib.Omega.{arith}
 use Rattle.rows.proofs.write_blocks.Statement.{statement}
 use Rattle.rows.proofs.write_blocks.Tie as tie
 
-known : (c : tie.Start) → let a = c .args in InBlocks (lists (now (a .conversion)) (now (a .stock)) (now (a .harvest)) (now (a .parameters))) (a .at)
-known c = let a = c .args in in-blocks (lists (now (a .conversion)) (now (a .stock)) (now (a .harvest)) (now (a .parameters))) (a .at) (c .pre .0) (c .pre .1 .0)
+abbrev Inv-loop : tie.InvT-loop
+Inv-loop edition lengths rows n room₀ from₀ start₀ k₀ room from start k = Storing edition n lengths rows room₀ room from start k
 
--- the blocks have room
-inside : (c : tie.Start) → 512 * (c .args .at .all / 12) ≤ length (c .args .room .now)
+abbrev μ-loop : tie.MeasureT-loop
+μ-loop edition lengths rows n room₀ from₀ start₀ k₀ room from start k = kinds - k
+
+-- in a turn: there is a kind left, its part is in the area, and its blocks are among the n
+inside : (c : tie.After-length-at Inv-loop μ-loop)
+    → let v = c .before .before .loop in
+    let a = c .before .before .before .before .before .before .args in
+    (v .k < kinds) × (v .from + c .length-at .result ≤ length (a .rows .now)) × (v .start ≤ 60) × (512 * a .n ≤ length (v .room))
 inside c =
-    let a = c .args in
-    omega (arith, known c .all, c .pre .1 .1, length-written (lists (now (a .conversion)) (now (a .stock)) (now (a .harvest)) (now (a .parameters))))
+    let v = c .before .before .loop in
+    let enter = c .before .before .before .before .before .before in
+    let a = enter .args in
+    let h : v .k < kinds = omega (arith, kinds-are, c .before .loop-test .taken) in (
+      h,
+      storing-in (a .edition) (a .n) (a .lengths .now) (a .rows .now) (enter .pre .0) (enter .pre .1 .0) (v .inv) h (c .length-at .ensures .0),
+      omega (arith, v .inv .left, enter .pre .1 .1),
+      omega (arith, v .inv .same, enter .pre .1 .2),
+    )
 
-write-kind-requires : tie.Need-write-kind-requires
+loop-holds : tie.Need-loop-holds Inv-loop μ-loop
+loop-holds c =
+    let enter = c .before .before .before in
+    let a = enter .args in
+    storing-none (a .edition) (a .n) (a .lengths .now) (a .rows .now) (enter .pre .0) (enter .pre .1 .0)
+
+length-at-requires : tie.Need-length-at-requires Inv-loop μ-loop
+length-at-requires c κs = let g = c .before .before .before .before .before .pre .0 in omega (arith, kinds-are, g .each)
+
+add-end : tie.Need-add-end Inv-loop μ-loop
+add-end c = omega (arith, inside c .1)
+
+add-write-kind : tie.Need-add-write-kind Inv-loop μ-loop
+add-write-kind c = omega (arith, few-kinds)
+
+mul-write-kind : tie.Need-mul-write-kind Inv-loop μ-loop
+mul-write-kind c = let i = inside c in search needs
+
+sub-write-kind : tie.Need-sub-write-kind Inv-loop μ-loop
+sub-write-kind c = search needs
+
+part-write-kind-start : tie.Need-part-write-kind-start Inv-loop μ-loop
+part-write-kind-start c = let i = inside c in search needs
+
+part-write-kind-end : tie.Need-part-write-kind-end Inv-loop μ-loop
+part-write-kind-end c = let i = inside c in search needs
+
+write-kind-requires : tie.Need-write-kind-requires Inv-loop μ-loop
 write-kind-requires c κs =
-    let enter = c .before .before .before .before .before .before .before in
-    let b = known enter in
-    (lit< tt, lit< tt, omega (arith, b), b .few, omega (arith, inside enter))
+    let turn = c .before .before in
+    let i = inside turn in
+    let v = turn .before .before .loop in
+    let enter = turn .before .before .before .before .before .before in
+    let a = enter .args in (
+      (omega arith, omega (arith, i .0)),
+      (
+        storing-room (a .edition) (a .n) (a .lengths .now) (a .rows .now) (enter .pre .0) (enter .pre .1 .0) (v .inv) (i .0) (turn .length-at .ensures .0),
+        omega (arith, enter .pre .1 .1),
+        i .3,
+      ),
+    )
 
-write-kind-requires-2 : tie.Need-write-kind-requires-2
-write-kind-requires-2 c κs =
-    let enter = c .before .before .before .before .before .before .before .before .before .before .before .before in
-    let b = known enter in
-    (lit< tt, lit< tt, omega (arith, b), b .few, omega (arith, inside enter))
+add-blocks-of : tie.Need-add-blocks-of Inv-loop μ-loop
+add-blocks-of c = omega (arith, few-kinds)
 
-write-kind-requires-3 : tie.Need-write-kind-requires-3
-write-kind-requires-3 c κs =
-    let enter = c .before .before .before .before .before .before .before .before .before .before .before .before .before .before .before .before .before in
-    let b = known enter in
-    (lit< tt, lit< tt, omega (arith, b), b .few, omega (arith, inside enter))
+blocks-of-requires : tie.Need-blocks-of-requires Inv-loop μ-loop
+blocks-of-requires c κs =
+    let turn = c .before .before .before .before .before in
+    let i = inside turn in
+    let k = turn .before .before .loop .k in
+    let g = turn .before .before .before .before .before .before .pre .0 in
+    (omega arith, omega (arith, i .0), rw (add-one k, turn .length-at .ensures .0) (g .few k (i .0)))
 
-write-kind-requires-4 : tie.Need-write-kind-requires-4
-write-kind-requires-4 c κs =
-    let enter = c .before .before .before .before .before .before .before .before .before .before .before .before .before .before .before .before .before .before .before .before .before .before in
-    let b = known enter in
-    (lit< tt, lit< tt, omega (arith, b), b .few, omega (arith, inside enter))
+add-start : tie.Need-add-start Inv-loop μ-loop
+add-start c = omega (arith, c .blocks-of .ensures .1, inside (c .before .before .before .before .before .before) .2)
 
-same-length : tie.Need-same-length
+add-k : tie.Need-add-k Inv-loop μ-loop
+add-k c = omega (arith, few-kinds)
+
+loop-less : tie.Need-loop-less Inv-loop μ-loop
+loop-less c = omega (arith, kinds-are)
+
+loop-again : tie.Need-loop-again Inv-loop μ-loop
+loop-again c =
+    let at-kind = c .before .before .before in
+    let turn = at-kind .before .before .before in
+    let v = turn .before .before .loop in
+    let enter = turn .before .before .before .before .before .before in
+    let a = enter .args in
+    storing-more (a .edition) (a .n) (a .lengths .now) (a .rows .now) (enter .pre .0) (enter .pre .1 .0) (v .inv) (inside turn .0) (turn .length-at .ensures .0)
+    (at-kind .write-kind .ensures) (c .blocks-of .ensures .0)
+
+same-length : tie.Need-same-length Inv-loop μ-loop
 same-length c = search needs
 
-returns : tie.Need-returns
+returns : tie.Need-returns Inv-loop μ-loop
 returns c =
-    let k4 = c .before .before in
-    let k3 = k4 .before .before .before .before .before in
-    let k2 = k3 .before .before .before .before .before in
-    let k1 = k2 .before .before .before .before .before in
-    let enter = k1 .before .before .before .before .before .before .before .before in
+    let enter = c .before .before .before .before .before in
     let a = enter .args in
-    blocks-stored (lists (now (a .conversion)) (now (a .stock)) (now (a .harvest)) (now (a .parameters))) (a .at) (a .room .now) (known enter)
-    (k1 .write-kind .ensures)
-    (k2 .write-kind2 .ensures)
-    (k3 .write-kind3 .ensures)
-    (k4 .write-kind4 .ensures)
+    storing-all (a .edition) (a .n) (a .lengths .now) (a .rows .now) (enter .pre .0) (enter .pre .1 .0) (c .before .loop .inv) (omega (arith, kinds-are, c .loop-test .left))
 
 pub write-blocks-spec : {M : Type 1} → statement M
 write-blocks-spec =
     tie.close
     (tie.spec
+    Inv-loop
+    μ-loop
+    loop-holds
+    length-at-requires
+    add-end
+    add-write-kind
+    mul-write-kind
+    sub-write-kind
+    part-write-kind-start
+    part-write-kind-end
     write-kind-requires
-    write-kind-requires-2
-    write-kind-requires-3
-    write-kind-requires-4
+    add-blocks-of
+    blocks-of-requires
+    add-start
+    add-k
+    loop-less
+    loop-again
     same-length
     returns)

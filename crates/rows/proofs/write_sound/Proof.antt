@@ -1,52 +1,55 @@
 -- `rows::write_sound` meets its contract. Assumes nothing.
-use Prim.Native.Nat.{ℕ, _*_, _/_}
-use mathlib.Core.Path.{_≡_, refl, sym, ap, _∙_}
+use mathlib.Core.Path.{refl, sym, _∙_}
 use denote.Ref.{now}
-use lib.ListN.{length}
-use Rattle.filing.specs.Lists.{lists}
-use Rattle.rows.specs.Writing.{written}
-use Rattle.rows.proofs.Return.{in-blocks, length-written, no-room, all-done, on-front}
+use Rattle.rows.proofs.Return.{written-long, no-room, all-done, on-front}
 use native.Mathlib.Omega.{arith}
 use borrow.Author.Needs.{needs}
 use Rattle.rows.proofs.write_sound.Statement.{statement}
 use Rattle.rows.proofs.write_sound.Tie as tie
 
--- what is to be written is as long as the blocks
-long : (c : tie.Start) → let a = c .args in 512 * (a .at .all / 12) ≡ length (written (lists (now (a .conversion)) (now (a .stock)) (now (a .harvest)) (now (a .parameters))))
-long c =
-    let a = c .args in
-    let l = lists (now (a .conversion)) (now (a .stock)) (now (a .harvest)) (now (a .parameters)) in
-    ap (λ (x : ℕ). 512 * x) (in-blocks l (a .at) (c .pre .0) (c .pre .1) .all) ∙ sym (length-written l)
+blocks-in-requires : tie.Need-blocks-in-requires
+blocks-in-requires c κs = search needs
 
-mul-n : tie.Need-mul-n
-mul-n c =
-    let enter = c .before .before .before .before .before .before in
-    let a = enter .args in
-    omega (arith, in-blocks (lists (now (a .conversion)) (now (a .stock)) (now (a .harvest)) (now (a .parameters))) (a .at) (enter .pre .0) (enter .pre .1) .few)
+mul-if1 : tie.Need-mul-if1
+mul-if1 c = search needs
 
 returns : tie.Need-returns
 returns c =
-    let enter = c .before .before .before .before .before .before .before in
+    let at-blocks = c .before in
+    let enter = at-blocks .before .before .before .before in
     let a = enter .args in
-    let l = lists (now (a .conversion)) (now (a .stock)) (now (a .harvest)) (now (a .parameters)) in
-    (no-room l (a .room .now) (long enter) (c .if1 .taken), refl)
+    let long = written-long (a .edition) _ (a .lengths .now) (a .rows .now) (enter .pre) (at-blocks .blocks-in .ensures .0) in
+    (no-room (a .edition) (a .lengths .now) (a .rows .now) (now (a .room)) long (c .if1 .taken), refl)
 
 write-blocks-requires : tie.Need-write-blocks-requires
-write-blocks-requires c κs =
-    let enter = c .before .before .before .before .before .before .before .before in
-    (enter .pre .0, (enter .pre .1, omega (arith, long enter, c .before .if1 .left)))
+write-blocks-requires c κs = search needs
+
+mul-t6 : tie.Need-mul-t6
+mul-t6 c = search needs
 
 same-length : tie.Need-same-length
 same-length c = search needs
 
 returns-2 : tie.Need-returns-2
 returns-2 c =
-    let at-blocks = c .before .before in
-    let test = at-blocks .before .before in
-    let enter = test .before .before .before .before .before .before .before in
+    let at-write = c .before .before in
+    let test = at-write .before .before in
+    let at-blocks = test .before in
+    let enter = at-blocks .before .before .before .before in
     let a = enter .args in
-    let l = lists (now (a .conversion)) (now (a .stock)) (now (a .harvest)) (now (a .parameters)) in
-    (all-done l (a .room .now) (long enter) (test .if1 .left), on-front l (a .room .now) (long enter) (test .if1 .left) (at-blocks .write-blocks .ensures))
+    let long = written-long (a .edition) _ (a .lengths .now) (a .rows .now) (enter .pre) (at-blocks .blocks-in .ensures .0) in (
+      all-done (a .edition) (a .lengths .now) (a .rows .now) (now (a .room)) long (test .if1 .left),
+      on-front (a .edition) (a .lengths .now) (a .rows .now) (now (a .room)) long (test .if1 .left) (at-write .write-blocks .ensures),
+    )
 
 pub write-sound-spec : {M : Type 1} → statement M
-write-sound-spec = tie.close (tie.spec mul-n returns write-blocks-requires same-length returns-2)
+write-sound-spec =
+    tie.close
+    (tie.spec
+    blocks-in-requires
+    mul-if1
+    returns
+    write-blocks-requires
+    mul-t6
+    same-length
+    returns-2)

@@ -1,17 +1,14 @@
 -- `rows::write_whole` meets its contract. Assumes nothing.
 use mathlib.Core.Path.{refl, sym, _∙_}
 use denote.Ref.{now}
-use Rattle.filing.specs.Lists.{lists}
 use Rattle.rows.proofs.Return.{record-broken, records-kept}
+use native.Mathlib.Omega.{arith}
 use borrow.Author.Needs.{needs}
 use Rattle.rows.proofs.write_whole.Statement.{statement}
 use Rattle.rows.proofs.write_whole.Tie as tie
 
-find-starts-requires : tie.Need-find-starts-requires
-find-starts-requires c κs = search needs
-
-records-ruling-requires : tie.Need-records-ruling-requires
-records-ruling-requires c κs = search needs
+rule-records-requires : tie.Need-rule-records-requires
+rule-records-requires c κs = search needs
 
 enum-known-number : tie.Need-enum-known-number
 enum-known-number c = search needs
@@ -24,10 +21,9 @@ write-sound-requires c κs = search needs
 
 returns : tie.Need-returns
 returns c =
-    let at-ruling = c .before .before .before in
-    let a = at-ruling .before .before .before .before .before .before .before .args in
-    let l = lists (now (a .conversion)) (now (a .stock)) (now (a .harvest)) (now (a .parameters)) in
-    (record-broken l (a .room .now) (sym (at-ruling .records-ruling .ensures) ∙ c .before .number .given .1), refl)
+    let at-rule = c .before .before .before in
+    let a = at-rule .before .before .before .before .args in
+    (record-broken (a .edition) (a .lengths .now) (a .rows .now) (now (a .room)) (sym (at-rule .rule-records .ensures) ∙ c .before .number .given .1), refl)
 
 same-length : tie.Need-same-length
 same-length c = search needs
@@ -36,17 +32,15 @@ returns-2 : tie.Need-returns-2
 returns-2 c =
     let at-sound = c .before .before in
     let told = at-sound .before .before in
-    let at-ruling = told .before .before in
-    let a = at-ruling .before .before .before .before .before .before .before .args in
-    let l = lists (now (a .conversion)) (now (a .stock)) (now (a .harvest)) (now (a .parameters)) in
-    (records-kept l (a .room .now) (sym (at-ruling .records-ruling .ensures) ∙ told .enum-told .given .1) (at-sound .write-sound .ensures .0), at-sound .write-sound .ensures .1)
+    let at-rule = told .before .before in
+    let a = at-rule .before .before .before .before .args in
+    (records-kept (a .edition) (a .lengths .now) (a .rows .now) (now (a .room)) (sym (at-rule .rule-records .ensures) ∙ told .enum-told .given .1) (at-sound .write-sound .ensures .0), at-sound .write-sound .ensures .1)
 
 pub write-whole-spec : {M : Type 1} → statement M
 write-whole-spec =
     tie.close
     (tie.spec
-    find-starts-requires
-    records-ruling-requires
+    rule-records-requires
     enum-known-number
     enum-told
     write-sound-requires

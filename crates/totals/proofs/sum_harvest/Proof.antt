@@ -1,10 +1,13 @@
 -- `totals::sum_harvest` meets its contract. Assumes nothing.
-use Rattle.totals.proofs.Accepted.{Stands, harvest-row, lengths, harvest-small, next}
+use Rattle.totals.proofs.Accepted.{Stands, kind-row, lengths, harvest-small, next}
 use Rattle.totals.proofs.Sums.{sum-all}
 use Prim.Native.Nat.{_+_, _-_, _≤_}
 use mathlib.Core.Path.{_≡_, _∙_}
 use denote.Ref.{now}
+use lib.Dec.{lit<, lit≤}
 use lib.ListN.{take}
+use Rattle.form.proofs.EachKind.{kinds-are}
+use Rattle.form.proofs.Accepted.{few-counted}
 use Rattle.form.specs.Verdict.{rows}
 use Rattle.totals.specs.Columns.{sumOf, harvestPart}
 use borrow.Author.Needs.{needs}
@@ -18,17 +21,15 @@ Inv-loop bytes first n sum₀ i₀ sum i = (i ≤ n) × (sum ≡ sumOf harvestPa
 abbrev μ-loop : tie.MeasureT-loop
 μ-loop bytes first n sum₀ i₀ sum i = n - i
 
-row : (c : tie.After-row-start Inv-loop μ-loop) → Stands (now (c .before .before .before .before .before .before .before .args .bytes)) 3 (c .before .before .loop .i) (c .row-start .result)
-row c = let s = c .before .before .before .before .before .before .before in harvest-row (now (s .args .bytes)) (s .args .c) (s .pre) _ _ _ (omega arith) (search needs) (c .row-start .ensures)
+row : (c : tie.After-row-start Inv-loop μ-loop) → Stands (now (c .before .before .before .before .before .before .args .bytes)) 3 (c .before .before .loop .i) (c .row-start .result)
+row c =
+    let s = c .before .before .before .before .before .before in
+    kind-row (now (s .args .bytes)) (s .args .c) (s .pre) 3 _ _ _ (lit≤ tt) (omega (arith, kinds-are)) (c .before .before .before .before .first-block .ensures .0) (search needs) (c .row-start .ensures)
 
-blocks-for-requires : tie.Need-blocks-for-requires Inv-loop μ-loop
-blocks-for-requires c κs = search needs
-
-blocks-for-requires-2 : tie.Need-blocks-for-requires-2 Inv-loop μ-loop
-blocks-for-requires-2 c κs = search needs
-
-add-first : tie.Need-add-first Inv-loop μ-loop
-add-first c = search needs
+first-block-requires : tie.Need-first-block-requires Inv-loop μ-loop
+first-block-requires c κs =
+    let s = c .before in
+    (lit< tt, lit< tt, few-counted (now (s .args .bytes)) (s .args .c) (s .pre))
 
 cast-n : tie.Need-cast-n Inv-loop μ-loop
 cast-n c = search needs
@@ -45,7 +46,7 @@ harvest-at-requires c κs = let w = row c in search needs
 
 add-sum : tie.Need-add-sum Inv-loop μ-loop
 add-sum c =
-    let s = c .before .before .before .before .before .before .before .before in
+    let s = c .before .before .before .before .before .before .before in
     let w = row (c .before) in
     let e = next harvestPart w (c .before .before .before .loop .inv .1) (c .harvest-at .ensures) in
     omega (arith, harvest-small (now (s .args .bytes)) (s .args .c) (s .pre) (c .before .before .before .loop .i + 1) (omega arith))
@@ -64,7 +65,7 @@ of-requires c κs = search needs
 
 returns : tie.Need-returns Inv-loop μ-loop
 returns c =
-    let s = c .before .before .before .before .before .before .before in
+    let s = c .before .before .before .before .before .before in
     let l = lengths (now (s .args .bytes)) (s .args .c) (s .pre) in
     c .of .ensures ∙ c .before .before .loop .inv .1 ∙ sum-all harvestPart (rows 3 (now (s .args .bytes))) (c .before .before .loop .i) (omega arith)
 
@@ -74,9 +75,7 @@ sum-harvest-spec =
     (tie.spec
     Inv-loop
     μ-loop
-    blocks-for-requires
-    blocks-for-requires-2
-    add-first
+    first-block-requires
     cast-n
     loop-holds
     row-start-requires

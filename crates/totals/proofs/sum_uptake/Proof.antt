@@ -1,10 +1,13 @@
 -- `totals::sum_uptake` meets its contract. Assumes nothing.
-use Rattle.totals.proofs.Accepted.{Stands, stock-row, lengths, uptake-small, next}
+use Rattle.totals.proofs.Accepted.{Stands, kind-row, lengths, uptake-small, next}
 use Rattle.totals.proofs.Sums.{sum-all}
 use Prim.Native.Nat.{_+_, _-_, _≤_}
 use mathlib.Core.Path.{_≡_, _∙_}
 use denote.Ref.{now}
+use lib.Dec.{lit<, lit≤}
 use lib.ListN.{take}
+use Rattle.form.proofs.EachKind.{kinds-are}
+use Rattle.form.proofs.Accepted.{few-counted}
 use Rattle.form.specs.Verdict.{rows}
 use Rattle.totals.specs.Columns.{sumOf, uptakePart}
 use borrow.Author.Needs.{needs}
@@ -19,10 +22,14 @@ abbrev μ-loop : tie.MeasureT-loop
 μ-loop bytes first n sum₀ i₀ sum i = n - i
 
 row : (c : tie.After-row-start Inv-loop μ-loop) → Stands (now (c .before .before .before .before .before .before .args .bytes)) 2 (c .before .before .loop .i) (c .row-start .result)
-row c = let s = c .before .before .before .before .before .before in stock-row (now (s .args .bytes)) (s .args .c) (s .pre) _ _ _ (c .before .before .before .before .blocks-for .ensures) (search needs) (c .row-start .ensures)
+row c =
+    let s = c .before .before .before .before .before .before in
+    kind-row (now (s .args .bytes)) (s .args .c) (s .pre) 2 _ _ _ (lit≤ tt) (omega (arith, kinds-are)) (c .before .before .before .before .first-block .ensures .0) (search needs) (c .row-start .ensures)
 
-blocks-for-requires : tie.Need-blocks-for-requires Inv-loop μ-loop
-blocks-for-requires c κs = search needs
+first-block-requires : tie.Need-first-block-requires Inv-loop μ-loop
+first-block-requires c κs =
+    let s = c .before in
+    (lit< tt, lit< tt, few-counted (now (s .args .bytes)) (s .args .c) (s .pre))
 
 cast-n : tie.Need-cast-n Inv-loop μ-loop
 cast-n c = search needs
@@ -68,7 +75,7 @@ sum-uptake-spec =
     (tie.spec
     Inv-loop
     μ-loop
-    blocks-for-requires
+    first-block-requires
     cast-n
     loop-holds
     row-start-requires

@@ -1,41 +1,26 @@
-use native.Mathlib.Omega.{arith}
-use Rattle.wide.proofs.DigitLaws.{written-more}
+-- The names are those of the list. Assumes nothing.
+use mathlib.Core.Path.{refl}
+use mathlib.Core.List.{flatMap}
 use borrow.Author.Needs.{needs}
+use Rattle.listed.specs.Listed.{listed, listed51, listed52, listed53}
 use Rattle.report.proofs.text.put_figures.Statement.{statement}
 use Rattle.report.proofs.text.put_figures.Tie as tie
-use Rattle.report.proofs.text.put_figures.Reads as reads
-use Rattle.report.proofs.text.put_figures.Lts as lts
-use Rattle.report.proofs.text.put_conversion.Reads as put-conversion-reads
-use Rattle.report.proofs.text.put_gases.Reads as put-gases-reads
-use Rattle.report.proofs.text.put_stocks.Reads as put-stocks-reads
 
--- src/text.rt:107:9
-put-stocks-requires : tie.Need-put-stocks-requires
-put-stocks-requires c κs = search needs
+slice-aggregate-put-lines : tie.Need-slice-aggregate-put-lines
+slice-aggregate-put-lines c = search needs
 
--- src/text.rt:108:9
-put-conversion-requires : tie.Need-put-conversion-requires
-put-conversion-requires c κs = search needs
+put-lines-requires : tie.Need-put-lines-requires
+unfolding flatMap listed listed51 listed52 listed53
+put-lines-requires c κs =
+    let s = c .before .before .before in
+    (s .pre .0, refl, s .pre .1)
 
--- src/text.rt:109:5
-put-gases-requires : tie.Need-put-gases-requires
-put-gases-requires c κs = search needs
-
--- src/text.rt:103:1
 same-length : tie.Need-same-length
 same-length c = search needs
 
--- src/text.rt:103:1
 returns : tie.Need-returns
-returns c =
-    let x3 = c .before .before in
-    let x2 = x3 .before .before .before .before in
-    let x1 = x2 .before .before .before .before in (
-      written-more (written-more (x1 .put-stocks .ensures .0) (x2 .put-conversion .ensures .0)) (x3 .put-gases .ensures .0),
-      omega (arith, x1 .put-stocks .ensures .1, x2 .put-conversion .ensures .1, x3 .put-gases .ensures .1),
-    )
+returns c = search needs
 
 pub put-figures-spec : {M : Type 1} → statement M
 put-figures-spec =
-    tie.close
-    (tie.spec put-stocks-requires put-conversion-requires put-gases-requires same-length returns)
+    tie.close (tie.spec slice-aggregate-put-lines put-lines-requires same-length returns)

@@ -1,0 +1,44 @@
+-- Two digits, the upper one first. Assumes nothing.
+use lib.ListN.{length-set}
+use Rattle.decimal.proofs.DigitLaws.{put-pair}
+use native.Mathlib.Omega.{arith}
+use borrow.Author.Needs.{needs}
+use Rattle.decimal.proofs.put_two.Statement.{statement}
+use Rattle.decimal.proofs.put_two.Tie as tie
+
+digit-requires : tie.Need-digit-requires
+digit-requires c κs = search needs
+
+slice-write-out : tie.Need-slice-write-out
+slice-write-out c = search needs
+
+digit-requires-2 : tie.Need-digit-requires-2
+digit-requires-2 c κs = search needs
+
+add-out : tie.Need-add-out
+add-out c = search needs
+
+slice-write-out-2 : tie.Need-slice-write-out-2
+slice-write-out-2 c = simp length-set (omega arith)
+
+add-result : tie.Need-add-result
+add-result c = search needs
+
+same-length : tie.Need-same-length
+same-length c = search needs
+
+returns : tie.Need-returns
+returns c = put-pair _ _ _ _ _ (omega arith) (omega arith) (omega arith)
+
+pub put-two-spec : {M : Type 1} → statement M
+put-two-spec =
+    tie.close
+    (tie.spec
+    digit-requires
+    slice-write-out
+    digit-requires-2
+    add-out
+    slice-write-out-2
+    add-result
+    same-length
+    returns)

@@ -1,0 +1,83 @@
+-- The kinds and the editions: what is computed of their tables, once for all entries. Assumes nothing.
+--     kinds-are       how many kinds there are, as the code counts them; few-kinds, not many
+--     each-layout     a test of layouts that the checker computes for each kind
+--     last-kinds      no edition allows more kinds than there are; known-editions, the editions there are
+use Prim.Native.Nat.{ℕ, zero, suc, _≤_, _<_}
+use mathlib.Core.Path.{_≡_, refl}
+use mathlib.Core.Bool.{Bool, true, false, _&&_}
+use mathlib.Core.List.{List, [], _∷_}
+use native.Mathlib.Omega.{arith}
+use lib.Dec.{ltb, lit≤}
+use lib.ListN.{length, getD}
+use borrow.Author.Tests.{ltb-true}
+use Rattle.form.specs.Layout.{Layout, layouts, kinds, parametersKind, layout}
+use Rattle.form.specs.Edition.{lastKind, known}
+use Rattle.form.proofs.Tests.{and-true}
+
+pub kinds-are : kinds ≡ 4
+unfolding kinds
+kinds-are = refl
+
+-- the parameters are one of them, and the last
+pub parameters-last : kinds ≡ parametersKind
+unfolding kinds
+parameters-last = refl
+
+-- places stay small, so that a refusal's code has room for them
+pub few-kinds : kinds ≤ 20
+unfolding kinds
+few-kinds = lit≤ tt
+
+pub one-kind : 1 ≤ kinds
+unfolding kinds
+one-kind = lit≤ tt
+
+-- a test holds of each layout of a list
+abbrev pub each : (Layout → Bool) → List Layout → Bool
+each t [] = true
+each t (l ∷ ls) = t l && each t ls
+
+from-each : (t : Layout → Bool) (ls : List Layout) → each t ls ≡ true → (k : ℕ) → k < length ls → t (getD ls k []) ≡ true
+from-each t [] e k h = absurd (omega arith)
+from-each t (l ∷ ls) e zero h = and-true (t l) (each t ls) e .0
+from-each t (l ∷ ls) e (suc k) h = from-each t ls (and-true (t l) (each t ls) e .1) k (omega arith)
+
+-- of each kind
+pub each-kind : (t : Layout → Bool) → each t layouts ≡ true → (k : ℕ) → k < kinds → t (layout (suc k)) ≡ true
+unfolding kinds
+each-kind t e k h = from-each t layouts e k h
+
+-- and of every number, if of no fields too
+at-default : (t : Layout → Bool) (ls : List Layout) → each t ls ≡ true → t [] ≡ true → (k : ℕ) → t (getD ls k []) ≡ true
+at-default t [] e d k = d
+at-default t (l ∷ ls) e d zero = and-true (t l) (each t ls) e .0
+at-default t (l ∷ ls) e d (suc k) = at-default t ls (and-true (t l) (each t ls) e .1) d k
+
+pub each-layout : (t : Layout → Bool) → each t layouts ≡ true → t [] ≡ true → (k : ℕ) → t (layout k) ≡ true
+each-layout t e d zero = d
+each-layout t e d (suc k) = at-default t layouts e d k
+
+-- ---- editions
+
+pub last-kinds : (e : ℕ) → lastKind e ≤ kinds
+unfolding lastKind kinds
+last-kinds zero = lit≤ tt
+last-kinds (suc zero) = lit≤ tt
+last-kinds (suc (suc e)) = lit≤ tt
+
+pub first-edition : lastKind 1 ≡ kinds
+unfolding lastKind kinds
+first-edition = refl
+
+-- another number is no edition
+pub no-edition : (e : ℕ) → (e ≡ 1 → ⊥) → lastKind e ≡ 0
+unfolding lastKind
+no-edition zero h = refl
+no-edition (suc zero) h = absurd (h refl)
+no-edition (suc (suc e)) h = refl
+
+pub known-edition : (e : ℕ) → known e ≡ true → e ≡ 1
+unfolding lastKind
+known-edition zero h = let z : 0 < 0 = ltb-true 0 0 h in absurd (omega arith)
+known-edition (suc zero) h = refl
+known-edition (suc (suc e)) h = let z : 0 < 0 = ltb-true 0 0 h in absurd (omega arith)

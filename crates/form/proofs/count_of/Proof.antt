@@ -1,0 +1,32 @@
+-- `form::count_of` meets its contract. Assumes nothing.
+use Prim.Native.Nat.{ℕ, zero, suc}
+use mathlib.Core.Path.{_≡_, refl, sym}
+use mathlib.Core.List.{_∷_}
+use native.Mathlib.Omega.{arith}
+use lib.ListN.{List·getD-eq-default}
+use borrow.Author.Needs.{needs}
+use Rattle.form.specs.Verdict.{countList, countIn}
+use Rattle.form.proofs.count_of.Statement.{statement}
+use Rattle.form.proofs.count_of.Tie as tie
+
+returns : tie.Need-returns
+returns c = search needs
+
+returns-2 : tie.Need-returns-2
+returns-2 c = search needs
+
+returns-3 : tie.Need-returns-3
+returns-3 c = search needs
+
+returns-4 : tie.Need-returns-4
+returns-4 c = search needs
+
+returns-5 : tie.Need-returns-5
+returns-5 c = go (c .before .args .kind) refl
+  where
+    go : (k : ℕ) → c .before .args .kind ≡ k → 0 ≡ countIn (c .before .args .c) k
+    go zero e = refl
+    go (suc k) e = sym (List·getD-eq-default (0 ∷ countList (c .before .args .c)) 0 {n = suc k} (omega arith))
+
+pub count-of-spec : {M : Type 1} → statement M
+count-of-spec = tie.close (tie.spec returns returns-2 returns-3 returns-4 returns-5)

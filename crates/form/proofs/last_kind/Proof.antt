@@ -1,0 +1,16 @@
+-- `form::last_kind` meets its contract. Assumes nothing.
+use mathlib.Core.Path.{sym, refl}
+use Rattle.form.specs.Edition.{lastKind}
+use Rattle.form.proofs.EachKind.{no-edition}
+use Rattle.form.proofs.last_kind.Statement.{statement}
+use Rattle.form.proofs.last_kind.Tie as tie
+
+returns : tie.Need-returns
+unfolding lastKind
+returns c = rw (c .if1 .taken)
+
+returns-2 : tie.Need-returns-2
+returns-2 c = sym (no-edition _ (c .if1 .left))
+
+pub last-kind-spec : {M : Type 1} → statement M
+last-kind-spec = tie.close (tie.spec returns returns-2)

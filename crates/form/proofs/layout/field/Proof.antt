@@ -1,0 +1,50 @@
+-- `form::layout::field` meets its contract. Assumes nothing.
+use mathlib.Core.Path.{sym, ap}
+use Rattle.form.specs.Layout.{Layout, fieldAt}
+use Rattle.form.proofs.EachKind.{kinds-are}
+use Rattle.form.proofs.Fields.{no-kind}
+use native.Mathlib.Omega.{arith}
+use borrow.Author.Needs.{needs}
+use Rattle.form.proofs.layout.field.Statement.{statement}
+use Rattle.form.proofs.layout.field.Tie as tie
+
+conversion-requires : tie.Need-conversion-requires
+conversion-requires c κs = rw (c .match .keys1) at (c .before .pre)
+
+stock-requires : tie.Need-stock-requires
+stock-requires c κs = rw (c .match .keys2) at (c .before .pre)
+
+harvest-requires : tie.Need-harvest-requires
+harvest-requires c κs = rw (c .match .keys3) at (c .before .pre)
+
+parameters-requires : tie.Need-parameters-requires
+parameters-requires c κs = rw (c .match .keys4) at (c .before .pre)
+
+returns : tie.Need-returns
+returns c = search needs
+
+returns-2 : tie.Need-returns-2
+returns-2 c = search needs
+
+returns-3 : tie.Need-returns-3
+returns-3 c = search needs
+
+returns-4 : tie.Need-returns-4
+returns-4 c = search needs
+
+returns-5 : tie.Need-returns-5
+returns-5 c = let a = c .before .args in sym (ap (λ (l : Layout). fieldAt l (a .i)) (no-kind (a .kind) (λ l h. omega (arith, kinds-are))))
+
+pub field-spec : {M : Type 1} → statement M
+field-spec =
+    tie.close
+    (tie.spec
+    conversion-requires
+    stock-requires
+    harvest-requires
+    parameters-requires
+    returns
+    returns-2
+    returns-3
+    returns-4
+    returns-5)

@@ -1,0 +1,28 @@
+-- `form::layout::numbers` meets its contract. Assumes nothing.
+use mathlib.Core.Path.{sym, ap}
+use lib.Dec.{lit≤}
+use lib.ListN.{length}
+use Rattle.form.proofs.EachKind.{kinds-are}
+use Rattle.form.proofs.Fields.{no-kind}
+use native.Mathlib.Omega.{arith}
+use borrow.Author.Needs.{needs}
+use Rattle.form.proofs.layout.numbers.Statement.{statement}
+use Rattle.form.proofs.layout.numbers.Tie as tie
+
+returns : tie.Need-returns
+returns c = search needs
+
+returns-2 : tie.Need-returns-2
+returns-2 c = search needs
+
+returns-3 : tie.Need-returns-3
+returns-3 c = search needs
+
+returns-4 : tie.Need-returns-4
+returns-4 c = search needs
+
+returns-5 : tie.Need-returns-5
+returns-5 c = (sym (ap length (no-kind (c .before .args .kind) (λ l h. omega (arith, kinds-are)))), lit≤ tt)
+
+pub numbers-spec : {M : Type 1} → statement M
+numbers-spec = tie.close (tie.spec returns returns-2 returns-3 returns-4 returns-5)

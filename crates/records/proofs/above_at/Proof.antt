@@ -1,0 +1,52 @@
+-- `records::above_at` meets its contract. Assumes nothing.
+use native.Mathlib.Omega.{arith}
+use Rattle.form.proofs.EachKind.{kinds-are}
+use Rattle.form.proofs.Fields.{no-kind}
+use borrow.Author.Needs.{needs}
+use Rattle.records.proofs.above_at.Statement.{statement}
+use Rattle.records.proofs.above_at.Tie as tie
+
+above-fields-requires : tie.Need-above-fields-requires
+above-fields-requires c κs = search needs
+
+above-fields-requires-2 : tie.Need-above-fields-requires-2
+above-fields-requires-2 c κs = search needs
+
+above-fields-requires-3 : tie.Need-above-fields-requires-3
+above-fields-requires-3 c κs = search needs
+
+above-fields-requires-4 : tie.Need-above-fields-requires-4
+above-fields-requires-4 c κs = search needs
+
+above-fields-requires-5 : tie.Need-above-fields-requires-5
+above-fields-requires-5 c κs = search needs
+
+returns : tie.Need-returns
+returns c = rw (c .before .match .keys1) (c .above-fields .ensures)
+
+returns-2 : tie.Need-returns-2
+returns-2 c = rw (c .before .match .keys2) (c .above-fields2 .ensures)
+
+returns-3 : tie.Need-returns-3
+returns-3 c = rw (c .before .match .keys3) (c .above-fields3 .ensures)
+
+returns-4 : tie.Need-returns-4
+returns-4 c = rw (c .before .match .keys4) (c .above-fields4 .ensures)
+
+returns-5 : tie.Need-returns-5
+returns-5 c = rw (no-kind (c .before .before .before .args .kind) (λ l h. omega (arith, kinds-are))) (c .above-fields5 .ensures)
+
+pub above-at-spec : {M : Type 1} → statement M
+above-at-spec =
+    tie.close
+    (tie.spec
+    above-fields-requires
+    above-fields-requires-2
+    above-fields-requires-3
+    above-fields-requires-4
+    above-fields-requires-5
+    returns
+    returns-2
+    returns-3
+    returns-4
+    returns-5)

@@ -1,0 +1,15 @@
+-- What the scan over the records looks for.
+use Prim.Native.Nat.{ℕ}
+use mathlib.Core.Path.{_≡_}
+use mathlib.Core.Bool.{Bool, true, false}
+use mathlib.Core.List.{List}
+use Rattle.form.specs.Block.{edition}
+use Rattle.form.specs.Records.{filed, brokenBy, testNumbered}
+
+-- the test of the rule of one row with a number, at the places of a return
+abbrev pub recordTest : ℕ → List ℕ → ℕ → Bool
+recordTest n s = brokenBy (filed s) (edition s 0) (testNumbered n)
+
+-- what is known of a rule and a kind that are passed over together: no row of the kind breaks the rule
+pub record Spared (n k : ℕ) (over : Bool) : Type 0 where
+  pub kept : over ≡ true → (edition : ℕ) (r : List ℕ) → testNumbered n edition k r ≡ false

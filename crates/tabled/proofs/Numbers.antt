@@ -1,0 +1,152 @@
+-- A figure's three numbers, and the ways out of the figures for C. Assumes nothing.
+use Prim.Native.Nat.{ℕ, zero, suc, _+_, _*_, _/_, _%_, _^_, _≤_, _<_}
+use mathlib.Core.Path.{_≡_, refl, sym, ap, subst, _∙_}
+use mathlib.Core.Bool.{Bool, true, false, cond}
+use mathlib.Core.List.{List, [], _∷_, _++_, flatMap}
+use native.Mathlib.Omega.{arith}
+use native.Mathlib.Nat.{zero-add}
+use native.Mathlib.Numerals.{add-one}
+use borrow.Author.Tests.{lt-ltb, le-ltb}
+use lib.Dec.{ltb}
+use lib.ListN.{length, set, take, drop, length-append}
+use lib.Seq.{sets-eq, take-length}
+use lib.IntN.{ℤ, pos, negsuc}
+use Rattle.form.proofs.EachKind.{few-kinds}
+use Rattle.form.specs.Ruling.{ruling}
+use Rattle.form.specs.Verdict.{rules, verdictBy, verdictOf}
+use Rattle.form.specs.declared.Counts.{Counts}
+use Rattle.form.specs.declared.Ruling.{Ruling}
+use Rattle.form.specs.declared.Ruling.the-variants.{Clean, Broken}
+use Rattle.form.specs.declared.Verdict.{Verdict}
+use Rattle.form.specs.declared.Verdict.the-variants as verdict
+use Rattle.form.proofs.Order.{ruled-before, kept-before, one-broken, one-kept}
+use Rattle.form.proofs.Meaning.{refused-ruling, small}
+use Rattle.form.proofs.Accepted.{accepted-ruling}
+use Rattle.wide.specs.Numbers.{value}
+use Rattle.wide.specs.Signs.{sized, amount, Canonical}
+use Rattle.decimal.specs.Digits.{Written}
+use Rattle.decimal.proofs.DigitLaws.{written-more}
+use Rattle.wide.specs.declared.Wide.{Wide}
+use Rattle.wide.specs.declared.signed.Signed.{Signed}
+use Rattle.rows.specs.Reading.{onFront}
+use Rattle.worksheets.specs.Sheets.{Sheets, figuresOf}
+use Rattle.worksheets.specs.Answers.{Outcome, worked, refusal, outcomeBy, outcomeOf}
+use Rattle.listed.specs.Listed.{Figure, listed}
+use Rattle.listed.proofs.Laws.{figureAt, counted, flat-next}
+use Rattle.tabled.specs.Figures.{threeOf, numbersOf, figureNumbers, numbersRoom, roomRule, figuresAnswer, figuresAfter}
+
+-- the words of a number
+upper : (w : Wide) → w .lo < 2 ^ 64 → w .hi ≡ value w / 2 ^ 64
+unfolding value
+upper w h = omega arith
+
+lower : (w : Wide) → w .lo < 2 ^ 64 → w .lo ≡ value w % 2 ^ 64
+unfolding value
+lower w h = omega arith
+
+three-sized : (t : Bool) (n : ℕ) → (t ≡ true → 0 < n) → cond t 1 0 ∷ n / 2 ^ 64 ∷ n % 2 ^ 64 ∷ [] ≡ threeOf (sized t n)
+three-sized false n h = refl
+three-sized true zero h = let z = h refl in absurd (omega arith)
+three-sized true (suc n) h = refl
+
+pub three : (s : Signed) → Canonical s → s .size .lo < 2 ^ 64 → (b : ℕ) → b ≡ cond (s .below) 1 0 → b ∷ s .size .hi ∷ s .size .lo ∷ [] ≡ threeOf (amount s)
+three s f l b e =
+    let u = upper (s .size) l in
+    let v = lower (s .size) l in
+    let p : b ∷ s .size .hi ∷ s .size .lo ∷ [] ≡ cond (s .below) 1 0 ∷ value (s .size) / 2 ^ 64 ∷ value (s .size) % 2 ^ 64 ∷ [] = cc in
+    p ∙ three-sized (s .below) (value (s .size)) f
+
+-- three stores in a row
+pub three-stores : (d : List ℕ) (at a b c : ℕ) (t : List ℕ) → a ∷ b ∷ c ∷ [] ≡ t → Written t d (set (set (set d at a) (at + 1) b) (at + 2) c) at (at + 3)
+three-stores d at a b c t e =
+    let i : at + 2 ≡ suc (suc at) = omega arith in
+    rw (← e) (record { room = rw (add-one, i); place = refl })
+
+-- what the outcome says of the verdict
+refused-by : (s : List ℕ) (v : Verdict) (n p : ℕ) → refusal n p ≡ outcomeBy s v → v ≡ verdict.Refused n p
+refused-by s (verdict.Accepted c) n p e = let z : _≡_ {A = ℕ} 0 1 = cc in absurd (omega arith)
+refused-by s (verdict.Refused m q) n p e =
+    let a : m ≡ n = cc in
+    let b : q ≡ p = cc in
+    cc
+
+pub refused-verdict : (s : List ℕ) (n p : ℕ) → refusal n p ≡ outcomeOf s → verdictOf s ≡ verdict.Refused n p
+refused-verdict s n p e = refused-by s (verdictOf s) n p e
+
+pub record Worked (s : List ℕ) (v : Sheets) : Type 0 where
+  pub counts : Counts
+  pub accepted : verdictOf s ≡ verdict.Accepted counts
+  pub figures : v ≡ figuresOf s
+
+worked-by : (s : List ℕ) (u : Verdict) (v : Sheets) → verdictOf s ≡ u → worked v ≡ outcomeBy s u → Worked s v
+worked-by s (verdict.Accepted c) v a e = record { counts = c; accepted = a; figures = cc }
+worked-by s (verdict.Refused m q) v a e = let z : _≡_ {A = ℕ} 0 1 = cc in absurd (omega arith)
+
+pub worked-out : (s : List ℕ) (v : Sheets) → worked v ≡ outcomeOf s → Worked s v
+worked-out s v e = worked-by s (verdictOf s) v refl e
+
+-- three numbers a figure
+three-length : (z : ℤ) → length (threeOf z) ≡ 3
+three-length (pos n) = refl
+three-length (negsuc n) = refl
+
+numbers-length : (fs : List Figure) → length (flatMap numbersOf fs) ≡ 3 * length fs
+unfolding flatMap
+numbers-length [] = refl
+numbers-length (f ∷ fs) = rw length-append (omega (arith, three-length (f .value), numbers-length fs))
+
+-- one figure more, and all of them
+pub one-more : (fs : List Figure) (i : ℕ) (z : ℤ) {d e g : List ℕ} {at next : ℕ} → i < length fs → z ≡ figureAt fs i .value
+    → Written (flatMap numbersOf (take i fs)) d e 0 at → Written (threeOf z) e g at next → Written (flatMap numbersOf (take (i + 1) fs)) d g 0 next
+one-more fs i z {d} {e} {g} {at} {next} h q v w =
+    rw (flat-next numbersOf fs i) (written-more v (subst (λ (y : ℤ). Written (threeOf y) e g at next) q w))
+
+pub all-of : (fs : List Figure) (i : ℕ) {d e : List ℕ} {at : ℕ} → i ≡ length fs → Written (flatMap numbersOf (take i fs)) d e 0 at → Written (flatMap numbersOf fs) d e 0 at
+all-of fs i {d} {e} {at} q w = subst (λ (x : List Figure). Written (flatMap numbersOf x) d e 0 at) (ap (λ (k : ℕ). take k fs) q ∙ take-length fs) w
+
+module _ (s room : List ℕ) where
+  -- what the answer r and the room l are
+  abbrev Out : Ruling → List ℕ → Type 0
+  Out r l = (r ≡ figuresAnswer s room) × (l ≡ figuresAfter s room r)
+
+  pub refused-out : (n p : ℕ) → refusal n p ≡ outcomeOf s → Out (Broken n p) room
+  refused-out n p e = (sym (ruled-before (rules s) (roomRule room ∷ []) (refused-ruling s n p (refused-verdict s n p e))), refl)
+
+  pub short-out : (v : Sheets) → worked v ≡ outcomeOf s → length room < numbersRoom → Out (Broken 9 0) room
+  short-out v e l =
+      let w = worked-out s v e in
+      (sym (kept-before (rules s) (roomRule room ∷ []) (accepted-ruling s (w .counts) (w .accepted)) ∙ one-broken 9 _ [] (lt-ltb (length room) numbersRoom l)), refl)
+
+  pub done-out : (v : Sheets) (l : List ℕ) (n : ℕ) → worked v ≡ outcomeOf s → numbersRoom ≤ length room → Written (figureNumbers v) room l 0 n → Out Clean l
+  unfolding ruling
+  done-out v l n e h p =
+      let w = worked-out s v e in
+      let t = figureNumbers v in (
+        sym (kept-before (rules s) (roomRule room ∷ []) (accepted-ruling s (w .counts) (w .accepted)) ∙ one-kept 9 _ [] (le-ltb (length room) numbersRoom h)),
+        p .room
+            ∙ sets-eq t room 0 (omega (arith, numbers-length (listed v), counted v))
+            ∙ ap (λ (k : ℕ). t ++ drop k room) (zero-add (length t))
+            ∙ ap (λ (x : Sheets). onFront (figureNumbers x) room) (w .figures),
+      )
+
+  -- every place is small, so that a refusal is one number for C
+  place-by : (v : Ruling) → ruling (rules s) ≡ v → (n p : ℕ) → figuresAnswer s room ≡ Broken n p → p < 1000
+  unfolding verdictOf ruling
+  place-by (Broken m q) e n p f =
+      let g = ruled-before (rules s) (roomRule room ∷ []) e in
+      let r : q ≡ p = cc in
+      omega (arith, few-kinds, small s m q (ap (verdictBy s) e) .1)
+  place-by Clean e n p f = last (ltb (length room) numbersRoom) refl
+    where
+      last : (b : Bool) → ltb (length room) numbersRoom ≡ b → p < 1000
+      last true h =
+          let g = kept-before (rules s) (roomRule room ∷ []) e ∙ one-broken 9 _ [] h in
+          let r : p ≡ 0 = cc in
+          omega arith
+      last false h =
+          let g = kept-before (rules s) (roomRule room ∷ []) e ∙ one-kept 9 _ [] h in
+          let z : _≡_ {A = ℕ} 0 1 = cc in
+          absurd (omega arith)
+
+  pub place-small : (n p : ℕ) → figuresAnswer s room ≡ Broken n p → p < 1000
+  place-small n p e = place-by (ruling (rules s)) refl n p e

@@ -1,0 +1,90 @@
+-- Figure after figure. Assumes nothing.
+use Prim.Native.Nat.{_*_, _-_, _≤_, _<_}
+use mathlib.Core.Path.{_≡_, refl}
+use mathlib.Core.List.{flatMap}
+use native.Mathlib.Omega.{arith}
+use lib.ListN.{length, take}
+use borrow.Author.Needs.{needs}
+use Rattle.decimal.specs.Digits.{Written}
+use Rattle.worksheets.specs.Sheets.{Sheets}
+use Rattle.worksheets.specs.Answers.{figuresSaid}
+use Rattle.listed.specs.Listed.{listed, Lists, figureCount}
+use Rattle.listed.proofs.Laws.{lists-at, counted}
+use Rattle.tabled.specs.Figures.{numbersOf}
+use Rattle.tabled.proofs.Numbers.{one-more, all-of}
+use Rattle.tabled.proofs.put_figures.Statement.{statement}
+use Rattle.tabled.proofs.put_figures.Tie as tie
+use Rattle.tabled.proofs.put_figures.Reads as reads
+use Rattle.tabled.proofs.put_figures.Lts as lts
+
+abbrev Inv-loop : tie.InvT-loop
+Inv-loop room₀ values i₀ at₀ room i at =
+    (i ≤ figureCount) × (at ≡ 3 * i) × (length room ≡ length room₀)
+    × ((v : Sheets) → Lists values (listed v) → Written (flatMap numbersOf (take i (listed v))) room₀ room 0 at)
+
+abbrev μ-loop : tie.MeasureT-loop
+μ-loop room₀ values i₀ at₀ room i at = figureCount - i
+
+list-requires : tie.Need-list-requires Inv-loop μ-loop
+list-requires c κs = c .before .pre .0
+
+loop-holds : tie.Need-loop-holds Inv-loop μ-loop
+unfolding flatMap
+loop-holds c = (search needs, refl, refl, λ v h. record { room = refl; place = refl })
+
+mul-put-three : tie.Need-mul-put-three Inv-loop μ-loop
+mul-put-three c = search needs
+
+array-copy-out-put-three : tie.Need-array-copy-out-put-three Inv-loop μ-loop
+array-copy-out-put-three c = search needs
+
+put-three-requires : tie.Need-put-three-requires Inv-loop μ-loop
+put-three-requires c κs =
+    let l = c .before .before .before in
+    let s = l .before .before .before in
+    let v = figuresSaid (s .args .f) in
+    (lists-at (l .before .list .result) (listed v) (l .loop .i) (l .before .list .ensures) (omega (arith, counted v)) .form, omega (arith, s .pre .1))
+
+add-i : tie.Need-add-i Inv-loop μ-loop
+add-i c = search needs
+
+loop-less : tie.Need-loop-less Inv-loop μ-loop
+loop-less c = search needs
+
+loop-again : tie.Need-loop-again Inv-loop μ-loop
+loop-again c =
+    let p = c .before .before in
+    let l = p .before .before .before .before in (
+      search needs,
+      omega (arith, p .put-three .ensures .1),
+      omega (arith, p .put-three .kept .1 .0),
+      λ v h. (
+          let n : l .loop .i < length (listed v) = omega (arith, counted v) in
+          one-more (listed v) (l .loop .i) _ n (lists-at (l .before .list .result) (listed v) (l .loop .i) h n .number) (l .loop .inv .3 v h) (p .put-three .ensures .0)),
+    )
+
+same-length : tie.Need-same-length Inv-loop μ-loop
+same-length c = search needs
+
+returns : tie.Need-returns Inv-loop μ-loop
+returns c =
+    let l = c .before in
+    let v = figuresSaid (l .before .before .before .args .f) in
+    all-of (listed v) (l .loop .i) (omega (arith, counted v)) (l .loop .inv .3 v (l .before .list .ensures))
+
+pub put-figures-spec : {M : Type 1} → statement M
+put-figures-spec =
+    tie.close
+    (tie.spec
+    Inv-loop
+    μ-loop
+    list-requires
+    loop-holds
+    mul-put-three
+    array-copy-out-put-three
+    put-three-requires
+    add-i
+    loop-less
+    loop-again
+    same-length
+    returns)

@@ -1,0 +1,62 @@
+-- The numbers of what the sheets answer. Assumes nothing.
+use mathlib.Core.Path.{sym, ap, subst, _∙_}
+use denote.Ref.{now}
+use borrow.Author.Needs.{needs}
+use Rattle.worksheets.specs.Answers.{InForm, said}
+use Rattle.tabled.proofs.Numbers.{refused-out, short-out, done-out}
+use Rattle.tabled.proofs.tabulate.Statement.{statement}
+use Rattle.tabled.proofs.tabulate.Tie as tie
+use Rattle.tabled.proofs.tabulate.Reads as reads
+use Rattle.tabled.proofs.tabulate.Lts as lts
+
+figures-requires : tie.Need-figures-requires
+figures-requires c κs = search needs
+
+enum-known-number : tie.Need-enum-known-number
+enum-known-number c = search needs
+
+enum-known-f : tie.Need-enum-known-f
+enum-known-f c = search needs
+
+returns : tie.Need-returns
+returns c =
+    let y = c .before in
+    let e = y .before .before .before in
+    let a = e .before .before .before .args in
+    short-out (now (a .bytes)) (now (a .room)) _ (ap said (sym (y .before .f .given .1)) ∙ e .figures .ensures .0) (c .if1 .taken)
+
+put-figures-requires : tie.Need-put-figures-requires
+put-figures-requires c κs =
+    let y = c .before .before in
+    (subst InForm (y .before .f .given .1) (y .before .before .before .figures .ensures .1), search needs)
+
+returns-2 : tie.Need-returns-2
+returns-2 c =
+    let e = c .before .before .before in
+    let a = e .before .before .before .args in
+    refused-out (now (a .bytes)) (now (a .room)) _ _ (ap said (sym (c .before .number .given .1)) ∙ e .figures .ensures .0)
+
+same-length : tie.Need-same-length
+same-length c = search needs
+
+returns-3 : tie.Need-returns-3
+returns-3 c =
+    let p = c .before .before in
+    let i = p .before .before in
+    let y = i .before in
+    let e = y .before .before .before in
+    let a = e .before .before .before .args in
+    done-out (now (a .bytes)) (now (a .room)) _ _ _ (ap said (sym (y .before .f .given .1)) ∙ e .figures .ensures .0) (i .if1 .left) (p .put-figures .ensures)
+
+pub tabulate-spec : {M : Type 1} → statement M
+tabulate-spec =
+    tie.close
+    (tie.spec
+    figures-requires
+    enum-known-number
+    enum-known-f
+    returns
+    put-figures-requires
+    returns-2
+    same-length
+    returns-3)

@@ -1,0 +1,154 @@
+//! A call of each function with every area fenced, held against the second
+//! program's answer and memory.
+
+use second::doubles::subtotal;
+use second::drive::{first_of, memory_difference};
+use second::fence::{Fence, Place};
+use second::ffi::doubles::first_subtotal;
+use second::ffi::judge::first_judge;
+use second::ffi::lines::{first_figures, first_lines};
+use second::ffi::rows::{first_read, first_write};
+use second::judge::{judge, Verdict};
+use second::kinds::KINDS;
+use second::lent::Lent;
+use second::reader::read;
+use second::rowlists::RowLists;
+use second::sheets::{figures, lines};
+use second::writer::write;
+
+/// The most areas that one function is lent.
+const AREAS: usize = 4;
+
+pub type Fences = [Fence; AREAS];
+/// The number due, and what differs.
+pub type Found = (u32, Option<String>);
+
+fn found(answer: u32, due: u32, memory: impl IntoIterator<Item = Option<String>>) -> Found {
+    let wrong = format!("first program {answer}, second program {due}");
+    let wrong = (answer != due).then_some(wrong);
+    (due / 1000, first_of([wrong].into_iter().chain(memory)))
+}
+
+pub fn judge_at(fences: &mut Fences, place: Place, bytes: &[u8], before: &[u32]) -> Found {
+    let mut room_due = before.to_vec();
+    let due = match judge(bytes) {
+        Verdict::Refused(refusal) => refusal.answer(),
+        Verdict::Accepted(_) if before.len() < KINDS.len() => 9000,
+        Verdict::Accepted(counts) => {
+            room_due[..KINDS.len()].copy_from_slice(&counts);
+            0
+        }
+    };
+    let [input, room, ..] = fences;
+    let input = input.area(place, bytes);
+    let mut room = room.area(place, before);
+    let answer = first_judge(&input, Lent::whole(&mut room));
+    let memory = [
+        memory_difference("the input", &input, bytes),
+        memory_difference("the room", &room, &room_due),
+    ];
+    found(answer, due, memory)
+}
+
+pub fn figures_at(fences: &mut Fences, place: Place, bytes: &[u8], before: &[u64]) -> Found {
+    let mut room_due = before.to_vec();
+    let due = figures(bytes, &mut room_due);
+    let [input, room, ..] = fences;
+    let input = input.area(place, bytes);
+    let mut room = room.area(place, before);
+    let answer = first_figures(&input, Lent::whole(&mut room));
+    let memory = [
+        memory_difference("the input", &input, bytes),
+        memory_difference("the room", &room, &room_due),
+    ];
+    found(answer, due, memory)
+}
+
+pub fn lines_at(fences: &mut Fences, place: Place, bytes: &[u8], before: &[u8]) -> Found {
+    let mut room_due = before.to_vec();
+    let due = lines(bytes, &mut room_due);
+    let [input, room, ..] = fences;
+    let input = input.area(place, bytes);
+    let mut room = room.area(place, before);
+    let answer = first_lines(&input, Lent::whole(&mut room));
+    let number = match judge(bytes) {
+        _ if due == 0 => 9,
+        Verdict::Refused(refusal) => refusal.number,
+        Verdict::Accepted(_) => 0,
+    };
+    let wrong = format!("first program {answer}, second program {due}");
+    let difference = first_of([
+        (answer != due).then_some(wrong),
+        memory_difference("the input", &input, bytes),
+        memory_difference("the room", &room, &room_due),
+    ]);
+    (number, difference)
+}
+
+pub fn subtotal_at(
+    fences: &mut Fences,
+    place: Place,
+    bytes: &[u8],
+    (code, before): (u32, &[u8]),
+) -> Found {
+    let mut room_due = before.to_vec();
+    let due = subtotal(bytes, code, &mut room_due);
+    let [input, room, ..] = fences;
+    let input = input.area(place, bytes);
+    let mut room = room.area(place, before);
+    let answer = first_subtotal(&input, code, Lent::whole(&mut room));
+    let memory = [
+        memory_difference("the input", &input, bytes),
+        memory_difference("the room", &room, &room_due),
+    ];
+    found(answer, due, memory)
+}
+
+pub fn read_at(
+    fences: &mut Fences,
+    place: Place,
+    bytes: &[u8],
+    (rows_before, counts_before): (&[u32], &[u32]),
+) -> Found {
+    let (mut rows_due, mut counts_due) = (rows_before.to_vec(), counts_before.to_vec());
+    let due = read(bytes, &mut rows_due, &mut counts_due);
+    let [input, rows, counts, _] = fences;
+    let input = input.area(place, bytes);
+    let mut rows = rows.area(place, rows_before);
+    let mut counts = counts.area(place, counts_before);
+    let answer = first_read(&input, Lent::whole(&mut rows), Lent::whole(&mut counts));
+    let memory = [
+        memory_difference("the input", &input, bytes),
+        memory_difference("the rows", &rows, &rows_due),
+        memory_difference("the counts", &counts, &counts_due),
+    ];
+    found(answer, due, memory)
+}
+
+pub fn write_at(
+    fences: &mut Fences,
+    place: Place,
+    lists: &RowLists,
+    (before, size_before): (&[u8], &[u32]),
+) -> Found {
+    let (mut room_due, mut size_due) = (before.to_vec(), size_before.to_vec());
+    let due = write(&lists.rows, &lists.lengths, &mut room_due, &mut size_due);
+    let [rows, lengths, room, size] = fences;
+    let rows = rows.area(place, &lists.rows);
+    let lengths = lengths.area(place, &lists.lengths);
+    let mut room = room.area(place, before);
+    let mut size = size.area(place, size_before);
+    let answer = first_write(
+        &rows,
+        &lengths,
+        Lent::whole(&mut room),
+        Lent::whole(&mut size),
+    );
+    let memory = [
+        memory_difference("the blocks", &room, &room_due),
+        memory_difference("the size", &size, &size_due),
+        memory_difference("the rows", &rows, &lists.rows),
+        memory_difference("the lengths", &lengths, &lists.lengths),
+    ];
+    found(answer, due, memory)
+}

@@ -1,0 +1,134 @@
+//! Calls every C function with every lent area fenced on both sides.
+//!
+//! `fenced [SEED [INPUTS]]`: each area in a mapping of its own between pages
+//! without access, once flush against the page before it and once against the
+//! page behind it, so that a single byte touched outside stops the program.
+//! `fenced heap [SEED [INPUTS]]`: each area allocated by itself, for valgrind.
+//! `fenced cross [heap] [before|behind] [read|write]`: touches one byte outside
+//! an area on purpose and must be stopped. Without `heap` that is tried first.
+//! All answers and all memory are compared with the second program's.
+
+#[cfg(door_missing)]
+compile_error!(
+    "libdoor.a of the first program is missing: build it, or name its folder in NILOFERQ_LIB"
+);
+
+#[cfg(not(door_missing))]
+mod calls;
+#[cfg(not(door_missing))]
+mod cross;
+#[cfg(not(door_missing))]
+mod rooms;
+#[cfg(not(door_missing))]
+mod tally;
+
+#[cfg(not(door_missing))]
+mod run {
+    use crate::calls::{figures_at, judge_at, lines_at, read_at, subtotal_at, write_at, Fences};
+    use crate::cross::{cross_on_purpose, fences_stop};
+    use crate::rooms::{Fit, Rooms};
+    use crate::tally::Tally;
+    use second::drive::{exit, Arguments};
+    use second::fence::Place;
+    use second::rng::Rng;
+    use second::row_sweeps;
+    use second::rowlists::{self, RowLists};
+    use second::sweep::Case;
+    use second::{figures, mix, sweep};
+    use std::process::ExitCode;
+
+    const INPUTS: usize = 2_000;
+    pub const USAGE: &str = "fenced [heap] [SEED [INPUTS]], or \
+        fenced cross [heap] [before|behind] [read|write]";
+
+    pub fn main() -> ExitCode {
+        let words: Vec<String> = std::env::args().skip(1).collect();
+        let words: Vec<&str> = words.iter().map(String::as_str).collect();
+        match words.as_slice() {
+            ["cross", how @ ..] => cross_on_purpose(how),
+            ["heap", rest @ ..] => all_calls(&[Place::Heap], rest),
+            rest if fences_stop() => all_calls(&[Place::Before, Place::Behind], rest),
+            _ => ExitCode::FAILURE,
+        }
+    }
+
+    /// A call of each function on every input in all three fits, at each place.
+    fn all_calls(places: &[Place], words: &[&str]) -> ExitCode {
+        let words = words.iter().map(|word| word.to_string());
+        let read = Arguments::parse(words).filter(|read| read.seconds.is_none());
+        let Some(arguments) = read else {
+            eprintln!("{USAGE}");
+            return ExitCode::FAILURE;
+        };
+        let mut fences = Fences::default();
+        let mut tallies = [
+            Tally::new("judge", &[0, 1, 2, 3, 4, 5, 6, 7, 8, 9]),
+            Tally::new("figures", &[0, 1, 2, 3, 4, 5, 6, 7, 8, 9]),
+            Tally::new("lines", &[0, 1, 2, 3, 4, 5, 6, 7, 8, 9]),
+            Tally::new("subtotal", &[0, 1, 2, 3, 4, 5, 6, 7, 8, 9, 11]),
+            Tally::new("read", &[0, 1, 2, 3, 4, 5, 6, 7, 8, 9]),
+            Tally::new("write", &[0, 5, 6, 7, 8, 9, 10]),
+        ];
+        for index in 0..arguments.inputs.unwrap_or(INPUTS) {
+            let mut rng = Rng::for_input(arguments.seed, index as u64);
+            let case = any_return(&mut rng);
+            let lists = any_lists(&mut rng);
+            for fit in [Fit::Exact, Fit::Short, Fit::Longer] {
+                let lent = Rooms::drawn(&case.bytes, &lists, fit, &mut rng);
+                for &place in places {
+                    let found = [
+                        judge_at(&mut fences, place, &case.bytes, &lent.counts),
+                        figures_at(&mut fences, place, &case.bytes, &lent.figures),
+                        lines_at(&mut fences, place, &case.bytes, &lent.text),
+                        subtotal_at(&mut fences, place, &case.bytes, (lent.code, &lent.double)),
+                        read_at(
+                            &mut fences,
+                            place,
+                            &case.bytes,
+                            (&lent.rows, &lent.row_counts),
+                        ),
+                        write_at(&mut fences, place, &lists, (&lent.blocks, &lent.size)),
+                    ];
+                    for (tally, (number, difference)) in tallies.iter_mut().zip(found) {
+                        tally.given[number as usize] += 1;
+                        if let Some(difference) = difference {
+                            let (name, seed) = (tally.name, arguments.seed);
+                            println!("{name}, input {index} of seed {seed}, {fit:?}, {place:?}:");
+                            println!("  {difference}; {}; {}", case.how, lists.how);
+                            return ExitCode::FAILURE;
+                        }
+                    }
+                }
+            }
+        }
+        tallies.iter().for_each(Tally::print);
+        let calls: usize = tallies.iter().map(Tally::calls).sum();
+        println!("fenced: {calls} calls at {places:?}, 0 differences");
+        let usual = arguments.inputs.is_none();
+        exit(!usual || tallies.iter().all(Tally::all_came))
+    }
+
+    /// From the comparisons' makers; of the sweeps any, for they are long.
+    fn any_return(rng: &mut Rng) -> Case {
+        match rng.below(4) {
+            0 => sweep::case(rng.below(sweep::size()), rng),
+            1 => figures::case(rng),
+            _ => mix::case(rng),
+        }
+    }
+
+    fn any_lists(rng: &mut Rng) -> RowLists {
+        match rng.below(4) {
+            0 => row_sweeps::case(rng.below(row_sweeps::size()), rng),
+            _ => rowlists::case(rng),
+        }
+    }
+}
+
+#[cfg(not(door_missing))]
+fn main() -> std::process::ExitCode {
+    run::main()
+}
+
+#[cfg(door_missing)]
+fn main() {}

@@ -1,0 +1,117 @@
+//! The rooms of a call: how long they are, and what stands in them before it.
+
+use second::judge::{judge, Verdict};
+use second::kinds::{KINDS, RETURN_ROOM, ROWS_ROOM};
+use second::reader::ends;
+use second::rng::Rng;
+use second::rowlists::RowLists;
+use second::sheets::{text, NUMBERS as FIGURES};
+use second::writer::write;
+
+/// How much longer than needed a room may be.
+const LONGER: usize = 20;
+
+/// How the rooms of a call fit what is to go into them.
+#[derive(Clone, Copy, Debug)]
+pub enum Fit {
+    Exact,
+    Short,
+    Longer,
+}
+
+impl Fit {
+    fn length(self, needed: usize, rng: &mut Rng) -> usize {
+        match self {
+            Fit::Exact => needed,
+            Fit::Short if needed == 0 => 0,
+            // By one, or by more.
+            Fit::Short if rng.one_in(2) => needed - 1,
+            Fit::Short => rng.below(needed),
+            Fit::Longer => needed + 1 + rng.below(LONGER),
+        }
+    }
+}
+
+/// What stands in the rooms before a call, and the code of a subtotal.
+pub struct Rooms {
+    pub counts: Vec<u32>,
+    pub figures: Vec<u64>,
+    pub text: Vec<u8>,
+    pub code: u32,
+    pub double: Vec<u8>,
+    pub rows: Vec<u32>,
+    pub row_counts: Vec<u32>,
+    pub blocks: Vec<u8>,
+    pub size: Vec<u32>,
+}
+
+impl Rooms {
+    pub fn drawn(bytes: &[u8], lists: &RowLists, fit: Fit, rng: &mut Rng) -> Self {
+        let code = match rng.below(8) {
+            0 => 3 + rng.below(2) as u32,
+            1 => rng.word(),
+            _ => rng.below(3) as u32,
+        };
+        let (rows, row_counts) = row_lengths(bytes, fit, rng);
+        let (blocks, size) = block_lengths(lists, fit, rng);
+        Rooms {
+            counts: words(fit.length(KINDS.len(), rng), rng),
+            figures: {
+                let length = fit.length(FIGURES, rng);
+                (0..length).map(|_| rng.draw()).collect()
+            },
+            text: any_bytes(fit.length(text(bytes).as_bytes().len(), rng), rng),
+            code,
+            double: any_bytes(fit.length(8, rng), rng),
+            rows: words(rows, rng),
+            row_counts: words(row_counts, rng),
+            blocks: any_bytes(blocks, rng),
+            size: words(size, rng),
+        }
+    }
+}
+
+fn words(length: usize, rng: &mut Rng) -> Vec<u32> {
+    (0..length).map(|_| rng.word()).collect()
+}
+
+fn any_bytes(length: usize, rng: &mut Rng) -> Vec<u8> {
+    let mut bytes = vec![0; length];
+    rng.fill(&mut bytes);
+    bytes
+}
+
+/// For the rows and their numbers, one of the two short. A return that is
+/// refused fits no rooms and gets a full one's, or none.
+fn row_lengths(bytes: &[u8], fit: Fit, rng: &mut Rng) -> (usize, usize) {
+    let (rows, counts) = match judge(bytes) {
+        Verdict::Accepted(counts) => (ends(&counts)[KINDS.len() - 1], KINDS.len()),
+        Verdict::Refused(_) => rng.pick(&[(ROWS_ROOM, KINDS.len()), (0, 0)]),
+    };
+    match fit {
+        Fit::Short if rng.one_in(4) => (rows, fit.length(counts, rng)),
+        Fit::Short => (fit.length(rows, rng), counts),
+        Fit::Exact | Fit::Longer => (fit.length(rows, rng), fit.length(counts, rng)),
+    }
+}
+
+/// For the blocks and their size, one of the two short. Refused lists have
+/// no blocks and get room for any number of them.
+fn block_lengths(lists: &RowLists, fit: Fit, rng: &mut Rng) -> (usize, usize) {
+    let mut size = [0];
+    let needed = match write(
+        &lists.rows,
+        &lists.lengths,
+        &mut [0; RETURN_ROOM],
+        &mut size,
+    ) {
+        0 => size[0] as usize,
+        _ => 512 * rng.below(11),
+    };
+    match fit {
+        Fit::Exact => (needed, 1),
+        Fit::Short if rng.one_in(2) => (needed, 0),
+        Fit::Short => (fit.length(needed, rng), 1),
+        Fit::Longer => (fit.length(needed, rng), 2 + rng.below(3)),
+    }
+}

@@ -1,0 +1,294 @@
+//! The kinds of rows as the paper lays them out, a line of [`KINDS`] for each.
+//!
+//! A row is its numbers of 32 bits in lent memory and its bytes in a record.
+//! The compiler knows every layout, so that a kind's loops are straight code;
+//! the table holds them by kind.
+
+use crate::judge::{four, two, Checked, Record};
+
+/// A number of a row: where its bytes begin in the record, how many they are,
+/// and the most it may be.
+#[derive(Clone, Copy)]
+struct Field {
+    at: usize,
+    bytes: usize,
+    most: u32,
+}
+
+const fn field(at: usize, bytes: usize, most: u32) -> Field {
+    Field { at, bytes, most }
+}
+
+const AREA: u32 = 1_000_000;
+const DENSITY: u32 = 10_000;
+const SHARE: u32 = 1_000;
+/// A stock's amount, and a harvest's F, I and J.
+const AMOUNT: u32 = 10_000_000;
+/// A stock's growth rate, and a harvest's G.
+const RATE: u32 = 10_000;
+/// "0 land, 1 scattered trees"
+const UNIT_CODE: u32 = 1;
+
+/// "An id is any 32-bit number, zero included", and stands first.
+const ID: Field = field(0, 4, u32::MAX);
+
+/// A kind whose rows have `N` numbers.
+trait Layout<const N: usize> {
+    const FIELDS: [Field; N];
+    /// Whether the first number is an id, which must be above the one before.
+    const HAS_ID: bool = true;
+
+    /// Number 7. Where a field is above its limit, number 6 comes before.
+    fn fractions_hold(_: &[u32; N]) -> bool {
+        true
+    }
+
+    /// Number 8.
+    fn densities_hold(_: &[u32; N]) -> bool {
+        true
+    }
+}
+
+struct Conversion;
+impl Layout<15> for Conversion {
+    const FIELDS: [Field; 15] = [
+        ID,
+        field(4, 4, AREA),
+        field(8, 2, DENSITY),
+        field(10, 2, DENSITY),
+        field(12, 2, SHARE),
+        field(14, 2, SHARE),
+        field(16, 2, SHARE),
+        field(18, 2, SHARE),
+        field(20, 2, SHARE),
+        field(22, 2, SHARE),
+        field(24, 4, AREA),
+        field(28, 2, DENSITY),
+        field(30, 2, DENSITY),
+        field(32, 2, SHARE),
+        field(34, 2, SHARE),
+    ];
+
+    /// "on-site + off-site + decay above 1,000"
+    fn fractions_hold(row: &[u32; 15]) -> bool {
+        row[4].wrapping_add(row[7]).wrapping_add(row[13]) <= SHARE
+    }
+
+    /// "after above before, either period"
+    fn densities_hold(row: &[u32; 15]) -> bool {
+        (row[3] <= row[2]) & (row[12] <= row[11])
+    }
+}
+
+struct Stock;
+impl Layout<5> for Stock {
+    const FIELDS: [Field; 5] = [
+        ID,
+        field(4, 1, UNIT_CODE),
+        field(6, 2, RATE),
+        field(8, 4, AMOUNT),
+        field(12, 2, SHARE),
+    ];
+}
+
+struct Harvest;
+impl Layout<5> for Harvest {
+    const FIELDS: [Field; 5] = [
+        ID,
+        field(4, 4, AMOUNT),
+        field(8, 2, RATE),
+        field(12, 4, AMOUNT),
+        field(16, 4, AMOUNT),
+    ];
+}
+
+struct Parameters;
+impl Layout<6> for Parameters {
+    const FIELDS: [Field; 6] = [
+        field(4, 2, SHARE),
+        field(6, 2, SHARE),
+        field(8, 2, SHARE),
+        field(10, 2, SHARE),
+        field(12, 2, SHARE),
+        field(14, 2, SHARE),
+    ];
+    const HAS_ID: bool = false;
+}
+
+/// The first place of each of the numbers 5, 6, 7 and 8.
+pub(crate) type FirstPlaces = [Option<usize>; 4];
+
+/// One kind of rows. All `&[u32]` hold whole rows, one after the other.
+pub struct Kind {
+    pub name: &'static str,
+    /// Numbers of 32 bits in a row.
+    pub numbers: usize,
+    pub least_rows: usize,
+    pub most_rows: usize,
+    /// The rows of a return's records of this kind, into room for just these.
+    pub(crate) take: fn(Checked, u8, &mut [u32]),
+    /// Notes where rows that begin at this place are first at fault.
+    pub(crate) note: fn(&[u32], usize, &mut FirstPlaces),
+    /// At most a block's rows into its records, which are all zero.
+    pub(crate) put: fn(&[u32], &mut [Record]),
+}
+
+/// "At most 32 rows of each of the first three kinds, none needed; always one
+/// parameter row."
+pub static KINDS: [Kind; 4] = [
+    Kind::of::<15, Conversion>("conversion", 0, 32),
+    Kind::of::<5, Stock>("stock", 0, 32),
+    Kind::of::<5, Harvest>("harvest", 0, 32),
+    Kind::of::<6, Parameters>("parameters", 1, 1),
+];
+
+/// Elements that the rows of any return fit.
+pub const ROWS_ROOM: usize = {
+    let (mut room, mut kind) = (0, 0);
+    while kind < KINDS.len() {
+        room += KINDS[kind].numbers * KINDS[kind].most_rows;
+        kind += 1;
+    }
+    room
+};
+
+/// Bytes that the blocks of any rows fit: "1 to 10 blocks of 512 bytes".
+pub const RETURN_ROOM: usize = 5_120;
+
+impl Kind {
+    const fn of<const N: usize, L: Layout<N>>(
+        name: &'static str,
+        least_rows: usize,
+        most_rows: usize,
+    ) -> Self {
+        Kind {
+            name,
+            numbers: N,
+            least_rows,
+            most_rows,
+            take: take::<N, L>,
+            note: note::<N, L>,
+            put: put::<N, L>,
+        }
+    }
+
+    /// How many rows so many elements are, if they can be this kind's rows.
+    pub(crate) fn rows_in(&self, length: u32) -> Option<usize> {
+        let numbers = self.numbers as u32;
+        let rows = (length / numbers) as usize;
+        let allowed = self.least_rows..=self.most_rows;
+        (length.is_multiple_of(numbers) && allowed.contains(&rows)).then_some(rows)
+    }
+}
+
+fn take<const N: usize, L: Layout<N>>(checked: Checked, kind: u8, room: &mut [u32]) {
+    let (rows, _) = room.as_chunks_mut::<N>();
+    for (row, record) in rows.iter_mut().zip(checked.records(kind)) {
+        *row = std::array::from_fn(|i| L::FIELDS[i].of(record));
+    }
+}
+
+fn put<const N: usize, L: Layout<N>>(rows: &[u32], records: &mut [Record]) {
+    let (rows, _) = rows.as_chunks::<N>();
+    for (row, record) in rows.iter().zip(records) {
+        for (field, &value) in L::FIELDS.iter().zip(row) {
+            field.put(record, value);
+        }
+    }
+}
+
+fn note<const N: usize, L: Layout<N>>(rows: &[u32], place: usize, first: &mut FirstPlaces) {
+    let (rows, _) = rows.as_chunks::<N>();
+    let mut least_id = 0;
+    for (row, place) in rows.iter().zip(place..) {
+        // One more than the id before, in a wider word since 2^32 - 1 is an id.
+        let id = u64::from(row[0]);
+        let fallen = L::HAS_ID && id < least_id;
+        least_id = id + 1;
+        // A number too wide for its bytes is above its limit too.
+        let fields = row.iter().zip(&L::FIELDS);
+        let above = fields.fold(false, |any, (&value, field)| any | (value > field.most));
+        let faults = [
+            fallen,
+            above,
+            !L::fractions_hold(row),
+            !L::densities_hold(row),
+        ];
+        if faults.contains(&true) {
+            for (first, _) in first.iter_mut().zip(faults).filter(|(_, fault)| *fault) {
+                first.get_or_insert(place);
+            }
+        }
+    }
+}
+
+impl Field {
+    #[inline(always)]
+    fn of(self, record: &Record) -> u32 {
+        match self.bytes {
+            1 => u32::from(record[self.at]),
+            2 => u32::from(two(record, self.at)),
+            _ => four(record, self.at),
+        }
+    }
+
+    /// Only for a value inside the limit, which its bytes hold.
+    #[inline(always)]
+    fn put(self, record: &mut Record, value: u32) {
+        let bytes = value.to_le_bytes();
+        match self.bytes {
+            1 => record[self.at] = bytes[0],
+            2 => record[self.at..self.at + 2].copy_from_slice(&bytes[..2]),
+            _ => record[self.at..self.at + 4].copy_from_slice(&bytes),
+        }
+    }
+}
+
+#[cfg(test)]
+mod tests {
+    use super::*;
+
+    /// By the paper's own numbers: "15, 5, 5 and 6".
+    #[test]
+    fn rows_have_the_papers_lengths() {
+        assert_eq!(KINDS.each_ref().map(|kind| kind.numbers), [15, 5, 5, 6]);
+        assert_eq!(ROWS_ROOM, 806);
+    }
+
+    /// Each field behind the one before, inside the record, and wide enough.
+    fn fields_stand_in_order<const N: usize, L: Layout<N>>() {
+        let mut free = 0;
+        for Field { at, bytes, most } in L::FIELDS {
+            assert!(at >= free && at + bytes <= 40 && [1, 2, 4].contains(&bytes));
+            assert!(u64::from(most) < 1 << (8 * bytes));
+            free = at + bytes;
+        }
+    }
+
+    #[test]
+    fn layouts_hold() {
+        fields_stand_in_order::<15, Conversion>();
+        fields_stand_in_order::<5, Stock>();
+        fields_stand_in_order::<5, Harvest>();
+        fields_stand_in_order::<6, Parameters>();
+    }
+
+    #[test]
+    fn lengths_are_whole_rows_inside_the_limits() {
+        let [conversion, stock, _, parameters] = &KINDS;
+        for (kind, length, due) in [
+            (conversion, 0, Some(0)),
+            (conversion, 14, None),
+            (conversion, 480, Some(32)),
+            (conversion, 495, None),
+            (stock, 161, None),
+            (stock, u32::MAX, None),
+            (parameters, 0, None),
+            (parameters, 6, Some(1)),
+            (parameters, 12, None),
+        ] {
+            let found = kind.rows_in(length);
+            assert_eq!(found, due, "{} of {length}", kind.name);
+        }
+    }
+}

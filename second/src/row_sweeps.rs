@@ -1,0 +1,204 @@
+//! Rows for the writer made one after the other, each count, length, value and
+//! id in its turn.
+
+use crate::kinds::KINDS;
+use crate::make::{fields, limited, Rows, LIMITED, MOST_ROWS};
+use crate::rng::Rng;
+use crate::rowlists::{wrap_sum, RowLists};
+use crate::spoil::{spoil_id, BAD_IDS};
+
+type Family = (usize, fn(usize, &mut Rng) -> RowLists);
+
+/// More rows than are allowed, far enough to see 33, 34, 36 and 37.
+const COUNTS: usize = MOST_ROWS + 6;
+pub const VALUES: usize = 20;
+
+const FAMILIES: [Family; 8] = [
+    (COUNTS * 3 * 2, counts),
+    (LENGTHS, lengths),
+    (LIMITED * MOST_ROWS * VALUES, values),
+    ((MOST_ROWS - 1) * 3 * BAD_IDS.len(), ids),
+    (PARAMETER_ROWS * 8, parameter_rows),
+    (LENGTH_COUNTS * 3 * 8, length_counts),
+    (2 * AREAS, areas),
+    (WRAPS, wraps),
+];
+
+/// How many inputs the sweeps have together.
+pub fn size() -> usize {
+    FAMILIES.iter().map(|(size, _)| size).sum()
+}
+
+/// The `index`-th of the sweeps.
+pub fn case(mut index: usize, rng: &mut Rng) -> RowLists {
+    for (size, make) in FAMILIES {
+        if index < size {
+            return make(index, rng);
+        }
+        index -= size;
+    }
+    panic!("the sweeps have {} inputs", size())
+}
+
+/// Every count of each kind, the other kinds empty or of any count.
+fn counts(index: usize, rng: &mut Rng) -> RowLists {
+    let (count, kind, alone) = (index / 6, index / 2 % 3, index.is_multiple_of(2));
+    let mut counts = [0; 3].map(|_| if alone { 0 } else { rng.below(MOST_ROWS + 1) });
+    counts[kind] = count;
+    let rows = Rows::good(rng, counts);
+    RowLists::of(format!("row counts {counts:?}"), &rows)
+}
+
+/// The lengths of a kind in their sweep: two rows and a bit too many.
+const fn lengths_of(kind: usize) -> usize {
+    KINDS[kind].numbers * (KINDS[kind].most_rows + 2) + 2
+}
+
+const LENGTHS: usize = {
+    let (mut all, mut kind) = (0, 0);
+    while kind < KINDS.len() {
+        all += lengths_of(kind);
+        kind += 1;
+    }
+    all
+};
+
+/// Every length of each kind: whole rows, cut in the middle of a row, too many.
+fn lengths(mut index: usize, rng: &mut Rng) -> RowLists {
+    let mut kind = 0;
+    while index >= lengths_of(kind) {
+        index -= lengths_of(kind);
+        kind += 1;
+    }
+    let mut counts = [0; 3].map(|_| rng.below(4));
+    if let Some(count) = counts.get_mut(kind) {
+        *count = index.div_ceil(KINDS[kind].numbers);
+    }
+    let mut lists = Rows::good(rng, counts).lists();
+    lists[kind].resize(index, 0);
+    RowLists::joined(format!("{} of length {index}", KINDS[kind].name), &lists)
+}
+
+/// A value to try in a field of this limit: good ones, one above, and some that
+/// would be good again were the field's width all that is looked at.
+pub fn value(which: usize, limit: u32, rng: &mut Rng) -> u32 {
+    match which {
+        0 => 0,
+        1 => 1,
+        2 => limit - 1,
+        3 => limit,
+        4 => limit + 1,
+        5 => 255,
+        6 => 256,
+        7 => 257,
+        8 => 65_535,
+        9 => 65_536,
+        10 => 65_537,
+        11 => 65_536 + limit,
+        12 => 256 + limit,
+        13 => 1 << 24,
+        14 => (1 << 31) - 1,
+        15 => 1 << 31,
+        16 => (1 << 31) + limit,
+        17 => u32::MAX,
+        18 => u32::MAX - limit,
+        _ => rng.from_to(limit + 1, u32::MAX),
+    }
+}
+
+/// Every field of every row with every value. Numbers 7 and 8 may be broken
+/// besides, or instead.
+fn values(index: usize, rng: &mut Rng) -> RowLists {
+    let (which, rest) = (index % VALUES, index / VALUES);
+    let (row, field) = (rest % MOST_ROWS, rest / MOST_ROWS);
+    let (kind, field) = limited(field);
+    // There is one row of parameters.
+    let row = if kind == 4 { 0 } else { row };
+    let mut counts = [0; 3].map(|_| rng.below(14));
+    if kind != 4 {
+        counts[usize::from(kind) - 1] = row + 1 + rng.below(MOST_ROWS - row);
+    }
+    let mut rows = Rows::good(rng, counts);
+    let (_, limit) = fields(kind).nth(field).expect("a field of this kind");
+    let value = value(which, limit, rng);
+    rows.row(kind, row)[field] = value;
+    RowLists::of(
+        format!("kind {kind} row {row} field {field}: {value}"),
+        &rows,
+    )
+}
+
+/// Every row with an id not above the one before, in every way.
+fn ids(index: usize, rng: &mut Rng) -> RowLists {
+    let (way, rest) = (BAD_IDS[index % BAD_IDS.len()], index / BAD_IDS.len());
+    let (kind, row) = (1 + (rest % 3) as u8, 1 + rest / 3);
+    let mut counts = [0; 3].map(|_| rng.below(14));
+    counts[usize::from(kind) - 1] = row + 1 + rng.below(MOST_ROWS - row);
+    let mut rows = Rows::good(rng, counts);
+    spoil_id(&mut rows, kind, row, way);
+    RowLists::of(format!("id {way:?} at kind {kind} row {row}"), &rows)
+}
+
+/// None, one, two and more parameter rows.
+const PARAMETER_ROWS: usize = 5;
+
+fn parameter_rows(index: usize, rng: &mut Rng) -> RowLists {
+    let count = index % PARAMETER_ROWS;
+    let mut rows = Rows::any_good(rng);
+    let row = rows.parameters[0];
+    rows.parameters = vec![row; count];
+    RowLists::of(format!("{count} parameter rows"), &rows)
+}
+
+/// From no length at all to twice as many as there are kinds.
+const LENGTH_COUNTS: usize = 2 * KINDS.len() + 1;
+
+/// Every number of lengths. Those beyond the kinds have elements of their own
+/// or none, and the area is as long as all lengths say or as its rows are.
+fn length_counts(index: usize, rng: &mut Rng) -> RowLists {
+    let (count, way) = (index % LENGTH_COUNTS, index / LENGTH_COUNTS % 3);
+    let rows = Rows::any_good(rng);
+    let mut made = RowLists::of(format!("{count} lengths, way {way}"), &rows);
+    let more = |_| {
+        if way == 0 {
+            1 + rng.below(20) as u32
+        } else {
+            0
+        }
+    };
+    let more: Vec<u32> = (KINDS.len()..count).map(more).collect();
+    made.lengths.extend(more);
+    made.lengths.truncate(count);
+    if way != 1 {
+        let sum: u32 = made.lengths.iter().sum();
+        made.rows.resize(sum as usize, 1);
+    }
+    made
+}
+
+/// How far the area is from the lengths' sum, at most.
+const AREAS: usize = 40;
+
+/// The area shorter and longer than its lengths say, by none, one and more.
+fn areas(index: usize, rng: &mut Rng) -> RowLists {
+    let mut made = RowLists::of(String::new(), &Rows::good_from(rng, 3));
+    let (right, by) = (made.rows.len(), index / 2);
+    let length = if index.is_multiple_of(2) {
+        right - by
+    } else {
+        right + by
+    };
+    made.rows.resize(length, 1);
+    made.how = format!("an area of {length} with lengths for {right}");
+    made
+}
+
+/// Lengths whose 32-bit sum is the area's length, though their sum is not.
+const WRAPS: usize = 200;
+
+fn wraps(_: usize, rng: &mut Rng) -> RowLists {
+    let mut made = RowLists::of(String::new(), &Rows::any_good(rng));
+    wrap_sum(rng, &mut made.lengths);
+    made.how = format!("lengths {:?} for {}", made.lengths, made.rows.len());
+    made
+}
