@@ -21,10 +21,12 @@ __extension__ typedef unsigned __int128 whole;
 #define LIMIT_POWER 70
 
 static const char *const names[3] = {"onsite", "offsite", "decay"};
+static const int places[3] = {8, 9, 11}; /* of the three among the figures, in the header's order */
 
 struct verdict {
     bool holds;
-    bool is_whole; /* the double is a whole number from 0 to below 2^70; otherwise value and distance are 0 and mean nothing */
+    bool too_large; /* the exact total reaches 2^70: then nothing else here means anything */
+    bool is_whole;  /* the double is a whole number from 0 to below 2^70; otherwise value and distance are 0 and mean nothing */
     whole value, distance, allowed;
 };
 
@@ -55,7 +57,8 @@ static bool take_apart(uint64_t bits, whole *value) {
  * below 2^53) and a sum of n rows n - 1 times, each by at most one part in 2^53; n + 2 leaves room for errors upon errors. */
 static struct verdict compare(whole exact, uint64_t bits, uint32_t n) {
     struct verdict v = {0};
-    if (exact >> LIMIT_POWER) return v;
+    v.too_large = exact >> LIMIT_POWER != 0;
+    if (v.too_large) return v;
     whole right = ((whole)n + 2) * exact; /* below 2^103 */
     v.allowed = right >> 53;              /* the largest whole distance that holds */
     v.is_whole = take_apart(bits, &v.value);
@@ -104,26 +107,6 @@ static struct text shown(struct verdict v, uint64_t bits) {
 
 /* ---- from the return to the figures ---- */
 
-/* The value of the line 'name value' in the lines' text; false where there is no such line or its value is no number. */
-static bool find_exact(const char *text, const char *name, whole *value) {
-    size_t length = strlen(name);
-    for (const char *line = text; *line;) {
-        const char *end = strchr(line, '\n');
-        if (!end) return false;
-        if (strncmp(line, name, length) == 0 && line[length] == ' ') {
-            const char *p = line + length + 1;
-            if (p == end || end - p > 38) return false; /* 38 digits can't overflow */
-            for (*value = 0; p < end; p++) {
-                if (*p < '0' || *p > '9') return false;
-                *value = *value * 10 + (unsigned)(*p - '0');
-            }
-            return true;
-        }
-        line = end + 1;
-    }
-    return false;
-}
-
 static int refused(uint32_t answer) {
     fprintf(stderr, "refused %" PRIu32 " %" PRIu32 "\n", answer / 1000, answer % 1000);
     return 1;
@@ -135,15 +118,12 @@ static int gather(const uint8_t *bytes, size_t length, struct figures *f) {
     uint32_t answer = niloferq_judge(bytes, length, counts, NILOFERQ_KINDS);
     if (answer) return refused(answer);
     f->n = counts[0];
-    char text[NILOFERQ_LINES_ROOM + 1]; /* and a zero byte behind them */
-    size_t size = niloferq_lines(bytes, length, (uint8_t *)text, sizeof text - 1);
-    if (size >= sizeof text) size = 0;
-    text[size] = 0;
+    uint64_t numbers[NILOFERQ_FIGURES_ROOM]; /* three for each figure: sign, upper and lower word */
+    answer = niloferq_figures(bytes, length, numbers, NILOFERQ_FIGURES_ROOM);
+    if (answer) return refused(answer);
     for (uint32_t code = 0; code < 3; code++) {
-        if (!find_exact(text, names[code], &f->exact[code])) {
-            fprintf(stderr, "chart: the library gave no exact total for %s\n", names[code]);
-            return 2;
-        }
+        const uint64_t *figure = numbers + 3 * places[code];
+        f->exact[code] = (whole)figure[1] << 64 | figure[2]; /* a subtotal of carbon is never below zero */
         uint8_t room[8];
         answer = niloferq_subtotal(bytes, length, code, room, sizeof room);
         if (answer) return refused(answer);
@@ -160,6 +140,10 @@ static bool examine(struct figures *f) {
         struct verdict v = f->verdict[i] = compare(f->exact[i], f->bits[i], f->n);
         if (v.holds) continue;
         good = false;
+        if (v.too_large) {
+            fprintf(stderr, "chart: the exact total of %s, %s, is not below 2^%d\n", names[i], plain(f->exact[i]).s, LIMIT_POWER);
+            continue;
+        }
         fprintf(stderr, "chart: %s is off: exact %s, double %s, ", names[i], plain(f->exact[i]).s, shown(v, f->bits[i]).s);
         if (v.is_whole) fprintf(stderr, "distance %s, allowed %s\n", plain(v.distance).s, plain(v.allowed).s);
         else fprintf(stderr, "which is no whole number from 0 to below 2^%d; allowed distance %s\n", LIMIT_POWER, plain(v.allowed).s);

@@ -381,6 +381,7 @@ static void broken_doubles(void) {
         }
     }
     must(compare((whole)1 << 70, UINT64_C(0x4450000000000000), 32).holds == false, "a total of 2^70 is stopped", 0);
+    must(compare((whole)1 << 70, 0, 32).too_large && !compare(((whole)1 << 70) - 1, 0, 32).too_large, "2^70 is too large, and it alone", 0);
     must(compare(~(whole)0, 0, 32).holds == false, "a total of 2^128 - 1 is stopped", 0);
     must(flips > 100000 && harmless > 100, "enough flipped bits on both sides", flips);
     printf("4. broken doubles: %lu with one bit flipped and %lu others (minus sign, fraction, infinite, no number, too large) are stopped, "

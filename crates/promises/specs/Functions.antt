@@ -1,4 +1,4 @@
--- The functions themselves: each entry point, as its code is compiled, meets the contract that its source states. What the contracts say is the matter of the other pages.
+-- The functions themselves: each entry point, as the prover takes its source, meets the contract that its source states. What the contracts say is the matter of the other pages.
 use Rattle.judge.proofs.judge.Statement as judge
 use Rattle.judge.proofs.judge.Met as judge-proof
 use Rattle.rows.proofs.read.Statement as read

@@ -24,14 +24,14 @@ fits c =
     let a = l .before .before .before .before .args in
     omega (arith, put-fits (printed (now (a .bytes))) (now (a .room)) (c .before .n .given .0 .0) (sym (l .lines .ensures .0) ∙ c .before .n .given .1), l .lines .kept .1 .0)
 
-slice-reshare-prefix-write-all : tie.Need-slice-reshare-prefix-write-all
-slice-reshare-prefix-write-all c = fits c
+slice-reshare-prefix-put : tie.Need-slice-reshare-prefix-put
+slice-reshare-prefix-put c = fits c
 
-slice-aggregate-write-all : tie.Need-slice-aggregate-write-all
-slice-aggregate-write-all c = sym (length-take-le _ _ (fits (c .before)))
+slice-aggregate-put : tie.Need-slice-aggregate-put
+slice-aggregate-put c = sym (length-take-le _ _ (fits (c .before)))
 
-write-all-requires : tie.Need-write-all-requires
-write-all-requires c κs = search needs
+put-requires : tie.Need-put-requires
+put-requires c κs = search needs
 
 enum-told : tie.Need-enum-told
 enum-told c = search needs
@@ -54,9 +54,9 @@ print-spec =
     (tie.spec
     lines-requires
     enum-known-n
-    slice-reshare-prefix-write-all
-    slice-aggregate-write-all
-    write-all-requires
+    slice-reshare-prefix-put
+    slice-aggregate-put
+    put-requires
     enum-told
     same-length
     returns
