@@ -317,6 +317,20 @@ static void rules(void) {
     must_refuse(&r, sizeof room, 1, 8011, "write: after above before");
 }
 
+/* The default parameters are the worked day's, and nothing behind them changes. */
+static void defaults(void) {
+    uint32_t room[NILOFERQ_PARAMETERS_NUMBERS + 1];
+    for (size_t n = 0; n <= NILOFERQ_PARAMETERS_NUMBERS + 1; n++) {
+        int enough = n >= NILOFERQ_PARAMETERS_NUMBERS, good = 1;
+        for (int i = 0; i <= NILOFERQ_PARAMETERS_NUMBERS; i++) room[i] = UNTOUCHED;
+        must(niloferq_defaults(room, n) == (enough ? 0 : 9000), "defaults: the answer");
+        for (int i = 0; i <= NILOFERQ_PARAMETERS_NUMBERS; i++)
+            good &= room[i] == (enough && i < NILOFERQ_PARAMETERS_NUMBERS ? KINDS[PARAMETERS].day[i] : UNTOUCHED);
+        must(good, "defaults: the six numbers, or the room as it was");
+    }
+    must(niloferq_defaults(NULL, 0) == 9000, "defaults: no room at all");
+}
+
 int main(int count, char **words) {
     static uint8_t day[NILOFERQ_RETURN_ROOM + 1];
     FILE *file = count == 2 ? fopen(words[1], "rb") : NULL;
@@ -334,6 +348,7 @@ int main(int count, char **words) {
     lengths_of_kinds();
     rules();
     day_figures(day, length);
+    defaults();
     printf("door: %u tried, %u wrong\n", tried, wrong);
     return wrong != 0;
 }

@@ -76,6 +76,11 @@ uint32_t niloferq_subtotal(const uint8_t *bytes, size_t bytes_len, uint32_t code
  *    numbers than rows_len. */
 uint32_t niloferq_read(const uint8_t *bytes, size_t bytes_len, uint32_t *rows, size_t rows_len, uint32_t *counts, size_t counts_len);
 
+/* The workbook's default parameters as a row of NILOFERQ_PARAMETERS_NUMBERS numbers: N 500, CH4 12, CO 60, N/C 10, N2O 7, NOx 121. No
+ * other function puts them in: a return has a parameter row of its own, or is refused.
+ * 0: they stand at the front of room; later elements keep their values. 9000: room_len is below NILOFERQ_PARAMETERS_NUMBERS. */
+uint32_t niloferq_defaults(uint32_t *room, size_t room_len);
+
 /* Rows as a return: at most NILOFERQ_MOST_ROWS of each of the first three kinds, none needed, and exactly one of parameters. lengths has
  * for each kind, from kind 1 on, how many elements of rows are its rows: elements, not rows. NILOFERQ_RETURN_ROOM bytes and one element
  * of size are always enough.

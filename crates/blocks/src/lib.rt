@@ -1,7 +1,9 @@
 // Rules 1 to 4: the length, and each block's check, header, kind, count and zero bytes.
 ghost use mathlib.Core.Path.{_≡_};
+ghost use mathlib.Core.Bool.{_&&_};
 ghost use Prim.Native.Nat.{_+_, _*_, _^_, _≤_, _<_};
 ghost use lib.ListN.{length};
+ghost use lib.Dec.{ltb, eqb};
 ghost use Rattle.form.specs.First.{first, any};
 ghost use Rattle.form.specs.Layout.{layout, strayAt};
 ghost use Rattle.form.specs.Block.{blocks, badLength, badCheck, badHeader, kindFalls, wrongEnd, blocksBelow, badCount, notFilled, strayRecord, stray, badBlock};
@@ -99,6 +101,13 @@ fn not_filled(bytes: &[u8], b: usize) -> bool
     false
 }
 
+// By how many of its kind come before it.
+fn over_filled(earlier: u32, count: u32) -> bool
+    ensures { λ r. ⌜ r ≡ (eqb earlier 2 && ltb 8 count) ⌝ }
+{
+    (earlier == 2) & (8 < count)
+}
+
 // In a used record: before a field and after the last.
 fn stray_fields(bytes: &[u8], kind: usize, at: usize) -> bool
     requires { ⌜ at + 40 ≤ length (now bytes) ⌝ }
@@ -167,7 +176,7 @@ fn bad_block(bytes: &[u8], b: usize) -> bool
         | (3 <= earlier)
         | bad_count(bytes, b)
         | not_filled(bytes, b)
-        | ((earlier == 2) & (8 < count))
+        | over_filled(earlier, count)
         | (stray_records(bytes, b) | stray_in(bytes, 512 * b + 488, 20))
 }
 

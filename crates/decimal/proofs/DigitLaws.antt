@@ -5,16 +5,14 @@ use mathlib.Core.List.{List, [], _∷_, _++_, append-nil, append-assoc}
 use Prim.Native.Nat.{ℕ, zero, suc, _+_, _*_, _/_, _%_, _^_, _<_, _≤_}
 use native.Mathlib.Omega.{arith}
 use native.Mathlib.Decide.{ℕ-discrete}
-use native.Mathlib.Nat.{add-zero, add-suc, suc-add, le-pred-of-lt, mul-pos}
-use native.Mathlib.Numerals.{bound, add-one}
-use lib.Dec.{lit<}
+use native.Mathlib.Nat.{add-zero, add-suc, suc-add, div-add-mod', mod-lt, mul-pos}
+use native.Mathlib.Numerals.{add-one}
 use lib.ListN.{length, set, length-append}
 use lib.Seq.{sets}
 use borrow.Author.Tests.{eq-eqb, ne-eqb}
 use Rattle.wide.specs.Numbers.{value}
 use Rattle.wide.specs.Signs.{sized, amount, Canonical}
 use Rattle.decimal.specs.Digits.{digitOf, digits, decimal, padded, signText, marked, Written}
-use Rattle.wide.specs.declared.Wide.{Wide}
 use Rattle.wide.specs.declared.signed.Signed.{Signed}
 
 -- text after text, and the room after one store
@@ -139,28 +137,24 @@ put-pair n a b room at h e f =
     let i : 48 + n % 10 ≡ b = omega arith in
     rw (g, i) (record { room = rw add-one; place = refl })
 
-module _ (k q r n : ℕ) (f : r < 10 ^ k) (e : n ≡ q * 10 ^ k + r) where
+ten-pos : (k : ℕ) → 0 < 10 ^ k
+ten-pos zero = omega arith
+ten-pos (suc k) = omega (arith, ten-pos k)
+
+module _ (k n : ℕ) {q r : ℕ} (a : q ≡ n / 10 ^ k) (b : r ≡ n % 10 ^ k) where
+  below : r < 10 ^ k
+  below = omega (arith, mod-lt n (ten-pos k))
+
+  whole : n ≡ q * 10 ^ k + r
+  whole = omega (arith, div-add-mod' n (10 ^ k), ap (λ (x : ℕ). x * 10 ^ k) a)
+
   pub put-after : (j : ℕ) {before middle after : List ℕ} {at next last : ℕ}
       → Written (padded j q) before middle at next → Written (padded k r) middle after next last → Written (padded (j + k) n) before after at last
-  put-after j v w = rw (padded-split j k q r n f e) (written-more v w)
+  put-after j v w = rw (padded-split j k q r n below whole) (written-more v w)
 
   pub write-after : {before middle after : List ℕ} {at next last : ℕ} → 0 < q
       → Written (decimal q) before middle at next → Written (padded k r) middle after next last → Written (decimal n) before after at last
-  write-after h v w = rw (decimal-split k q r n h f e) (written-more v w)
+  write-after h v w = rw (decimal-split k q r n h below whole) (written-more v w)
 
   pub length-after : 0 < q → length (decimal n) ≡ length (decimal q) + k
-  length-after h = omega (arith, ap length (decimal-split k q r n h f e), length-append (decimal q) (padded k r), padded-length k r)
-
--- every number of two words has at most 39 digits
-pub value-length : (a : Wide) → a .lo < 2 ^ 64 → a .hi < 2 ^ 64 → length (decimal (value a)) ≤ 39
-unfolding value
-value-length a fl fh = decimal-length 38 _ (grw (bound, le-pred-of-lt fl, le-pred-of-lt fh) (lit< tt))
-
--- and one byte more with its sign
-sized-length : (t : Bool) (n : ℕ) → length (marked (sized t n)) ≤ length (decimal n) + 1
-sized-length false n = omega arith
-sized-length true zero = omega arith
-sized-length true (suc n) = omega arith
-
-pub signed-length : (s : Signed) → s .size .lo < 2 ^ 64 → s .size .hi < 2 ^ 64 → length (marked (amount s)) ≤ 40
-signed-length s fl fh = omega (arith, sized-length (s .below) (value (s .size)), value-length (s .size) fl fh)
+  length-after h = omega (arith, ap length (decimal-split k q r n h below whole), length-append (decimal q) (padded k r), padded-length k r)

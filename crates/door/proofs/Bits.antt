@@ -13,27 +13,25 @@ use Rattle.form.specs.Bytes.{littleEndian}
 use Rattle.form.specs.Verdict.{rules, rows, verdictOf}
 use Rattle.form.specs.declared.Counts.{Counts}
 use Rattle.form.specs.declared.Ruling.{Ruling}
+use Rattle.form.specs.declared.Ruling.the-variants.{Broken}
 use Rattle.form.specs.declared.Verdict.{Verdict}
 use Rattle.form.specs.declared.Verdict.the-variants as verdict
 use Rattle.form.proofs.Order.{ruled-before, kept-before, one-broken, one-kept}
 use Rattle.form.proofs.Meaning.{refused-ruling}
 use Rattle.form.proofs.Accepted.{accepted-ruling}
 use Rattle.doubles.specs.declared.Doubles.{Doubles}
-use Rattle.doubles.specs.declared.Answer.{Answer}
 use Rattle.doubles.specs.declared.Answer.the-variants.{Figures, Refused}
 use Rattle.doubles.specs.Subtotals.{subtotalsOf, answerBy, answerOf}
 use Rattle.doubles.proofs.Wholes.{no-nan}
 use Rattle.doubles.proofs.Demand.{onsite-demand, offsite-demand, decay-demand}
 use Rattle.rows.specs.Reading.{onFront}
+use Rattle.door.proofs.Rooms.{too-short, long-enough}
 use Rattle.door.specs.Door.{codeOf, wrongCode, tooShort, subtotalRules, byCode, bitsAfter}
 
 -- what the answer says of the verdict
 refused-by : (s : List ℕ) (v : Verdict) (n p : ℕ) → answerBy s v ≡ Refused n p → v ≡ verdict.Refused n p
 refused-by s (verdict.Accepted c) n p e = let z : _≡_ {A = ℕ} 0 1 = cc in absurd (omega arith)
-refused-by s (verdict.Refused m q) n p e =
-    let a : m ≡ n = cc in
-    let b : q ≡ p = cc in
-    cc
+refused-by s (verdict.Refused m q) n p e = cc
 
 pub record Figured (s : List ℕ) (d : Doubles) : Type 0 where
   pub counts : Counts
@@ -74,30 +72,21 @@ module _ (s : List ℕ) (code : ℕ) where
 
     pub refused-out : (n p r : ℕ) → answerOf s ≡ Refused n p → r ≡ 1000 * n + p → Out r room (ruling (subtotalRules s code room))
     refused-out n p r e q =
-        rw (ruled-before (rules s) (wrongCode code ∷ tooShort 8 room ∷ []) (refused-ruling s n p (refused-verdict s n p e))) (q, refl)
+        let z : ruling (subtotalRules s code room) ≡ Broken n p = ruled-before (rules s) _ (refused-ruling s n p (refused-verdict s n p e)) in
+        rw z (q, refl)
+
+    -- of an answer with figures, the two rules of the call are left
+    left : {d : Doubles} → Figured s d → ruling (subtotalRules s code room) ≡ ruling (wrongCode code ∷ tooShort 8 room ∷ [])
+    left f = kept-before (rules s) _ (accepted-ruling s (f .counts) (f .accepted))
 
     pub code-out : (d : Doubles) (r : ℕ) → Figured s d → 2 < code → r ≡ 1000 * 11 + 0 → Out r room (ruling (subtotalRules s code room))
-    code-out d r f h q =
-        rw (
-          kept-before (rules s) (wrongCode code ∷ tooShort 8 room ∷ []) (accepted-ruling s (f .counts) (f .accepted)),
-          one-broken 11 _ (tooShort 8 room ∷ []) (lt-ltb 2 code h),
-        ) (q, refl)
+    code-out d r f h q = rw (left f ∙ one-broken 11 _ _ (lt-ltb 2 code h)) (q, refl)
 
     pub short-out : (d : Doubles) (r : ℕ) → Figured s d → code ≤ 2 → length room < 8 → r ≡ 1000 * 9 + 0 → Out r room (ruling (subtotalRules s code room))
-    short-out d r f h l q =
-        rw (
-          kept-before (rules s) (wrongCode code ∷ tooShort 8 room ∷ []) (accepted-ruling s (f .counts) (f .accepted)),
-          one-kept 11 _ (tooShort 8 room ∷ []) (le-ltb 2 code h),
-          one-broken 9 _ [] (lt-ltb (length room) 8 l),
-        ) (q, refl)
+    short-out d r f h l q = rw (left f ∙ one-kept 11 _ _ (le-ltb 2 code h) ∙ too-short 8 room l) (q, refl)
 
     pub done-out : (d : Doubles) (x : Float) (l : List ℕ) → Figured s d → code ≤ 2 → 8 ≤ length room → x ≡ byCode code d
         → l ≡ onFront (littleEndian 8 (toBits binary64 x)) room → Out 0 l (ruling (subtotalRules s code room))
-    unfolding ruling
     done-out d x l f h m e q =
-        rw (
-          kept-before (rules s) (wrongCode code ∷ tooShort 8 room ∷ []) (accepted-ruling s (f .counts) (f .accepted)),
-          one-kept 11 _ (tooShort 8 room ∷ []) (le-ltb 2 code h),
-          one-kept 9 _ [] (le-ltb (length room) 8 m),
-        )
+        rw (left f ∙ one-kept 11 _ _ (le-ltb 2 code h) ∙ long-enough 8 room m)
         (refl, q ∙ ap (λ (y : Float). onFront (littleEndian 8 (toBits binary64 y)) room) (e ∙ ap (byCode code) (f .doubles)))

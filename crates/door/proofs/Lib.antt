@@ -1,4 +1,5 @@
 mod Rooms
 mod Bits
+pub mod Codes
 mod Reading
-mod Writing
+pub mod Writing

@@ -1,28 +1,27 @@
 -- The ways out of reading from C. Assumes nothing.
 use Prim.Native.Nat.{ℕ, zero, suc, _+_, _*_, _≤_, _<_}
 use mathlib.Core.Path.{_≡_, refl, sym, ap, _∙_}
-use mathlib.Core.List.{List, [], _∷_, _++_}
+use mathlib.Core.List.{List, [], _∷_}
 use native.Mathlib.Omega.{arith}
 use borrow.Author.Tests.{lt-ltb, le-ltb}
 use lib.ListN.{length}
-use Rattle.form.specs.First.{first}
 use Rattle.form.specs.Layout.{kinds}
 use Rattle.form.specs.Ruling.{rule, refuse, ruling}
-use Rattle.form.specs.Verdict.{rules, countsOf, countList, verdictBy, verdictOf}
+use Rattle.form.specs.Verdict.{rules, countList, verdictBy}
 use Rattle.form.specs.declared.Spot.{Spot}
-use Rattle.form.specs.declared.Spot.the-variants.{At, Nowhere}
 use Rattle.form.specs.declared.Ruling.{Ruling}
 use Rattle.form.specs.declared.Ruling.the-variants.{Clean, Broken}
 use Rattle.form.specs.declared.Verdict.{Verdict}
 use Rattle.form.specs.declared.Verdict.the-variants.{Accepted, Refused}
-use Rattle.form.proofs.Search.{first-zero, first-found, first-at, first-same}
-use Rattle.form.proofs.Order.{orRule, ruling-append, ruled, one-broken}
+use Rattle.form.proofs.Search.{first-zero, first-found, first-same}
+use Rattle.form.proofs.Order.{orRule, ruling-append, ruled, ruling-least}
 use Rattle.form.proofs.EachKind.{few-kinds}
-use Rattle.form.proofs.Meaning.{small}
 use Rattle.rows.specs.Reading as rows
 use Rattle.rows.proofs.Rows.{need-none}
 use Rattle.door.specs.Door.{codeOf, tooShort, judgeCall, countsAfter}
 use Rattle.door.specs.Rows.{shortAt, readCall, rowsAfter}
+use Rattle.door.proofs.Rooms.{too-short}
+use Rattle.door.proofs.Codes.{verdict-told, bounded, bounded-then, bounded-bytes}
 
 -- the code and the counts' room by the verdict that the code has at hand
 abbrev pub codeBy : Verdict → ℕ
@@ -76,7 +75,7 @@ module _ (s room counts : List ℕ) where
       → Out r room z (readCall s room counts)
   judged-out h q k =
       let u = ruling (rules s) in
-      let j : judgeCall s counts ≡ orRule u (Broken 9 0) = ruling-append (rules s) (tooShort kinds counts ∷ []) ∙ ap (orRule u) (one-broken 9 _ [] (lt-ltb (length counts) kinds h)) in
+      let j : judgeCall s counts ≡ orRule u (Broken 9 0) = ruling-append (rules s) (tooShort kinds counts ∷ []) ∙ ap (orRule u) (too-short kinds counts h) in
       let e : readCall s room counts ≡ orRule u (Broken 9 0) =
       ruling-append (rules s) (rule 9 (suc kinds) (shortAt s (length room) (length counts)) ∷ []) ∙ ap (orRule u) (none-left h) in
       rw e (q ∙ ap codeOf j, (as-it-was s room u, k ∙ ap (countsAfter s counts) j))
@@ -90,21 +89,8 @@ module _ (s room counts : List ℕ) where
 
 -- ---- a refusal's place is small
 
-module _ (s room : List ℕ) where
-  of-room : (t : Spot) {n p : ℕ} → first (rows.outgrown s (length room)) (suc kinds) ≡ t → verdictBy s (refuse 9 t Clean) ≡ Refused n p → p < 1000
-  of-room (At i) {n} {p} e h =
-      let q : i ≡ p = cc in
-      omega (arith, first-at (rows.outgrown s (length room)) e .0, few-kinds)
-  of-room Nowhere e h = let z : _≡_ {A = ℕ} 0 1 = cc in absurd (omega arith)
-
-  of-bytes : (u : Ruling) {n p : ℕ} → ruling (rules s) ≡ u → verdictBy s (orRule u (ruling (rule 9 (suc kinds) (rows.outgrown s (length room)) ∷ []))) ≡ Refused n p → p < 1000
-  unfolding ruling verdictOf
-  of-bytes (Broken m i) {n} {p} e h =
-      let q : i ≡ p = cc in
-      omega (arith, small s m i (ap (verdictBy s) e) .1, few-kinds)
-  of-bytes Clean e h = of-room (first (rows.outgrown s (length room)) (suc kinds)) refl h
-
-  pub read-small : {n p : ℕ} → rows.readAnswer s room ≡ Refused n p → p < 1000
-  unfolding rows.readAnswer
-  read-small e =
-      of-bytes (ruling (rules s)) refl (ap (verdictBy s) (sym (ruling-append (rules s) (rule 9 (suc kinds) (rows.outgrown s (length room)) ∷ []))) ∙ e)
+pub read-small : (s room : List ℕ) {n p : ℕ} → rows.readAnswer s room ≡ Refused n p → p < 1000
+unfolding rows.readAnswer
+read-small s room e =
+    let b = bounded-then (rules s) (rule 9 (suc kinds) (rows.outgrown s (length room)) ∷ []) (bounded-bytes s) (bounded (omega (arith, few-kinds))) in
+    b _ _ (ruling-least (verdict-told s _ _ e)) .1

@@ -1,6 +1,6 @@
 -- Stores at the front of a room, and the last rule, the room itself. Assumes nothing.
 use Prim.Native.Nat.{ℕ, _+_, _*_, _≤_, _<_}
-use mathlib.Core.Path.{_≡_, refl, sym, ap, _∙_}
+use mathlib.Core.Path.{_≡_, refl, ap, _∙_}
 use mathlib.Core.List.{List, [], _∷_}
 use native.Mathlib.Omega.{arith}
 use borrow.Author.Tests.{lt-ltb, le-ltb}
@@ -10,7 +10,7 @@ use native.Mathlib.Numerals.{add-one}
 use Rattle.filing.proofs.Stores.{sets-front}
 use Rattle.form.specs.Ruling.{ruling}
 use Rattle.form.specs.Layout.{kinds}
-use Rattle.form.specs.Verdict.{rules, countsOf, countList, verdictOf}
+use Rattle.form.specs.Verdict.{rules, countList, verdictOf}
 use Rattle.form.specs.declared.Counts.{Counts}
 use Rattle.form.specs.declared.Ruling.{Ruling}
 use Rattle.form.specs.declared.Ruling.the-variants.{Clean, Broken}
@@ -20,17 +20,6 @@ use Rattle.form.proofs.Meaning.{refused-ruling}
 use Rattle.form.proofs.Accepted.{accepted-ruling, accepted-counts}
 use Rattle.rows.specs.Reading.{onFront}
 use Rattle.door.specs.Door.{codeOf, tooShort, judgeCall, countsAfter}
-
-pub one-store : (l : List ℕ) (a : ℕ) → 1 ≤ length l → set l 0 a ≡ onFront (a ∷ []) l
-one-store (_ ∷ l) a h = refl
-one-store [] a h = absurd (omega arith)
-
-pub four-stores : (l : List ℕ) (a b c d : ℕ) → 4 ≤ length l → set (set (set (set l 0 a) 1 b) 2 c) 3 d ≡ onFront (a ∷ b ∷ c ∷ d ∷ []) l
-four-stores (_ ∷ _ ∷ _ ∷ _ ∷ l) a b c d h = refl
-four-stores [] a b c d h = absurd (omega arith)
-four-stores (_ ∷ []) a b c d h = absurd (omega arith)
-four-stores (_ ∷ _ ∷ []) a b c d h = absurd (omega arith)
-four-stores (_ ∷ _ ∷ _ ∷ []) a b c d h = absurd (omega arith)
 
 -- numbers handed over one by one: the first k stand at the front
 pub record Handing (vs d₀ d : List ℕ) (k : ℕ) : Type 0 where
@@ -48,14 +37,13 @@ handing-more {vs} {d₀} {d} {k} {v} h l e =
 pub handing-all : {vs d₀ d : List ℕ} {k : ℕ} → Handing vs d₀ d k → length vs ≤ k → length vs ≤ length d₀ → d ≡ onFront vs d₀
 handing-all {vs} {d₀} {d} {k} h l r = rw (drop-of-length-le vs {i = k} l) at (h .whole) ∙ sets-front d₀ vs r
 
-pub eight-stores : (l : List ℕ) (a b c d e f g h : ℕ) → 8 ≤ length l
-    → set (set (set (set (set (set (set (set l 0 a) 1 b) 2 c) 3 d) 4 e) 5 f) 6 g) 7 h ≡ onFront (a ∷ b ∷ c ∷ d ∷ e ∷ f ∷ g ∷ h ∷ []) l
-eight-stores (_ ∷ _ ∷ _ ∷ _ ∷ l) a b c d e f g h le =
-    ap (λ (x : List ℕ). a ∷ b ∷ c ∷ d ∷ x) (four-stores l e f g h (omega arith))
-eight-stores [] a b c d e f g h le = absurd (omega arith)
-eight-stores (_ ∷ []) a b c d e f g h le = absurd (omega arith)
-eight-stores (_ ∷ _ ∷ []) a b c d e f g h le = absurd (omega arith)
-eight-stores (_ ∷ _ ∷ _ ∷ []) a b c d e f g h le = absurd (omega arith)
+-- the last rule: 9, or none
+pub too-short : (n : ℕ) (room : List ℕ) → length room < n → ruling (tooShort n room ∷ []) ≡ Broken 9 0
+too-short n room l = one-broken 9 _ [] (lt-ltb (length room) n l)
+
+pub long-enough : (n : ℕ) (room : List ℕ) → n ≤ length room → ruling (tooShort n room ∷ []) ≡ Clean
+unfolding ruling
+long-enough n room l = one-kept 9 _ [] (le-ltb (length room) n l)
 
 -- the three ways out of the judge for C
 module _ (s room : List ℕ) where
@@ -66,12 +54,12 @@ module _ (s room : List ℕ) where
   pub refused-out : (n p r : ℕ) → verdictOf s ≡ Refused n p → r ≡ 1000 * n + p → Out r room (judgeCall s room)
   refused-out n p r e q = rw (ruled-before (rules s) (tooShort kinds room ∷ []) (refused-ruling s n p e)) (q, refl)
 
+  -- of an accepted return, the room is left
+  left : {c : Counts} → verdictOf s ≡ Accepted c → judgeCall s room ≡ ruling (tooShort kinds room ∷ [])
+  left e = kept-before (rules s) _ (accepted-ruling s _ e)
+
   pub short-out : (c : Counts) (r : ℕ) → verdictOf s ≡ Accepted c → length room < kinds → r ≡ 1000 * 9 + 0 → Out r room (judgeCall s room)
-  short-out c r e l q =
-      rw (kept-before (rules s) (tooShort kinds room ∷ []) (accepted-ruling s c e), one-broken 9 _ [] (lt-ltb (length room) kinds l)) (q, refl)
+  short-out c r e l q = rw (left e ∙ too-short kinds room l) (q, refl)
 
   pub done-out : (c : Counts) (l : List ℕ) → verdictOf s ≡ Accepted c → kinds ≤ length room → l ≡ onFront (countList c) room → Out 0 l (judgeCall s room)
-  unfolding ruling
-  done-out c l e h q =
-      rw (kept-before (rules s) (tooShort kinds room ∷ []) (accepted-ruling s c e), one-kept 9 _ [] (le-ltb (length room) kinds h))
-      (refl, q ∙ ap (λ (x : Counts). onFront (countList x) room) (accepted-counts s c e))
+  done-out c l e h q = rw (left e ∙ long-enough kinds room h) (refl, q ∙ ap (λ (x : Counts). onFront (countList x) room) (accepted-counts s c e))

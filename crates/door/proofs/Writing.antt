@@ -1,31 +1,26 @@
 -- The ways out of writing from C. Assumes nothing.
-use Prim.Native.Nat.{ℕ, suc, _+_, _*_, _/_, _≤_, _<_}
+use Prim.Native.Nat.{ℕ, _+_, _*_, _≤_, _<_}
 use mathlib.Core.Path.{_≡_, refl, sym, ap, _∙_}
 use mathlib.Core.Bool.{Bool, true, false, _||_, or-true, or-false}
-use mathlib.Core.List.{List, [], _∷_, _++_}
+use mathlib.Core.List.{List, [], _∷_}
 use native.Mathlib.Omega.{arith}
 use borrow.Author.Tests.{lt-ltb, le-ltb}
 use lib.Dec.{ltb, lit<}
 use lib.ListN.{length}
 use Rattle.form.specs.First.{first}
-use Rattle.form.specs.Layout.{kinds}
-use Rattle.form.specs.Ruling.{Rule, rule, ruling}
-use Rattle.form.specs.Records.{recordRules}
+use Rattle.form.specs.Ruling.{rule, ruling}
 use Rattle.form.specs.declared.Ruling.{Ruling}
 use Rattle.form.specs.declared.Ruling.the-variants.{Clean, Broken}
-use Rattle.form.proofs.Order.{orRule, ruling-append, one-broken, one-kept, Kept, Least, this, later, AllKept, more, ruling-least, ruling-clean, least-place}
-use Rattle.form.proofs.EachKind.{few-kinds}
-use Rattle.filing.specs.Lists.{cut, filedLists}
-use Rattle.filing.proofs.Cut.{cut-lengths}
-use Rattle.lists.specs.Rules.{badAt, listRules, Good, blocksFrom}
-use Rattle.lists.proofs.Numbers.{good, good-few}
+use Rattle.form.proofs.Order.{orRule, ruling-append, one-broken, AllKept, more, ruling-least, ruling-clean, same-ruling}
+use Rattle.filing.specs.Lists.{Lists, cut}
+use Rattle.lists.specs.Rules.{listRules}
 use Rattle.rows.specs.Reading.{onFront}
 use Rattle.rows.specs.Writing as rows
 use Rattle.rows.specs.declared.Written.{Written}
 use Rattle.rows.specs.declared.Written.the-variants.{Done, Refused}
-use Rattle.rows.proofs.Return.{places-from, length-written}
 use Rattle.door.specs.Door.{codeOf}
-use Rattle.door.specs.Rows.{writeRooms, writeCall, blocksAfter, sizeAfter}
+use Rattle.door.specs.Rows.{writeCall, blocksAfter, sizeAfter}
+use Rattle.door.proofs.Codes.{bounded, bounded-then, few-blocks, bounded-lists}
 
 -- the code and the size's room by the answer that the code has at hand
 abbrev pub codeBy : Written → ℕ
@@ -64,7 +59,7 @@ module _ (area lengths : List ℕ) where
   no-size : (room size : List ℕ) → length size < 1 → writeCall area lengths room size ≡ orRule (ruling (listRules 1 lengths area)) (Broken 9 0)
   no-size room size h =
       ruling-append (listRules 1 lengths area) _
-      ∙ ap (orRule (ruling (listRules 1 lengths area))) (one-broken 9 _ [] (rw (lt-ltb (length size) 1 h) (or-true (ltb (length room) (length (rows.written 1 (cut lengths area)))))))
+      ∙ ap (orRule (ruling (listRules 1 lengths area))) (one-broken 9 _ [] (ap (λ (b : Bool). ltb (length room) (length (rows.written 1 (cut lengths area))) || b) (lt-ltb (length size) 1 h) ∙ or-true (ltb (length room) (length (rows.written 1 (cut lengths area))))))
 
   last : (u : Ruling) (short : Bool) → unsized (rows.writtenBy 1 (cut lengths area) (orRule u (ruling (rule 9 1 (λ p. short) ∷ [])))) ≡ codeOf (orRule u (Broken 9 0))
   unfolding ruling first
@@ -105,46 +100,33 @@ module _ (area lengths : List ℕ) where
           (e ∙ ap (rows.bytesAfter 1 lengths area room) v, k ∙ ap (sizeBy size) v ∙ size-said size (writeCall area lengths room size)),
         )
 
--- ---- what a write answers is small
+-- ---- what a write answers is small, and one ruling's alone
 
-module _ (lengths area : List ℕ) where
-  broken-of : (u : Ruling) {n p : ℕ} → rows.writtenBy 1 (cut lengths area) u ≡ Refused n p → u ≡ Broken n p
-  broken-of Clean e = let z : _≡_ {A = ℕ} 0 1 = cc in absurd (omega arith)
-  broken-of (Broken m q) {n} {p} e =
-      let a : m ≡ n = cc in
-      let b : q ≡ p = cc in
-      cc
+rulingIn : Written → Ruling
+rulingIn (Done n) = Clean
+rulingIn (Refused n p) = Broken n p
+
+pub written-told : (l : Lists) (u v : Ruling) → rows.writtenBy 1 l u ≡ rows.writtenBy 1 l v → u ≡ v
+unfolding rulingIn
+written-told l = same-ruling (rows.writtenBy 1 l) rulingIn refl (λ n p. refl)
+
+module _ (lengths area room : List ℕ) where
+  pub write-small : {n p : ℕ} → rows.writeAnswer 1 lengths area room ≡ Refused n p → p < 1000
+  unfolding rows.writeAnswer
+  write-small e =
+      let b = bounded-then (listRules 1 lengths area) (rows.roomRule 1 (cut lengths area) room ∷ []) (bounded-lists lengths area) (bounded (omega arith)) in
+      b _ _ (ruling-least (written-told (cut lengths area) _ _ e)) .1
+
+  clean-small : AllKept (rows.writeRules 1 lengths area room) → length (rows.written 1 (cut lengths area)) ≤ 30720
+  unfolding listRules
+  clean-small (more k _) = few-blocks lengths area k .1
 
   done-of : (u : Ruling) {n : ℕ} → rows.writtenBy 1 (cut lengths area) u ≡ Done n → (u ≡ Clean) × (n ≡ length (rows.written 1 (cut lengths area)))
   done-of Clean e = (refl, cc)
   done-of (Broken m q) e = let z : _≡_ {A = ℕ} 0 1 = cc in absurd (omega arith)
 
-  -- where 10 is kept, three blocks of a kind at most
-  few-blocks : Kept (rule 10 (suc kinds) (badAt lengths (length area))) → (filedLists (cut lengths area) .places ≤ 720) × (length (rows.written 1 (cut lengths area)) ≤ 30720)
-  unfolding Kept
-  few-blocks k =
-      let g = good lengths (length area) k in
-      let n = cut-lengths lengths area (omega (arith, g .all)) in
-      let f = good-few lengths (length area) g in
-      let b : blocksFrom 1 lengths ≤ 60 = omega (arith, few-kinds) in
-      (omega (arith, rw n at (places-from 1 (cut lengths area))), omega (arith, rw n at (length-written 1 (cut lengths area))))
-
-  module _ (room : List ℕ) where
-    least-small : {n p : ℕ} → Least (rows.writeRules 1 lengths area room) n p → p < 1000
-    unfolding listRules
-    least-small (this h e k) = omega (arith, few-kinds)
-    least-small (later k m) = let f = few-blocks k .0 in least-place 1000 (omega arith) m
-
-    pub write-small : {n p : ℕ} → rows.writeAnswer 1 lengths area room ≡ Refused n p → p < 1000
-    unfolding rows.writeAnswer
-    write-small e = least-small (ruling-least (broken-of (ruling (rows.writeRules 1 lengths area room)) e))
-
-    clean-small : AllKept (rows.writeRules 1 lengths area room) → length (rows.written 1 (cut lengths area)) ≤ 30720
-    unfolding listRules
-    clean-small (more k _) = few-blocks k .1
-
-    pub done-small : {n : ℕ} → rows.writeAnswer 1 lengths area room ≡ Done n → n ≤ 30720
-    unfolding rows.writeAnswer
-    done-small e =
-        let d = done-of (ruling (rows.writeRules 1 lengths area room)) e in
-        omega (arith, clean-small (ruling-clean (d .0)), d .1)
+  pub done-small : {n : ℕ} → rows.writeAnswer 1 lengths area room ≡ Done n → n ≤ 30720
+  unfolding rows.writeAnswer
+  done-small e =
+      let d = done-of (ruling (rows.writeRules 1 lengths area room)) e in
+      omega (arith, clean-small (ruling-clean (d .0)), d .1)

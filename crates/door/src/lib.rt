@@ -1,4 +1,5 @@
 // The door for programs in C. A slice is a pointer and then a length.
+pub mod defaults;
 pub mod figures;
 
 ghost use mathlib.Core.Path.{_≡_};

@@ -3,13 +3,12 @@ ghost use mathlib.Core.Path.{_≡_};
 ghost use mathlib.Core.Bool.{false};
 ghost use Prim.Native.Nat.{_+_, _≤_};
 ghost use lib.ListN.{length};
-ghost use Rattle.form.specs.Bytes.{number};
 ghost use Rattle.form.specs.Layout.{conversion, rowAt};
 ghost use Rattle.form.specs.Records.{grown};
 ghost use Rattle.form.specs.Verdict.{rows, verdictOf};
 ghost use Rattle.form.specs.declared.Verdict.the-variants.{Accepted};
 ghost use Rattle.doubles.specs.Subtotals.{partOf, decayDouble, subtotalsOf, answerOf};
-ghost use Rattle.doubles.specs.Steps.{partsOf, plusOf};
+ghost use Rattle.doubles.specs.Steps.{burntOf, partsOf, plusOf};
 use form::Counts;
 use form::Verdict;
 use form::four_at;
@@ -38,7 +37,7 @@ fn part(area: u32, difference: u32, fraction: u32, oxidised: u32, carbon: u32) -
 // The part whose fraction, oxidised and carbon fraction stand from `at` on.
 fn burnt_at(bytes: &[u8], at: usize, area: u32, difference: u32) -> f64
     requires { ⌜ at + 6 ≤ length (now bytes) ⌝ }
-    ensures { λ r. ⌜ r ≡ partOf area difference (number 2 (now (bytes .entry)) at) (number 2 (now (bytes .entry)) (at + 2)) (number 2 (now (bytes .entry)) (at + 4)) ⌝ }
+    ensures { λ r. ⌜ r ≡ burntOf (now (bytes .entry)) at area difference ⌝ }
 {
     part(
         area,
@@ -107,7 +106,7 @@ pub fn add_up(bytes: &[u8], c: Counts) -> Doubles
 }
 
 // The subtotals of a checked return.
-fn subtotals_of<'a>(c: Checked<'a>) -> Doubles
+pub fn subtotals_of<'a>(c: Checked<'a>) -> Doubles
     requires { ⌜ verdictOf (now (c .bytes)) ≡ Accepted (c .counts) ⌝ }
     ensures { λ r. ⌜ r ≡ subtotalsOf (rows 1 (now (c .entry .bytes))) ⌝ }
 {

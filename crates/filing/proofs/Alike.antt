@@ -1,17 +1,19 @@
 -- Filed records that are alike make the same blocks. Assumes nothing.
 --     turn-add, turn-same    things one after the other, in two parts, and each by its equal
+--     alike-part, alike-then, alike-join    some of the places, from one to the next, and one behind the other
 --     block-alike            one block; blocks-behind, the blocks of records behind others
 use Prim.Native.Nat.{ℕ, zero, suc, _+_, _-_, _*_, _<_, _≤_}
-use mathlib.Core.Path.{_≡_, refl, ap₂, _∙_}
-use mathlib.Core.Bool.{Bool, true, false, cond}
+use mathlib.Core.Path.{_≡_, refl, sym, ap₂, _∙_}
+use mathlib.Core.Bool.{true, cond}
 use mathlib.Core.List.{List, _++_, append-assoc}
-use native.Mathlib.Nat.{add-zero, zero-add, suc-add, add-assoc, add-sub-cancel-left}
+use native.Mathlib.Nat.{add-zero, zero-add, suc-add, add-assoc}
+use native.Mathlib.Decide.{decLt}
 use native.Mathlib.Omega.{arith}
-use lib.Dec.{ltb}
 use borrow.Author.Tests.{lt-ltb, le-ltb}
 use Rattle.form.specs.Layout.{layout}
 use Rattle.form.specs.Records.{Filed}
 use Rattle.filing.specs.Lists.{behind}
+use Rattle.filing.proofs.Choice.{either}
 use Rattle.filing.specs.Written.{zeros, recordOf, inTurn, recordOn, usedFrom, bodyOf, blockOf}
 
 -- ---- one after the other
@@ -37,48 +39,59 @@ turn-same f g i j (suc n) h =
 
 -- ---- records that are alike
 
+-- place i of f is as place j of g
+pub record Same (f : Filed) (i : ℕ) (g : Filed) (j : ℕ) : Type 0 where
+  pub used : f .used i ≡ g .used j
+  pub kind : f .kind i ≡ g .kind j
+  pub row : f .used i ≡ true → f .row i ≡ g .row j
+
 -- the n places of f from i on are as those of g from j on
 pub record Alike (f : Filed) (i : ℕ) (g : Filed) (j n : ℕ) : Type 0 where
-  pub used : (k : ℕ) → k < n → f .used (i + k) ≡ g .used (j + k)
-  pub kind : (k : ℕ) → k < n → f .kind (i + k) ≡ g .kind (j + k)
-  pub row : (k : ℕ) → k < n → f .used (i + k) ≡ true → f .row (i + k) ≡ g .row (j + k)
+  pub at : (k : ℕ) → k < n → Same f (i + k) g (j + k)
 
-module _ {f g : Filed} {i j n : ℕ} (a : Alike f i g j n) where
-  pub alike-part : (d m : ℕ) {i′ j′ : ℕ} → d + m ≤ n → i + d ≡ i′ → j + d ≡ j′ → Alike f i′ g j′ m
-  alike-part d m {i′} {j′} l ei ej =
-      let at : (k : ℕ) → i′ + k ≡ i + (d + k) = λ k. rw (← ei) (add-assoc i d k) in
-      let to : (k : ℕ) → j′ + k ≡ j + (d + k) = λ k. rw (← ej) (add-assoc j d k) in
-      record {
-        used = λ k h. rw (at k, to k) (a .used (d + k) (omega arith));
-        kind = λ k h. rw (at k, to k) (a .kind (d + k) (omega arith));
-        row = λ k h u. rw (at k, to k) (a .row (d + k) (omega arith) (rw (at k) at u));
-      }
+pub alike-part : {f g : Filed} {i j n : ℕ} → Alike f i g j n → (d m : ℕ) {i′ j′ : ℕ} → d + m ≤ n → i + d ≡ i′ → j + d ≡ j′ → Alike f i′ g j′ m
+alike-part {i = i} {j = j} a d m l ei ej = record { at = λ k h. rw (← ei, ← ej, add-assoc i d k, add-assoc j d k) (a .at (d + k) (omega arith)) }
 
-  record-alike : (k : ℕ) → k < n → recordOn f (i + k) ≡ recordOn g (j + k)
-  unfolding recordOn
-  record-alike k h = go (f .used (i + k)) refl
-    where
-      go : (u : Bool) → f .used (i + k) ≡ u
-          → cond (f .used (i + k)) (recordOf (layout (f .kind (i + k))) (f .row (i + k))) (zeros 40)
-          ≡ cond (g .used (j + k)) (recordOf (layout (g .kind (j + k))) (g .row (j + k))) (zeros 40)
-      go true e = rw (← a .used k h, e, a .kind k h, a .row k h e)
-      go false e = rw (← a .used k h, e)
+pub alike-then : {f g h : Filed} {i j k n : ℕ} → Alike f i g j n → Alike g j h k n → Alike f i h k n
+alike-then a b =
+    record {
+      at = λ q l.
+          let x = a .at q l in
+          let y = b .at q l in
+          record { used = x .used ∙ y .used; kind = x .kind ∙ y .kind; row = λ u. x .row u ∙ y .row (sym (x .used) ∙ u) };
+    }
+
+-- some places, and those behind them
+pub alike-join : {f g : Filed} {i j a m i′ j′ : ℕ} → Alike f i g j a → Alike f i′ g j′ m → i + a ≡ i′ → j + a ≡ j′ → Alike f i g j (a + m)
+alike-join {f} {g} {i} {j} {a} {m} {i′} {j′} x y ei ej = record { at = λ k h. go k h (decLt k a) }
+  where
+    go : (k : ℕ) → k < a + m → Dec (k < a) → Same f (i + k) g (j + k)
+    go k h (yes l) = x .at k l
+    go k h (no l) =
+        let p : i′ + (k - a) ≡ i + k = omega arith in
+        let q : j′ + (k - a) ≡ j + k = omega arith in
+        rw (p, q) at (y .at (k - a) (omega arith))
+
+record-same : {f g : Filed} {i j : ℕ} → Same f i g j → recordOn f i ≡ recordOn g j
+unfolding recordOn
+record-same {f} {g} {i} {j} s =
+    rw (← s .used, ← s .kind)
+    (either (λ x. x ≡ cond (f .used i) (recordOf (layout (f .kind i)) (g .row j)) (zeros 40)) (f .used i) (λ u. rw (u, s .row u)) (λ u. rw u))
 
 pub used-alike : (n : ℕ) {f g : Filed} {i j : ℕ} → Alike f i g j n → usedFrom f i n ≡ usedFrom g j n
 unfolding usedFrom
 used-alike zero a = refl
 used-alike (suc n) {f} {g} {i} {j} a =
-    let here : f .used i ≡ g .used j = rw (add-zero i, add-zero j) at (a .used 0 (omega arith)) in
-    let more = used-alike n (alike-part a 1 n {i′ = suc i} {j′ = suc j} (omega arith) (omega arith) (omega arith)) in
-    rw (here, more)
+    let here : f .used i ≡ g .used j = rw (add-zero i, add-zero j) at (a .at 0 (omega arith) .used) in
+    rw (here, used-alike n (alike-part a 1 n {i′ = suc i} {j′ = suc j} (omega arith) (omega arith) (omega arith)))
 
 -- the same number, of as many blocks
 pub block-alike : {f g : Filed} (ed b c start first n : ℕ) → Alike f (12 * b) g (12 * c) 12 → start + b ≡ first + c
     → blockOf ed f start n b ≡ blockOf ed g first n c
 unfolding bodyOf blockOf
 block-alike {f} {g} ed b c start first n a e =
-    let k : f .kind (12 * b) ≡ g .kind (12 * c) = rw (add-zero (12 * b), add-zero (12 * c)) at (a .kind 0 (omega arith)) in
-    rw (k, used-alike 12 a, e, turn-same (recordOn f) (recordOn g) (12 * b) (12 * c) 12 (record-alike a))
+    let k : f .kind (12 * b) ≡ g .kind (12 * c) = rw (add-zero (12 * b), add-zero (12 * c)) at (a .at 0 (omega arith) .kind) in
+    rw (k, used-alike 12 a, e, turn-same (recordOn f) (recordOn g) (12 * b) (12 * c) 12 (λ k h. record-same (a .at k h)))
 
 -- ---- records behind others
 
@@ -86,20 +99,19 @@ module _ (f g : Filed) where
   pub front-alike : Alike (behind f g) 0 f 0 (f .places)
   unfolding behind
   front-alike = record {
-    used = λ k h. rw (zero-add k, lt-ltb k (f .places) h);
-    kind = λ k h. rw (zero-add k, lt-ltb k (f .places) h);
-    row = λ k h u. rw (zero-add k, lt-ltb k (f .places) h);
+    at = λ k h.
+        let o = lt-ltb k (f .places) h in
+        record { used = rw (zero-add k, o); kind = rw (zero-add k, o); row = λ u. rw (zero-add k, o) };
   }
 
   pub back-alike : (n : ℕ) → Alike (behind f g) (f .places) g 0 n
   unfolding behind
-  back-alike n =
-      let o : (k : ℕ) → ltb (f .places + k) (f .places) ≡ false = λ k. le-ltb (f .places + k) (f .places) (omega arith) in
-      record {
-        used = λ k h. rw (o k, add-sub-cancel-left (f .places) k, zero-add k);
-        kind = λ k h. rw (o k, add-sub-cancel-left (f .places) k, zero-add k);
-        row = λ k h u. rw (o k, add-sub-cancel-left (f .places) k, zero-add k);
-      }
+  back-alike n = record {
+    at = λ k h.
+        let o = le-ltb (f .places + k) (f .places) (omega arith) in
+        let s : f .places + k - f .places ≡ 0 + k = omega arith in
+        record { used = rw (o, s); kind = rw (o, s); row = λ u. rw (o, s) };
+  }
 
   -- a and b blocks, of n in all
   pub blocks-behind : (ed a b start n : ℕ) → f .places ≡ 12 * a

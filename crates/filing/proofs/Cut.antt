@@ -2,14 +2,14 @@
 --     cut-at        the list of a kind is the part behind those before it; cut-long, as long as it is to be
 --     flat-cut      the parts one after the other are the area; cut-flat, lists laid one after the other and cut again
 --     total-next    the lengths added up, one more
-use Prim.Native.Nat.{ℕ, zero, suc, _+_, _-_, _*_, _^_, _≤_, _<_}
+use Prim.Native.Nat.{ℕ, zero, suc, _+_, _-_, _≤_, _<_}
 use mathlib.Core.Path.{_≡_, refl, sym, ap, ap₂, _∙_}
 use mathlib.Core.List.{List, [], _∷_, _++_, flatten, map}
 use native.Mathlib.Nat.{add-sub-cancel-left}
 use native.Mathlib.Numerals.{add-one}
 use native.Mathlib.Omega.{arith}
 use lib.ListN.{length, getD, take, drop, length-drop, length-append, take-append-drop}
-use lib.Seq.{length-take-le, take-all, drop-drop, take-at, drop-at}
+use lib.Seq.{length-take-le, drop-drop, take-at, drop-at}
 use Rattle.filing.specs.Lists.{Lists, cut, total}
 
 pub cut-length : (ns r : List ℕ) → length (cut ns r) ≡ length ns
@@ -43,15 +43,6 @@ unfolding total
 total-part ns zero = omega arith
 total-part [] (suc i) = omega arith
 total-part (n ∷ ns) (suc i) = omega (arith, total-part ns i)
-
-pub total-all : (ns : List ℕ) (i : ℕ) → length ns ≤ i → total (take i ns) ≡ total ns
-total-all ns i h = ap total (take-all i ns h)
-
--- each below 2 ^ 32
-pub total-small : (ns : List ℕ) → ((i : ℕ) → getD ns i 0 < 2 ^ 32) → total ns ≤ 4294967295 * length ns
-unfolding total
-total-small [] h = omega arith
-total-small (n ∷ ns) h = omega (arith, h 0, total-small ns (λ i. h (suc i)))
 
 -- ---- the parts
 

@@ -10,7 +10,7 @@ use lib.Seq.{sets, length-sets, drop-cons, drop-drop, getD-drop}
 use Rattle.form.specs.Bytes.{number}
 use Rattle.form.specs.Layout.{field, Layout, fieldAt, rowFrom}
 use Rattle.form.specs.declared.Field.{Field}
-use Rattle.form.proofs.Fields.{ends, ends-from, field-in}
+use Rattle.form.proofs.Fields.{ends, field-in}
 use Rattle.filing.specs.Written.{zeros, recordFrom}
 use Rattle.form.specs.Bytes.{littleEndian}
 use Rattle.filing.proofs.Stands.{length-le, length-zeros}
@@ -42,9 +42,6 @@ module _ {l : Layout} {s : List ℕ} {at : ℕ} where
   decoding-none h = record { within = omega arith; same = refl; left = h; whole = rw add-zero }
 
   module _ {room₀ : List ℕ} {to : ℕ} {room : List ℕ} {k i : ℕ} where
-    pub decoding-in : Decoding l s at room₀ to room k i → i < length l → k + fieldAt l i .zeros + fieldAt l i .width ≤ 40
-    decoding-in d h = field-in k i l h (d .left)
-
     pub decoding-more : {f : Field} {v : ℕ} → Decoding l s at room₀ to room k i → i < length l → f ≡ fieldAt l i → v ≡ number (f .width) s (at + (k + f .zeros))
         → Decoding l s at room₀ to (set room (to + i) v) (k + f .zeros + f .width) (i + 1)
     unfolding rowFrom ends
@@ -66,20 +63,15 @@ module _ {l : Layout} {s : List ℕ} {at : ℕ} where
 pub record Encoding (l : Layout) (r out₀ : List ℕ) (to : ℕ) (out : List ℕ) (k i : ℕ) : Type 0 where
   pub within : i ≤ length l
   pub same : length out ≡ length out₀
+  pub end : k ≤ 40
   pub left : ends k (drop i l) ≤ 40
   pub whole : sets out (to + k) (recordFrom k (drop i l) (drop i r)) ≡ sets out₀ to (recordFrom 0 l r)
 
 module _ {l : Layout} {r : List ℕ} where
   pub encoding-none : {out : List ℕ} {to : ℕ} → ends 0 l ≤ 40 → Encoding l r out to out 0 0
-  encoding-none h = record { within = omega arith; same = refl; left = h; whole = rw add-zero }
+  encoding-none h = record { within = omega arith; same = refl; end = omega arith; left = h; whole = rw add-zero }
 
   module _ {out₀ : List ℕ} {to : ℕ} {out : List ℕ} {k i : ℕ} where
-    pub encoding-in : Encoding l r out₀ to out k i → i < length l → k + fieldAt l i .zeros + fieldAt l i .width ≤ 40
-    encoding-in d h = field-in k i l h (d .left)
-
-    pub encoding-end : Encoding l r out₀ to out k i → k ≤ 40
-    encoding-end d = omega (arith, d .left, ends-from k (drop i l))
-
     pub encoding-more : {f : Field} {v : ℕ} {out₁ out₂ : List ℕ} → Encoding l r out₀ to out k i → i < length l → f ≡ fieldAt l i → v ≡ getD r i 0
         → out₁ ≡ sets out (to + k) (zeros (f .zeros)) → out₂ ≡ sets out₁ (to + k + f .zeros) (littleEndian (f .width) v)
         → Encoding l r out₀ to out₂ (k + f .zeros + f .width) (i + 1)
@@ -95,6 +87,7 @@ module _ {l : Layout} {r : List ℕ} where
         record {
           within = omega arith;
           same = rw (e₂, length-sets, e₁, length-sets) (d .same);
+          end = rw e (field-in k i l h (d .left));
           left = rw (add-one i, e) (rw (drop-cons l i (field 0 0 0) h) at (d .left));
           whole = rw (add-one i, p, e₂, e₁) (rw (sets-append, length-zeros z, sets-append, length-le w v) at all);
         }

@@ -1,3 +1,4 @@
+pub mod Choice
 pub mod Stands
 pub mod Stores
 pub mod Fields

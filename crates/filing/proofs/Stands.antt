@@ -3,15 +3,14 @@
 --     number-read, zeros-read, record-read      what stands as it is written is read as it was given
 --     number-stands, zeros-stand, record-stands    what is read stands as it would be written
 use Prim.Native.Nat.{ℕ, zero, suc, _+_, _-_, _*_, _/_, _%_, _^_, _<_, _≤_}
-use mathlib.Core.Path.{_≡_, refl, sym, ap, ap₂, subst, _∙_}
-use mathlib.Core.Bool.{Bool, false}
+use mathlib.Core.Path.{_≡_, refl, sym, ap, ap₂, _∙_}
+use mathlib.Core.Bool.{false}
 use mathlib.Core.List.{List, [], _∷_, _++_, append-assoc, append-nil}
-use native.Mathlib.Nat.{add-zero, pow-suc, not-suc-le-zero, zero-lt-suc}
+use native.Mathlib.Nat.{add-zero, pow-suc}
 use native.Mathlib.Omega.{arith}
-use lib.ListN.{length, getD, drop, length-append, length-replicate, getD-replicate, List·getD-append}
-use lib.Seq.{drop-cons, drop-drop, drop-at, getD-drop}
+use lib.ListN.{length, getD, take, drop, length-append, length-drop, length-replicate, getD-replicate, take-append-drop, List·getD-append}
+use lib.Seq.{length-take-le, take-all, take-at, drop-cons, drop-drop, drop-at, getD-take, getD-drop, ext-getD}
 use borrow.Author.Tests.{eqb-true, eq-eqb, not-false}
-use Rattle.form.specs.First.{any}
 use Rattle.form.specs.Bytes.{byteAt, number, strayIn}
 use Rattle.form.specs.Layout.{Layout, rowFrom, strayFrom}
 use Rattle.form.proofs.Fields.{ends, ends-from}
@@ -51,40 +50,25 @@ module _ {s : List ℕ} {p : ℕ} where
 
 -- what stands in front and is as long as the whole is the whole
 pub stands-all : (s x : List ℕ) → length s ≡ length x → Stands s 0 x → s ≡ x
-stands-all s x e h = h .is ∙ none (h .rest) (omega (arith, ap length (h .is), length-append x (h .rest)))
-  where
-    none : (t : List ℕ) → length t ≡ 0 → x ++ t ≡ x
-    none [] l = append-nil x
-    none (y ∷ t) l = absurd (not-suc-le-zero (subst (λ (n : ℕ). 0 < n) l (zero-lt-suc (length t))))
+stands-all s x e h = sym (take-all (length x) s (omega arith)) ∙ ap (take (length x)) (h .is) ∙ take-at x (h .rest) (length x) refl
 
 pub stands-each : (s : List ℕ) (p : ℕ) (x : List ℕ) → p + length x ≤ length s → ((i : ℕ) → i < length x → byteAt s (p + i) ≡ getD x i 0) → Stands s p x
-stands-each s p [] l h = record { rest = drop p s; is = refl }
-stands-each s p (b ∷ x) l h =
-    let first : Stands s p (b ∷ []) =
-    record {
-      rest = drop (suc p) s;
-      is = drop-cons s p 0 (omega arith) ∙ ap (λ (y : ℕ). y ∷ drop (suc p) s) (rw (add-zero p) at (h 0 (omega arith)));
-    } in
-    stands-join (b ∷ []) x {q = p + 1} refl first
-    (stands-each s (p + 1) x (omega arith)
-    (λ i m. let e : p + 1 + i ≡ p + suc i = omega arith in rw e (h (suc i) (omega arith))))
+stands-each s p x l h =
+    let n = length x in
+    let long : length (take n (drop p s)) ≡ n = length-take-le n (drop p s) (rw length-drop (omega arith)) in
+    let same = ext-getD 0 (take n (drop p s)) x long (λ i m. getD-take n (drop p s) i 0 (rw long at m) ∙ getD-drop p s i 0 ∙ h i (rw long at m)) in
+    record { rest = drop n (drop p s); is = sym (take-append-drop n (drop p s)) ∙ ap (λ (y : List ℕ). y ++ drop n (drop p s)) same }
 
 -- ---- a number
 
 -- each element is a byte
 abbrev pub Bytes : List ℕ → Type 0
-Bytes s = (i : ℕ) → byteAt s i < 256
+Bytes s = (i : ℕ) → i < length s → byteAt s i < 256
 
 pub length-le : (w v : ℕ) → length (littleEndian w v) ≡ w
 unfolding littleEndian
 length-le zero v = refl
 length-le (suc w) v = ap suc (length-le w (v / 256))
-
-pub le-four : (v : ℕ) → littleEndian 4 v ≡ littleEndian 2 v ++ littleEndian 2 (v / 65536)
-unfolding littleEndian
-le-four v =
-    let e : v / 256 / 256 ≡ v / 65536 = omega arith in
-    rw e
 
 pub number-read : (w : ℕ) {v : ℕ} (s : List ℕ) (p : ℕ) → v < 256 ^ w → Stands s p (littleEndian w v) → number w s p ≡ v
 unfolding number littleEndian
@@ -100,7 +84,7 @@ unfolding number littleEndian
 number-stands zero s p b l = record { rest = drop p s; is = refl }
 number-stands (suc w) s p b l =
     let n : ℕ = number w s (p + 1) in
-    let byte = b p in
+    let byte = b p (omega arith) in
     let low : (byteAt s p + 256 * n) % 256 ≡ byteAt s p = omega arith in
     let high : (byteAt s p + 256 * n) / 256 ≡ n = omega arith in
     rw (low, high)

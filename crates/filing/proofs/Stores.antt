@@ -1,15 +1,13 @@
 -- Lent memory, stored to part by part. Assumes nothing.
 --     sets-append, sets-then    one part stored behind another
 --     sets-front    what is stored at the front; sets-read    what was stored, read again
---     Clearing    zeros, one after the other
---     Filling     parts of one length, each a function of its number, one after the other
+--     Filling     parts, each a function of its number, one after the other, as a loop stores them
 use Prim.Native.Nat.{ℕ, zero, suc, _+_, _-_, _*_, _≤_, _<_}
 use mathlib.Core.Path.{_≡_, refl, sym, _∙_}
 use mathlib.Core.List.{List, [], _∷_, _++_, append-assoc}
-use native.Mathlib.Nat.{add-zero, add-suc, suc-add, mul-suc, mul-zero, mul-le-mul-left}
-use native.Mathlib.Numerals.{add-one}
+use native.Mathlib.Nat.{add-zero, add-suc, suc-add, mul-suc, mul-zero}
 use native.Mathlib.Omega.{arith}
-use lib.ListN.{length, take, drop, set, length-append, length-set}
+use lib.ListN.{length, take, drop, set, length-append}
 use lib.Seq.{sets, sets-eq, length-sets, length-take-le, drop-at, take-at}
 use Rattle.filing.specs.Written.{zeros, inTurn}
 
@@ -33,70 +31,38 @@ sets-read d to x {n} e h =
     let s : sets d to x ≡ take to d ++ (x ++ rest) = sets-eq x d to (omega arith) ∙ append-assoc (take to d) x rest in
     rw (s, drop-at (take to d) (x ++ rest) to t, take-at x rest n e)
 
--- ---- zeros
-
-pub record Clearing (d₀ : List ℕ) (at n : ℕ) (d : List ℕ) (i : ℕ) : Type 0 where
-  pub within : i ≤ n
-  pub same : length d ≡ length d₀
-  pub whole : sets d (at + i) (zeros (n - i)) ≡ sets d₀ at (zeros n)
-
-pub clearing-none : {d : List ℕ} {at n : ℕ} → Clearing d at n d 0
-clearing-none {d} {at} {n} =
-    let z : n - 0 ≡ n = omega arith in
-    record { within = omega arith; same = refl; whole = rw (z, add-zero at) }
-
-pub clearing-more : {d₀ : List ℕ} {at n : ℕ} {d : List ℕ} {i : ℕ} → Clearing d₀ at n d i → i < n → Clearing d₀ at n (set d (at + i) 0) (i + 1)
-clearing-more {d₀} {at} {n} {d} {i} c h =
-    let m : n - i ≡ suc (n - (i + 1)) = omega arith in
-    let p : at + (i + 1) ≡ suc (at + i) = omega arith in
-    record { within = omega arith; same = length-set d (at + i) 0 ∙ c .same; whole = rw p (rw m at (c .whole)) }
-
-pub clearing-all : {d₀ : List ℕ} {at n : ℕ} {d : List ℕ} {i : ℕ} → Clearing d₀ at n d i → n ≤ i → d ≡ sets d₀ at (zeros n)
-clearing-all {d₀} {at} {n} {d} {i} c h =
-    let m : n - i ≡ 0 = omega arith in
-    rw m at (c .whole)
-
--- ---- parts of w each
+-- ---- parts, one after the other
 
 pub length-turns : (f : ℕ → List ℕ) (w : ℕ) → ((k : ℕ) → length (f k) ≡ w) → (i n : ℕ) → length (inTurn f i n) ≡ w * n
 unfolding inTurn
 length-turns f w e i zero = rw (mul-zero w)
 length-turns f w e i (suc n) = simp (length-append, e i, length-turns f w e (suc i) n, mul-suc) (omega arith)
 
-pub record Filling (f : ℕ → List ℕ) (w first count : ℕ) (d₀ : List ℕ) (to₀ : ℕ) (d : List ℕ) (to k : ℕ) : Type 0 where
+-- n zeros are n parts
+pub zeros-turn : (i n : ℕ) → inTurn (λ k. 0 ∷ []) i n ≡ zeros n
+unfolding inTurn
+zeros-turn i zero = refl
+zeros-turn i (suc n) = rw (zeros-turn (suc i) n)
+
+-- the first k of `count` parts of f stand from to₀ on, and the next goes to `to`
+pub record Filling (f : ℕ → List ℕ) (first count : ℕ) (d₀ : List ℕ) (to₀ : ℕ) (d : List ℕ) (to k : ℕ) : Type 0 where
   pub within : k ≤ count
   pub same : length d ≡ length d₀
-  pub place : to ≡ to₀ + w * k
   pub whole : sets d to (inTurn f (first + k) (count - k)) ≡ sets d₀ to₀ (inTurn f first count)
 
-module _ {f : ℕ → List ℕ} {w first count : ℕ} where
-  pub filling-none : {d : List ℕ} {to : ℕ} → Filling f w first count d to d to 0
-  filling-none {d} {to} =
-      let z : count - 0 ≡ count = omega arith in
-      record { within = omega arith; same = refl; place = omega (arith, mul-zero w); whole = rw (z, add-zero first) }
+module _ {f : ℕ → List ℕ} {first count : ℕ} where
+  pub filling-none : {d : List ℕ} {to : ℕ} → Filling f first count d to d to 0
+  filling-none = let z : count - 0 ≡ count = omega arith in record { within = omega arith; same = refl; whole = rw (z, add-zero first) }
 
   module _ {d₀ : List ℕ} {to₀ : ℕ} {d : List ℕ} {to k : ℕ} where
-    -- the part has its place in the whole
-    pub filling-in : Filling f w first count d₀ to₀ d to k → k < count → to + w ≤ to₀ + w * count
-    filling-in r h = omega (arith, mul-le-mul-left {m = suc k} {n = count} w h, mul-suc w k)
-
-    pub filling-more : {d₁ : List ℕ} {to₁ : ℕ} → Filling f w first count d₀ to₀ d to k → k < count
-        → length (f (first + k)) ≡ w → d₁ ≡ sets d to (f (first + k)) → to₁ ≡ to + w
-        → Filling f w first count d₀ to₀ d₁ to₁ (k + 1)
+    pub filling-more : {d₁ : List ℕ} {to₁ : ℕ} → Filling f first count d₀ to₀ d to k → k < count
+        → d₁ ≡ sets d to (f (first + k)) → to₁ ≡ to + length (f (first + k)) → Filling f first count d₀ to₀ d₁ to₁ (k + 1)
     unfolding inTurn
-    filling-more r h l e t =
+    filling-more r h e t =
         let c : count - k ≡ suc (count - (k + 1)) = omega arith in
         let n : first + (k + 1) ≡ suc (first + k) = omega arith in
-        let m : w * (k + 1) ≡ w * k + w = rw (add-one k) (mul-suc w k) in
-        record {
-          within = omega arith;
-          same = rw (e, length-sets) (r .same);
-          place = omega arith;
-          whole = rw (e, t, n, ← l) (rw (c, sets-append) at (r .whole));
-        }
+        record { within = omega arith; same = rw (e, length-sets) (r .same); whole = rw (e, t, n) (rw (c, sets-append) at (r .whole)) }
 
-    pub filling-all : Filling f w first count d₀ to₀ d to k → count ≤ k → d ≡ sets d₀ to₀ (inTurn f first count)
+    pub filling-all : Filling f first count d₀ to₀ d to k → count ≤ k → d ≡ sets d₀ to₀ (inTurn f first count)
     unfolding inTurn
-    filling-all r h =
-        let n : count - k ≡ 0 = omega arith in
-        rw n at (r .whole)
+    filling-all r h = let n : count - k ≡ 0 = omega arith in rw n at (r .whole)

@@ -2,51 +2,37 @@
 --     accepted-counts    the counts are the sums of the kinds' counts; counted, kind by kind
 --     whole-blocks       one block or more, not more than a return can have, and no byte more
 --     few-rows           at most 32 rows of a kind; one-row, one parameter row
---     blocks-are         the blocks of the kinds are all; first-block, a kind's first, by the counts
+--     first-block        a kind's first block, by the counts
 --     rows-are           the rows of a kind stand one after the other from the place that the counts give; row-is, each by its bytes; inside, in the bytes
 --     row-kept           every rule of one row: within, 6 (limit-of, a field of a row); spent, shrunk, 7 and 8 of a conversion row
-use Prim.Native.Nat.{ℕ, zero, suc, _+_, _-_, _*_, _/_, _%_, _<_, _≤_, min}
-use mathlib.Core.Path.{_≡_, refl, sym, ap, ap₂, subst, _∙_}
-use mathlib.Core.Bool.{Bool, true, false, not, _&&_, _||_, true≢false}
+use Prim.Native.Nat.{ℕ, zero, suc, _+_, _-_, _*_, _/_, _%_, _<_, _≤_}
+use mathlib.Core.Path.{_≡_, refl, sym, ap, ap₂, _∙_}
+use mathlib.Core.Bool.{false, not}
 use mathlib.Core.List.{List, [], _∷_, _++_}
 use native.Mathlib.Decide.{decLt}
+use native.Mathlib.Numerals.{one-add}
 use native.Mathlib.Omega.{arith}
-use borrow.Author.Tests.{lt-ltb, eq-eqb, ltb-false, eqb-false, eqb-true, not-false}
+use borrow.Author.Tests.{lt-ltb, ltb-false, eqb-false}
 use lib.ListN.{length, getD, drop, List·getD-eq-default}
 use lib.Seq.{getD-drop}
 use lib.Dec.{ltb, eqb}
-use Rattle.form.specs.Ruling.{Rule, ruling}
+use Rattle.form.specs.Ruling.{Rule, rule, ruling}
 use Rattle.form.specs.Layout.{Field, Layout, kinds, parametersKind, layout, rowAt, aboveLimit}
-use Rattle.form.specs.Block.{mostBlocks, longest, blocks, kindOf, countOf, edition, recordAt, blocksBelow, badLength}
-use Rattle.form.specs.Records.{Filed, filed, RowTest, RowRule, rowRules, brokenBy, overPlaces, recordRules, overspent, grown}
-use Rattle.form.specs.Verdict.{blockRules, rules, rowCount, rows, countsOf, countList, countIn, verdictBy, verdictOf}
+use Rattle.form.specs.Block.{mostBlocks, longest, blocks, edition, recordAt, badLength}
+use Rattle.form.specs.Records.{filed, RowTest, RowRule, rowRules, badId, brokenBy, overPlaces, recordRules, overspent, grown}
+use Rattle.form.specs.Verdict.{blockRules, rules, rowCount, rows, countsOf, countList, countIn, verdictOf}
 use Rattle.form.specs.Standing.{blocksFor, startBlock, firstBlock, startPlace, rowsFrom}
 use Rattle.form.specs.declared.Counts.{Counts}
-use Rattle.form.specs.declared.Ruling.{Ruling}
-use Rattle.form.specs.declared.Ruling.the-variants.{Clean, Broken}
-use Rattle.form.specs.declared.Verdict.{Verdict}
-use Rattle.form.specs.declared.Verdict.the-variants.{Accepted, Refused}
-use Rattle.form.proofs.Tests.{and-rest, or-none}
+use Rattle.form.specs.declared.Ruling.the-variants.{Clean}
+use Rattle.form.specs.declared.Verdict.the-variants.{Accepted}
+use Rattle.form.proofs.Tests.{and-rest, or-none, all-fail, same-of}
 use Rattle.form.proofs.Order.{AllKept, Kept, none, more, ruling-clean}
-use Rattle.form.proofs.Places.{rowIn, broken-at}
+use Rattle.form.proofs.Places.{broken-at}
 use Rattle.form.proofs.EachKind.{one-kind}
-use Rattle.form.proofs.Stand.{Ordered, ordered, needed, none-inner, kind-blocks, start-all, start-le, at-start, kind-in, count-in}
+use Rattle.form.proofs.Meaning.{clean-of}
+use Rattle.form.proofs.Lengths.{length-kept}
+use Rattle.form.proofs.Stand.{Ordered, ordered, needed, Lies, lying, only-row}
 use Rattle.form.proofs.StandRows.{from-at, from-length, row-at, rows-stand}
-
--- where row i of a kind stands
-pub record Lies (s : List ℕ) (k i : ℕ) : Type 0 where
-  pub below : startBlock k s + i / 12 < blocks s
-  pub kind : kindOf s (startBlock k s + i / 12) ≡ k
-  pub used : i % 12 < countOf s (startBlock k s + i / 12)
-
-next-start : (s : List ℕ) (k : ℕ) → startBlock (suc (suc k)) s ≡ startBlock (suc k) s + blocksFor (rowCount (suc k) s)
-unfolding startBlock
-next-start s k = refl
-
--- an accepted verdict comes of a clean ruling, and has the counts
-clean-of : (s : List ℕ) (u : Ruling) (c : Counts) → verdictBy s u ≡ Accepted c → (u ≡ Clean) × (countsOf s ≡ c)
-clean-of s Clean c e = (refl, cc)
-clean-of s (Broken n p) c e = let z : _≡_ {A = ℕ} 0 1 = cc in absurd (omega arith)
 
 append-kept : (xs ys : List Rule) → AllKept (xs ++ ys) → AllKept xs × AllKept ys
 append-kept [] ys a = (none, a)
@@ -59,8 +45,7 @@ limit-of [] r i f h e = absurd (omega arith)
 limit-of (x ∷ l) r zero f h e = ltb-false (x .limit) (getD r 0 0) (or-none _ (aboveLimit l (drop 1 r)) e .0)
 limit-of (x ∷ l) r (suc i) f h e =
     let g = limit-of l (drop 1 r) i f (omega arith) (or-none (ltb (x .limit) (getD r 0 0)) (aboveLimit l (drop 1 r)) e .1) in
-    let q : 1 + i ≡ suc i = omega arith in
-    subst (λ (y : ℕ). y ≤ getD l i f .limit) (getD-drop 1 r i 0 ∙ ap (λ (y : ℕ). getD r y 0) q) g
+    rw (getD-drop 1 r i 0, one-add i) at g
 
 -- f i, f (i + 1) and so on, n of them
 unfoldable pub eachFrom : (ℕ → ℕ) → ℕ → ℕ → List ℕ
@@ -88,7 +73,7 @@ RowKept [] e k r = Unit {0}
 RowKept (q ∷ qs) e k r = (q .breaks e k r ≡ false) × RowKept qs e k r
 
 module _ (s : List ℕ) (c : Counts) (acc : verdictOf s ≡ Accepted c) where
-  clean : (ruling (rules s) ≡ Clean) × (countsOf s ≡ c)
+  clean : (ruling (rules s) ≡ Clean) × (c ≡ countsOf s)
   unfolding verdictOf
   clean = clean-of s (ruling (rules s)) c acc
 
@@ -96,15 +81,14 @@ module _ (s : List ℕ) (c : Counts) (acc : verdictOf s ≡ Accepted c) where
   accepted-ruling = clean .0
 
   pub accepted-counts : c ≡ countsOf s
-  accepted-counts = sym (clean .1)
+  accepted-counts = clean .1
 
   -- the count of each kind
   pub counted : (k : ℕ) → k < kinds → countIn c (suc k) ≡ rowCount (suc k) s
   counted k h =
       ap (λ (x : Counts). countIn x (suc k)) accepted-counts
       ∙ ap (λ (x : List ℕ). getD x k 0) (counts-listed s)
-      ∙ each-at (λ x. rowCount x s) kinds 1 k h
-      ∙ ap (λ (x : ℕ). rowCount x s) (let e : 1 + k ≡ suc k = omega arith in e)
+      ∙ rw (one-add k) at (each-at (λ x. rowCount x s) kinds 1 k h)
 
   kept : AllKept (blockRules s) × AllKept (recordRules (edition s 0) (filed s))
   kept = append-kept (blockRules s) (recordRules (edition s 0) (filed s)) (ruling-clean (clean .0))
@@ -112,28 +96,15 @@ module _ (s : List ℕ) (c : Counts) (acc : verdictOf s ≡ Accepted c) where
   pub in-order : Ordered s (blocks s)
   in-order = ordered s (kept .0)
 
-  length-rule : badLength s ≡ false
-  unfolding blockRules Kept
-  length-rule = elim-first (kept .0)
-    where
-      elim-first : AllKept (blockRules s) → badLength s ≡ false
-      elim-first (more h a) = h 0 (omega arith)
-
   pub whole-blocks : (1 ≤ blocks s) × (blocks s ≤ mostBlocks) × (length s ≡ 512 * blocks s)
   unfolding badLength
   whole-blocks =
-      let f = or-none (eqb (length s) 0 || ltb longest (length s)) _ length-rule in
-      let g = or-none (eqb (length s) 0) _ (f .0) in
-      let z : length s ≡ 0 → ⊥ = eqb-false (length s) 0 (g .0) in
-      let h = ltb-false longest (length s) (g .1) in
-      let m = eqb-true (length s % 512) 0 (not-false _ (f .1)) in
-      (omega arith, omega arith, omega arith)
+      let f = all-fail (eqb (length s) 0) (ltb longest (length s) ∷ not (eqb (length s % 512) 0) ∷ []) (length-kept s (kept .0)) in
+      let z : length s ≡ 0 → ⊥ = eqb-false (length s) 0 (f .0) in
+      omega (arith, ltb-false, same-of)
 
   pub few-rows : (k : ℕ) → rowCount k s ≤ 32
-  few-rows k = needed s (blocks s) in-order k (blocks s) (omega arith) .rows
-
-  pub blocks-are : blocks s ≡ startBlock (suc kinds) s
-  blocks-are = sym (start-all s in-order)
+  few-rows k = needed s in-order k (blocks s) (omega arith) .rows
 
   -- a kind's first block, by the counts
   pub first-block : (k : ℕ) → k ≤ suc kinds → firstBlock k c ≡ startBlock k s
@@ -157,67 +128,34 @@ module _ (s : List ℕ) (c : Counts) (acc : verdictOf s ≡ Accepted c) where
   pub rows-length : (k : ℕ) → length (rows k s) ≡ rowCount k s
   rows-length k = ap length (rows-are k) ∙ from-length (filed s) (startPlace k s) (rowCount k s)
 
-  lies-next : (k i : ℕ) → k < kinds → i < rowCount (suc k) s → Lies s (suc k) i
-  lies-next k i h l =
-      let more : startBlock (suc (suc k)) s ≡ startBlock (suc k) s + blocksFor (rowCount (suc k) s) = next-start s k in
-      let b : startBlock (suc k) s + i / 12 < startBlock (suc (suc k)) s = omega arith in
-      let n : startBlock (suc k) s + i / 12 < blocks s = omega (arith, start-le s in-order (suc (suc k)) (suc kinds) (omega arith), start-all s in-order) in
-      let e : kindOf s (startBlock (suc k) s + i / 12) ≡ suc k = kind-in s in-order k (startBlock (suc k) s + i / 12) (omega arith) b h in
-      let p = at-start s in-order (suc k) (startBlock (suc k) s + i / 12) n e in
-      let q = count-in s in-order (suc k) (startBlock (suc k) s + i / 12) n e in
-      record { below = n; kind = e; used = omega arith }
-
-  -- row i of a kind stands in one of the kind's blocks, in a used record
   pub lies : (k i : ℕ) → 1 ≤ k → k ≤ kinds → i < rowCount k s → Lies s k i
-  lies zero i lo hi l = absurd (omega arith)
-  lies (suc k) i lo hi l = lies-next k i hi l
+  lies k i lo hi l = lying s in-order k i l
 
   pub one-row : rowCount parametersKind s ≡ 1
   one-row =
       let w = whole-blocks in
-      let e : blocks s ≡ suc (blocks s - 1) = omega arith in
-      let k = in-order .ends (blocks s - 1) (sym e) in
-      let q = count-in s in-order parametersKind (blocks s - 1) (omega arith) k in
-      let o = in-order .one (blocks s - 1) (omega arith) k in
-      let z = none-inner s (blocks s) in-order (blocks s - 1) (omega arith) in
-      omega arith
+      let l : blocks s - 1 < blocks s = omega arith in
+      only-row s in-order (blocks s - 1) l (in-order (blocks s - 1) l .ends (omega arith))
 
   module _ (k i : ℕ) (lo : 1 ≤ k) (hi : k ≤ kinds) (l : i < rowCount k s) where
-    position : 12 * startBlock k s + i ≡ 12 * (startBlock k s + i / 12) + i % 12
-    position = omega arith
-
     -- by its bytes
     pub row-is : getD (rows k s) i [] ≡ rowAt (layout k) s (recordAt (startBlock k s + i / 12) (i % 12))
     row-is =
-        ap (λ (x : List (List ℕ)). getD x i []) (rows-are k)
-        ∙ from-at (filed s) (startPlace k s) (rowCount k s) i l
-        ∙ ap (filed s .row) position
-        ∙ row-at s (startBlock k s + i / 12) (i % 12) (omega arith)
-        ∙ ap (λ (x : ℕ). rowAt (layout x) s (recordAt (startBlock k s + i / 12) (i % 12))) (lies k i lo hi l .kind)
+        let position : 12 * startBlock k s + i ≡ 12 * (startBlock k s + i / 12) + i % 12 = omega arith in
+        rw (rows-are k, from-at (filed s) (startPlace k s) (rowCount k s) i l, position)
+        (row-at s (startBlock k s + i / 12) (i % 12) (omega arith) ∙ rw (lying s in-order k i l .kind))
 
     -- its forty bytes are there
     pub inside : recordAt (startBlock k s + i / 12) (i % 12) + 40 ≤ length s
-    inside = let w = whole-blocks in let p = lies k i lo hi l .below in omega arith
-
-    used : ltb (i % 12) (countOf s (startBlock k s + i / 12)) ≡ true
-    used = lt-ltb _ _ (lies k i lo hi l .used)
-
-    -- where a test of the row's kind and bytes fails, it fails of the row
-    moved : (t : RowTest) → t (edition s 0) (kindOf s (startBlock k s + i / 12)) (rowIn s (startBlock k s + i / 12) (i % 12)) ≡ false
-        → t (edition s 0) k (getD (rows k s) i []) ≡ false
-    moved t e =
-        ap (t (edition s 0) k) row-is
-        ∙ ap (λ (x : ℕ). t (edition s 0) x (rowAt (layout x) s (recordAt (startBlock k s + i / 12) (i % 12)))) (sym (lies k i lo hi l .kind))
-        ∙ e
+    inside = let w = whole-blocks in let p = lying s in-order k i l .below in omega arith
 
     -- a rule of one row that is kept at every place is kept by the row
     row-rule : (t : RowTest) → ((j : ℕ) → j < 12 * blocks s → brokenBy (filed s) (edition s 0) t j ≡ false) → t (edition s 0) k (getD (rows k s) i []) ≡ false
     row-rule t h =
-        let p = lies k i lo hi l in
+        let p = lying s in-order k i l in
         let b = startBlock k s + i / 12 in
-        let r : i % 12 < 12 = omega arith in
-        let j : 12 * b + i % 12 < 12 * blocks s = omega arith in
-        moved t (and-rest _ _ used (sym (broken-at s b (i % 12) r (edition s 0) t) ∙ h (12 * b + i % 12) j))
+        let f = and-rest _ _ (lt-ltb _ _ (p .used)) (sym (broken-at s b (i % 12) (omega arith) (edition s 0) t) ∙ h (12 * b + i % 12) (omega arith)) in
+        rw row-is (rw (p .kind) at f)
 
     rows-kept : (qs : List RowRule) → AllKept (overPlaces (edition s 0) (filed s) qs) → RowKept qs (edition s 0) k (getD (rows k s) i [])
     unfolding Kept
@@ -226,10 +164,7 @@ module _ (s : List ℕ) (c : Counts) (acc : verdictOf s ≡ Accepted c) where
 
     -- every rule of one row
     pub row-kept : RowKept rowRules (edition s 0) k (getD (rows k s) i [])
-    row-kept = go (kept .1)
-      where
-        go : AllKept (recordRules (edition s 0) (filed s)) → RowKept rowRules (edition s 0) k (getD (rows k s) i [])
-        go (more h a) = rows-kept rowRules a
+    row-kept = rows-kept rowRules (append-kept (rule 5 (12 * blocks s) (badId (filed s)) ∷ []) _ (kept .1) .1)
 
     pub within : aboveLimit (layout k) (getD (rows k s) i []) ≡ false
     within = row-kept .0

@@ -1,17 +1,16 @@
 -- The kinds and the editions: what is computed of their tables, once for all entries. Assumes nothing.
 --     kinds-are       how many kinds there are, as the code counts them; few-kinds, not many
 --     each-layout     a test of layouts that the checker computes for each kind
---     last-kinds      no edition allows more kinds than there are; known-editions, the editions there are
+--     last-kinds      no edition allows more kinds than there are; no-edition, known-edition, which editions there are
 use Prim.Native.Nat.{ℕ, zero, suc, _≤_, _<_}
 use mathlib.Core.Path.{_≡_, refl}
-use mathlib.Core.Bool.{Bool, true, false, _&&_}
+use mathlib.Core.Bool.{Bool, true, _&&_}
 use mathlib.Core.List.{List, [], _∷_}
 use native.Mathlib.Omega.{arith}
-use lib.Dec.{ltb, lit≤}
-use lib.ListN.{length, getD}
-use borrow.Author.Tests.{ltb-true}
+use lib.Dec.{lit≤}
+use lib.ListN.{getD}
 use Rattle.form.specs.Layout.{Layout, layouts, kinds, parametersKind, layout}
-use Rattle.form.specs.Edition.{lastKind, known}
+use Rattle.form.specs.Edition.{lastKind}
 use Rattle.form.proofs.Tests.{and-true}
 
 pub kinds-are : kinds ≡ 4
@@ -37,17 +36,7 @@ abbrev pub each : (Layout → Bool) → List Layout → Bool
 each t [] = true
 each t (l ∷ ls) = t l && each t ls
 
-from-each : (t : Layout → Bool) (ls : List Layout) → each t ls ≡ true → (k : ℕ) → k < length ls → t (getD ls k []) ≡ true
-from-each t [] e k h = absurd (omega arith)
-from-each t (l ∷ ls) e zero h = and-true (t l) (each t ls) e .0
-from-each t (l ∷ ls) e (suc k) h = from-each t ls (and-true (t l) (each t ls) e .1) k (omega arith)
-
--- of each kind
-pub each-kind : (t : Layout → Bool) → each t layouts ≡ true → (k : ℕ) → k < kinds → t (layout (suc k)) ≡ true
-unfolding kinds
-each-kind t e k h = from-each t layouts e k h
-
--- and of every number, if of no fields too
+-- of every number, if of no fields too
 at-default : (t : Layout → Bool) (ls : List Layout) → each t ls ≡ true → t [] ≡ true → (k : ℕ) → t (getD ls k []) ≡ true
 at-default t [] e d k = d
 at-default t (l ∷ ls) e d zero = and-true (t l) (each t ls) e .0
@@ -76,8 +65,8 @@ no-edition zero h = refl
 no-edition (suc zero) h = absurd (h refl)
 no-edition (suc (suc e)) h = refl
 
-pub known-edition : (e : ℕ) → known e ≡ true → e ≡ 1
+pub known-edition : (e : ℕ) → 0 < lastKind e → e ≡ 1
 unfolding lastKind
-known-edition zero h = let z : 0 < 0 = ltb-true 0 0 h in absurd (omega arith)
+known-edition zero h = absurd (omega arith)
 known-edition (suc zero) h = refl
-known-edition (suc (suc e)) h = let z : 0 < 0 = ltb-true 0 0 h in absurd (omega arith)
+known-edition (suc (suc e)) h = absurd (omega arith)

@@ -2,10 +2,10 @@
 --     told               a function of a field's number is the layout's, by one test that the checker computes
 --     no-kind            a number that is no kind has no fields; few-numbers, kind-numbers, how many a kind has
 --     ends-40            every record ends in its 40 bytes; field-in, and so does each of its fields; field-readable, in 1, 2 or 4 bytes
---     Straying, Limiting    what is found so far of a record's zero bytes, and of its limits
-use Prim.Native.Nat.{ℕ, zero, suc, _+_, _-_, _≤_, _<_}
-use mathlib.Core.Path.{_≡_, refl, sym, ap, _∙_}
-use mathlib.Core.Bool.{Bool, true, false, not, _&&_, _||_, or-assoc, or-false}
+--     Looking            what a loop over the fields has found so far; straying, limiting, of a record's zero bytes, and of its limits
+use Prim.Native.Nat.{ℕ, zero, suc, _+_, _≤_, _<_}
+use mathlib.Core.Path.{_≡_, refl, ap, _∙_}
+use mathlib.Core.Bool.{Bool, true, false, not, _&&_, _||_, or-assoc}
 use mathlib.Core.List.{List, [], _∷_}
 use native.Mathlib.Numerals.{add-one}
 use native.Mathlib.Omega.{arith}
@@ -14,11 +14,10 @@ use lib.Dec.{ltb, leb, eqb}
 use lib.ListN.{length, drop, drop-of-length-le, List·getD-eq-default}
 use lib.Seq.{drop-cons}
 use Rattle.form.specs.First.{any}
-use Rattle.form.specs.Bytes.{number, strayIn}
-use Rattle.form.specs.Layout.{Field, field, Layout, layouts, kinds, layout, fieldAt, numbersOf, rowFrom, rowAt, strayFrom, strayAt, aboveLimit}
+use Rattle.form.specs.Layout.{Field, field, Layout, layouts, kinds, layout, fieldAt, numbersOf, rowFrom, strayFrom, aboveLimit}
 use Rattle.form.proofs.Tests.{and-true}
 use Rattle.form.proofs.Search.{any-each}
-use Rattle.form.proofs.EachKind.{each-layout, each-kind}
+use Rattle.form.proofs.EachKind.{each-layout}
 
 -- ---- by its number
 
@@ -58,7 +57,8 @@ pub few-numbers : (kind : ℕ) → numbersOf kind ≤ 16
 few-numbers kind = leb-true (numbersOf kind) 16 (each-layout (λ l. leb (length l) 16) refl refl kind)
 
 pub some-numbers : (k : ℕ) → k < kinds → 0 < numbersOf (suc k)
-some-numbers k h = ltb-true 0 (numbersOf (suc k)) (each-kind (λ l. ltb 0 (length l)) refl k h)
+unfolding any kinds
+some-numbers k h = ltb-true 0 (numbersOf (suc k)) (not-false _ (any-each (λ k. not (ltb 0 (numbersOf (suc k)))) kinds refl k h))
 
 pub kind-numbers : (kind : ℕ) → 0 < kind → kind ≤ kinds → 0 < numbersOf kind
 kind-numbers zero lo hi = absurd (omega arith)
@@ -114,63 +114,38 @@ pub field-readable : (kind i : ℕ) → i < numbersOf kind → Readable (fieldAt
 unfolding readable readableWidth
 field-readable kind i h = readable-at (layout kind) i h (each-layout readable refl refl kind)
 
--- ---- zero bytes: found among the first i fields, which end k bytes in
+-- ---- a loop over a record's fields: what a test of the fields from byte k on says is found among the first i, which end k bytes in
 
-pub record Straying (l : Layout) (s : List ℕ) (at : ℕ) (found : Bool) (k i : ℕ) : Type 0 where
+pub record Looking (g : ℕ → Layout → Bool) (l : Layout) (found : Bool) (k i : ℕ) : Type 0 where
   pub within : i ≤ length l
   pub left : ends k (drop i l) ≤ 40
-  pub whole : (found || strayFrom k (drop i l) s at) ≡ strayAt l s at
+  pub whole : (found || g k (drop i l)) ≡ g 0 l
 
-module _ {l : Layout} {s : List ℕ} {at : ℕ} where
-  pub straying-none : ends 0 l ≤ 40 → Straying l s at false 0 0
-  straying-none h = record { within = omega arith; left = h; whole = refl }
+module _ {g : ℕ → Layout → Bool} {l : Layout} where
+  pub looking-none : ends 0 l ≤ 40 → Looking g l false 0 0
+  looking-none h = record { within = omega arith; left = h; whole = refl }
 
-  module _ {found : Bool} {k i : ℕ} (d : Straying l s at found k i) where
-    pub straying-in : i < length l → k + fieldAt l i .zeros + fieldAt l i .width ≤ 40
-    straying-in h = field-in k i l h (d .left)
+  module _ {found : Bool} {k i : ℕ} (d : Looking g l found k i) where
+    pub looking-in : i < length l → k + fieldAt l i .zeros + fieldAt l i .width ≤ 40
+    looking-in h = field-in k i l h (d .left)
 
-    pub straying-end : k ≤ 40
-    straying-end = omega (arith, d .left, ends-from k (drop i l))
+    pub looking-end : k ≤ 40
+    looking-end = omega (arith, d .left, ends-from k (drop i l))
 
-    pub straying-more : {f : Field} {x : Bool} → i < length l → f ≡ fieldAt l i → x ≡ strayIn s (at + k) (f .zeros)
-        → Straying l s at (found || x) (k + f .zeros + f .width) (i + 1)
-    unfolding strayFrom ends
-    straying-more {f} {x} h e q =
-        record {
-          within = omega arith;
-          left = rw (add-one i, e) (rw (drop-cons l i (field 0 0 0) h) at (d .left));
-          whole = rw (add-one i, or-assoc, q, e) (rw (drop-cons l i (field 0 0 0) h) at (d .whole));
-        }
+    pub looking-more : {f : Field} (x : Bool) → i < length l → f ≡ fieldAt l i
+        → ((m : Layout) → g k (f ∷ m) ≡ (x || g (k + f .zeros + f .width) m)) → Looking g l (found || x) (k + f .zeros + f .width) (i + 1)
+    unfolding ends
+    looking-more {f} x h e q =
+        let c : drop i l ≡ f ∷ drop (i + 1) l = rw (add-one i, e) (drop-cons l i (field 0 0 0) h) in
+        record { within = omega arith; left = rw c at (d .left); whole = or-assoc found x _ ∙ rw (c, q (drop (i + 1) l)) at (d .whole) }
 
-    pub straying-all : {x : Bool} → length l ≤ i → x ≡ strayIn s (at + k) (40 - k) → (found || x) ≡ strayAt l s at
-    unfolding strayFrom
-    straying-all h q = rw q (rw (drop-of-length-le l h) at (d .whole))
+    pub looking-all : {x : Bool} → length l ≤ i → g k [] ≡ x → (found || x) ≡ g 0 l
+    looking-all h q = rw (drop-of-length-le l h, q) at (d .whole)
 
--- ---- limits: found among the first i fields, which end k bytes in
+-- for zero bytes
+abbrev pub straying : List ℕ → ℕ → ℕ → Layout → Bool
+straying s at k l = strayFrom k l s at
 
-pub record Limiting (l : Layout) (s : List ℕ) (at : ℕ) (found : Bool) (k i : ℕ) : Type 0 where
-  pub within : i ≤ length l
-  pub left : ends k (drop i l) ≤ 40
-  pub whole : (found || aboveLimit (drop i l) (rowFrom k (drop i l) s at)) ≡ aboveLimit l (rowAt l s at)
-
-module _ {l : Layout} {s : List ℕ} {at : ℕ} where
-  pub limiting-none : ends 0 l ≤ 40 → Limiting l s at false 0 0
-  limiting-none h = record { within = omega arith; left = h; whole = refl }
-
-  module _ {found : Bool} {k i : ℕ} (d : Limiting l s at found k i) where
-    pub limiting-in : i < length l → k + fieldAt l i .zeros + fieldAt l i .width ≤ 40
-    limiting-in h = field-in k i l h (d .left)
-
-    pub limiting-more : {f : Field} {v : ℕ} → i < length l → f ≡ fieldAt l i → v ≡ number (f .width) s (at + (k + f .zeros))
-        → Limiting l s at (found || ltb (f .limit) v) (k + f .zeros + f .width) (i + 1)
-    unfolding aboveLimit rowFrom ends
-    limiting-more {f} {v} h e q =
-        record {
-          within = omega arith;
-          left = rw (add-one i, e) (rw (drop-cons l i (field 0 0 0) h) at (d .left));
-          whole = rw (add-one i, or-assoc, q, e) (rw (drop-cons l i (field 0 0 0) h) at (d .whole));
-        }
-
-    pub limiting-all : length l ≤ i → found ≡ aboveLimit l (rowAt l s at)
-    unfolding aboveLimit
-    limiting-all h = sym (or-false found) ∙ rw (drop-of-length-le l h) at (d .whole)
+-- for a number above its limit
+abbrev pub limiting : List ℕ → ℕ → ℕ → Layout → Bool
+limiting s at k l = aboveLimit l (rowFrom k l s at)

@@ -1,37 +1,37 @@
 -- Laws of rule 1. Assumes nothing.
-use Prim.Native.Nat.{ℕ, _+_, _*_, _/_, _%_, _^_, _≤_, _<_}
-use mathlib.Core.Path.{_≡_, refl, sym, _∙_}
-use mathlib.Core.Bool.{false, _||_}
-use mathlib.Core.List.{List}
+use Prim.Native.Nat.{ℕ, _%_, _^_, _≤_, _<_}
+use mathlib.Core.Path.{_≡_, sym, _∙_}
+use mathlib.Core.Bool.{false, not}
+use mathlib.Core.List.{List, [], _∷_}
 use native.Mathlib.Omega.{arith}
-use borrow.Author.Tests.{ltb-false, eqb-false, eqb-true, not-false}
+use borrow.Author.Tests.{ltb-false}
 use lib.ListN.{length}
 use lib.Dec.{ltb, eqb}
 use Rattle.form.specs.Block.{longest, edition, badLength}
 use Rattle.form.specs.Ruling.{ruling}
 use Rattle.form.specs.Records.{filed, recordRules}
 use Rattle.form.specs.Verdict.{blockRules, rules}
-use Rattle.form.specs.declared.Ruling.the-variants.{Clean, Broken}
-use Rattle.form.proofs.Tests.{or-none}
+use Rattle.form.specs.declared.Ruling.the-variants.{Clean}
+use Rattle.form.proofs.Tests.{all-fail}
 use Rattle.form.proofs.EachKind.{few-kinds}
-use Rattle.form.proofs.Order.{AllKept, Kept, none, more, ruling-append, ruling-clean, or-clean}
+use Rattle.form.proofs.Order.{AllKept, Kept, more, ruling-append, ruling-clean, or-clean}
 
 -- a length that rule 1 lets pass
 pub few-blocks : (s : List ℕ) → badLength s ≡ false → length s ≤ longest
 unfolding badLength
-few-blocks s e = ltb-false longest (length s) (or-none (eqb (length s) 0) _ (or-none (eqb (length s) 0 || ltb longest (length s)) _ e .0) .1)
+few-blocks s e = ltb-false longest (length s) (all-fail (eqb (length s) 0) (ltb longest (length s) ∷ not (eqb (length s % 512) 0) ∷ []) e .1 .0)
 
 -- the first of some kept rules is kept
-first-kept : (s : List ℕ) → AllKept (blockRules s) → badLength s ≡ false
+pub length-kept : (s : List ℕ) → AllKept (blockRules s) → badLength s ≡ false
 unfolding blockRules Kept
-first-kept s (more h m) = h 0 (omega arith)
+length-kept s (more h m) = h 0 (omega arith)
 
 -- and so much that the code's counts have room for it
 pub short : (s : List ℕ) → badLength s ≡ false → length s < 2 ^ 24
 short s e = omega (arith, few-blocks s e, few-kinds)
 
 pub block-lengths : (s : List ℕ) → ruling (blockRules s) ≡ Clean → length s < 2 ^ 24
-block-lengths s e = short s (first-kept s (ruling-clean e))
+block-lengths s e = short s (length-kept s (ruling-clean e))
 
 -- where all rules are kept, those of the blocks are
 pub clean-length : (s : List ℕ) → ruling (rules s) ≡ Clean → length s < 2 ^ 24

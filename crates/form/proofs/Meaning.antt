@@ -1,16 +1,17 @@
 -- What a verdict says of the bytes, for all lists of bytes. Assumes nothing.
 --     refused     refused by number n at place p: rule n is broken there, at no lower place, and no earlier rule is broken anywhere; and only then
 --     accepted    no rule is broken anywhere; and only then
+--     clean-of    a verdict with counts comes of a clean ruling, and they are the return's
 --     small       a refusal's number and place are small
-use Prim.Native.Nat.{ℕ, zero, _*_, _<_, _≤_}
-use mathlib.Core.Path.{_≡_, refl, sym, ap, _∙_}
+use Prim.Native.Nat.{ℕ, _*_, _<_, _≤_}
+use mathlib.Core.Path.{_≡_, refl, ap}
 use mathlib.Core.Logic.{_↔_}
 use mathlib.Core.List.{List, [], _∷_}
 use native.Mathlib.Omega.{arith}
 use Rattle.form.specs.Ruling.{Rule, ruling}
-use Rattle.form.specs.Block.{mostBlocks, blocks, badLength}
-use Rattle.form.specs.Records.{filed, recordRules}
+use Rattle.form.specs.Block.{mostBlocks}
 use Rattle.form.specs.Verdict.{blockRules, rules, countsOf, verdictBy, verdictOf}
+use Rattle.form.specs.declared.Counts.{Counts}
 use Rattle.form.specs.declared.Ruling.{Ruling}
 use Rattle.form.specs.declared.Ruling.the-variants.{Clean, Broken}
 use Rattle.form.specs.declared.Verdict.the-variants.{Accepted, Refused}
@@ -19,14 +20,12 @@ use Rattle.form.proofs.Lengths.{few-blocks}
 
 broken-of : (s : List ℕ) (u : Ruling) (n p : ℕ) → verdictBy s u ≡ Refused n p → u ≡ Broken n p
 broken-of s Clean n p e = let z : _≡_ {A = ℕ} 0 1 = cc in absurd (omega arith)
-broken-of s (Broken m q) n p e =
-    let a : m ≡ n = cc in
-    let b : q ≡ p = cc in
-    cc
+broken-of s (Broken m q) n p e = cc
 
-clean-of : (s : List ℕ) (u : Ruling) → verdictBy s u ≡ Accepted (countsOf s) → u ≡ Clean
-clean-of s Clean e = refl
-clean-of s (Broken m q) e = let z : _≡_ {A = ℕ} 0 1 = cc in absurd (omega arith)
+-- an accepted verdict comes of a clean ruling, and has the counts
+pub clean-of : (s : List ℕ) (u : Ruling) (c : Counts) → verdictBy s u ≡ Accepted c → (u ≡ Clean) × (c ≡ countsOf s)
+clean-of s Clean c e = (refl, cc)
+clean-of s (Broken n p) c e = let z : _≡_ {A = ℕ} 0 1 = cc in absurd (omega arith)
 
 pub refused-ruling : (s : List ℕ) (n p : ℕ) → verdictOf s ≡ Refused n p → ruling (rules s) ≡ Broken n p
 unfolding verdictOf
@@ -38,7 +37,7 @@ refused s n p = (λ e. ruling-least (refused-ruling s n p e), λ l. ap (verdictB
 
 pub accepted : (s : List ℕ) → (verdictOf s ≡ Accepted (countsOf s)) ↔ AllKept (rules s)
 unfolding verdictOf
-accepted s = (λ e. ruling-clean (clean-of s (ruling (rules s)) e), λ k. ap (verdictBy s) (clean-ruling k))
+accepted s = (λ e. ruling-clean (clean-of s (ruling (rules s)) (countsOf s) e .0), λ k. ap (verdictBy s) (clean-ruling k))
 
 -- every rule of a list has a small number and few places
 abbrev Small : List Rule → Type 0

@@ -1,11 +1,11 @@
 -- Laws of `ruling`. Assumes nothing.
---     ruled, kept       by which the code's proof goes from rule to rule
+--     ruled, kept       by which the code's proof goes from rule to rule; stopped, passed, the same behind rules that are kept
 --     ruling-append     one list of rules tried after another; ruled-before, kept-before, by what the first list says
 --     one-broken, one-kept    a rule of one place
 --     ruling-least      what it refuses is broken there, at no lower place, and no earlier rule is broken anywhere; least-ruling, the other way
---     least-place       how high a refusal's place can be
 --     ruling-clean      where it is clean, no rule is broken anywhere; clean-ruling, the other way
-use Prim.Native.Nat.{ℕ, _<_, _≤_}
+--     same-ruling       an answer from which its ruling can be found again is one ruling's alone
+use Prim.Native.Nat.{ℕ, _<_}
 use mathlib.Core.Path.{_≡_, refl, sym, ap, subst, _∙_}
 use mathlib.Core.Bool.{Bool, true, false}
 use mathlib.Core.List.{List, [], _∷_, _++_}
@@ -25,6 +25,14 @@ ruled r rs e = sym (ap (λ (s : Spot). refuse (r .number) s (ruling rs)) e)
 pub kept : (r : Rule) (rs : List Rule) {v : Ruling} → first (r .broken) (r .places) ≡ Nowhere → v ≡ ruling rs → v ≡ ruling (r ∷ rs)
 unfolding ruling
 kept r rs e q = q ∙ sym (ap (λ (s : Spot). refuse (r .number) s (ruling rs)) e)
+
+-- the same, where the rules before are kept, by what the code found of this one
+module _ (r : Rule) (rs : List Rule) {v : Ruling} {x : Spot} (before : v ≡ ruling (r ∷ rs)) (said : x ≡ first (r .broken) (r .places)) where
+  pub stopped : {i : ℕ} → x ≡ At i → Broken (r .number) i ≡ v
+  stopped e = ruled r rs (sym said ∙ e) ∙ sym before
+
+  pub passed : x ≡ Nowhere → v ≡ ruling rs
+  passed e = before ∙ sym (kept r rs (sym said ∙ e) refl)
 
 -- the first ruling, or the second where the first is clean
 abbrev pub orRule : Ruling → Ruling → Ruling
@@ -110,11 +118,11 @@ unfolding Kept ruling
 clean-ruling none = refl
 clean-ruling (more {r} {rs} h m) = sym (kept r rs (first-is-none (r .broken) _ h) (sym (clean-ruling m)))
 
--- every rule of a list has at most m places: a refusal's place is below m
-abbrev pub FewPlaces : ℕ → List Rule → Type 0
-FewPlaces m [] = Unit {0}
-FewPlaces m (r ∷ rs) = (r .places ≤ m) × FewPlaces m rs
+-- an answer made of a ruling, from which the ruling can be found again, is one ruling's alone
+module _ {X : Type 0} (g : Ruling → X) (back : X → Ruling) (clean : back (g Clean) ≡ Clean) (broken : (n p : ℕ) → back (g (Broken n p)) ≡ Broken n p) where
+  found : (v : Ruling) → back (g v) ≡ v
+  found Clean = clean
+  found (Broken n p) = broken n p
 
-pub least-place : {rs : List Rule} {n p : ℕ} (m : ℕ) → FewPlaces m rs → Least rs n p → p < m
-least-place m h (this l e k) = omega (arith, h .0)
-least-place m h (later k q) = least-place m (h .1) q
+  pub same-ruling : (u v : Ruling) → g u ≡ g v → u ≡ v
+  same-ruling u v e = sym (found u) ∙ ap back e ∙ found v

@@ -4,9 +4,9 @@
 --     any-none, any-each      a test that holds at no place
 --     part-none, part-found   the same by parts of w places, for a loop over blocks
 use Prim.Native.Nat.{ℕ, zero, suc, _+_, _-_, _*_, _<_, _≤_}
-use mathlib.Core.Path.{_≡_, refl, sym, ap, subst, _∙_}
-use mathlib.Core.Bool.{Bool, true, false, cond, _||_, or-true, or-false}
-use mathlib.Core.Logic.{_⊎_, ⊎-elim}
+use mathlib.Core.Path.{_≡_, refl, sym, subst}
+use mathlib.Core.Bool.{Bool, true, false, cond, _||_, or-true}
+use mathlib.Core.Logic.{⊎-elim}
 use native.Mathlib.Nat.{mul-le-mul-left, le-of-suc-le-suc, not-suc-le-zero, eq-or-lt-of-le}
 use native.Mathlib.Decide.{decLt}
 use native.Mathlib.Numerals.{add-one}
@@ -73,13 +73,8 @@ module _ (p : ℕ → Bool) where
 
   -- the test fails at each place of the first b parts of w places, and at the next m
   in-part : (w b m : ℕ) → first p (w * b) ≡ Nowhere → ((i : ℕ) → i < m → p (w * b + i) ≡ false) → (k : ℕ) → k < w * b + m → p k ≡ false
-  in-part w b m none h k l = go (decLt k (w * b))
-    where
-      go : Dec (k < w * b) → p k ≡ false
-      go (yes lt) = first-none none k lt
-      go (no ge) =
-          let e : w * b + (k - w * b) ≡ k = omega arith in
-          subst (λ (n : ℕ). p n ≡ false) e (h (k - w * b) (omega arith))
+  in-part w b m none h =
+      first-none (first-rest (w * b) (w * b + m) none (λ k g l. let e : w * b + (k - w * b) ≡ k = omega arith in rw e at (h (k - w * b) (omega arith))))
 
 module _ (p : ℕ → Bool) where
   pub any-more : (i : ℕ) → any p i ≡ false → p i ≡ false → any p (i + 1) ≡ false

@@ -3,135 +3,104 @@
 --     headed        what rule 3 says of a block; ordered, what rules 3 and 4 say of each, as plain facts
 --     start-all     the blocks of all kinds are all there are
 --     at-start      a block's number is its kind's first block plus how many of its kind come before it
---     few           at most three blocks and 32 rows of a kind
---     needed        a kind takes as many blocks as its rows need
+--     needed        a kind takes as many blocks as its rows need, at most three, for at most 32 rows
+--     kind-in, count-in    the kind and the count of a block, by its number; lying, where a kind's rows stand; only-row, that of the parameters
 use Prim.Native.Nat.{ℕ, zero, suc, _+_, _-_, _*_, _/_, _%_, _<_, _≤_, min}
-use mathlib.Core.Path.{_≡_, refl, sym, ap, ap₂, subst, _∙_}
-use mathlib.Core.Bool.{Bool, true, false, cond, not, _&&_, _||_}
-use mathlib.Core.List.{List, [], _∷_, _++_}
+use mathlib.Core.Path.{_≡_, refl, sym, ap, _∙_}
+use mathlib.Core.Bool.{false, not, _&&_}
+use mathlib.Core.List.{List, [], _∷_}
+use native.Mathlib.Nat.{add-zero}
 use native.Mathlib.Decide.{decLt, ℕ-discrete}
+use native.Mathlib.Numerals.{add-one}
 use native.Mathlib.Omega.{arith}
-use borrow.Author.Tests.{lt-ltb, eq-eqb, ne-eqb, ltb-true, ltb-false, leb-false, eqb-true, eqb-false, not-true, not-false}
-use lib.ListN.{length}
+use borrow.Author.Tests.{lt-ltb, eq-eqb, ne-eqb, ltb-true, ltb-false, leb-true, leb-false, not-false}
 use lib.Dec.{ltb, leb, eqb}
-use Rattle.form.specs.Block.{blocks, kindOf, countOf, blockNumber, blocksSaid, edition, blocksBelow, isLast, badHeader, kindFalls, wrongEnd, earlier, badCount, notFilled, stray, badBlock}
+use Rattle.form.specs.First.{first}
+use Rattle.form.specs.Block.{blocks, kindOf, countOf, blockNumber, blocksSaid, edition, blocksBelow, isLast, badHeader, kindFalls, wrongEnd, fourthOfKind, badCount, notFilled, overFilled, stray, badBlock}
 use Rattle.form.specs.Layout.{kinds, parametersKind}
-use Rattle.form.specs.Edition.{lastKind, known}
+use Rattle.form.specs.Edition.{lastKind}
 use Rattle.form.specs.Verdict.{blockRules, countBelow, rowCount}
-use Rattle.form.specs.Standing.{blocksFor, startBlock, rowsFrom}
+use Rattle.form.specs.Standing.{blocksFor, startBlock}
+use Rattle.form.specs.declared.Spot.{Spot}
+use Rattle.form.specs.declared.Spot.the-variants.{At, Nowhere}
+use Rattle.form.proofs.Search.{Says, first-says}
 use Rattle.form.proofs.Order.{AllKept, Kept, none, more}
-use Rattle.form.proofs.Tests.{or-none, and-rest}
+use Rattle.form.proofs.Tests.{all-fail, same-of, or-none, and-rest}
 use Rattle.form.proofs.EachKind.{last-kinds}
 
--- the kinds of n blocks are in order, and their counts as rule 4 has them
-pub record Ordered (s : List ℕ) (n : ℕ) : Type 0 where
-  pub low : (b : ℕ) → b < n → 1 ≤ kindOf s b
-  pub high : (b : ℕ) → b < n → kindOf s b ≤ kinds
-  pub rises : (b : ℕ) → suc b < n → kindOf s b ≤ kindOf s (suc b)
-  pub ends : (b : ℕ) → suc b ≡ n → kindOf s b ≡ parametersKind
-  pub inner : (b : ℕ) → suc b < n → kindOf s b ≡ parametersKind → ⊥
-  pub third : (b : ℕ) → b < n → blocksBelow (kindOf s b) s b < 3
-  pub some : (b : ℕ) → b < n → 1 ≤ countOf s b
-  pub twelve : (b : ℕ) → b < n → countOf s b ≤ 12
-  pub one : (b : ℕ) → b < n → kindOf s b ≡ parametersKind → countOf s b ≡ 1
-  pub filled : (b : ℕ) → suc b < n → kindOf s (suc b) ≡ kindOf s b → countOf s b ≡ 12
-  pub eight : (b : ℕ) → b < n → blocksBelow (kindOf s b) s b ≡ 2 → countOf s b ≤ 8
-
--- what rules 3 and 4 say of one block, test by test
+-- what rule 3 says of a block, test by test
 pub record Headed (s : List ℕ) (b : ℕ) : Type 0 where
   pub low : 1 ≤ kindOf s b
   pub high : kindOf s b ≤ lastKind (edition s b)
   pub number : blockNumber s b ≡ b
   pub said : blocksSaid s b ≡ blocks s
-  pub edition : known (edition s b) ≡ true
+  pub edition : 0 < lastKind (edition s b)
 
 pub headed : (s : List ℕ) (b : ℕ) → badHeader s b ≡ false → Headed s b
 unfolding badHeader
 headed s b e =
+    let k = kindOf s b in
     let last = lastKind (edition s b) in
-    let f = or-none (ltb (kindOf s b) 1 || ltb last (kindOf s b) || not (eqb (blockNumber s b) b) || not (eqb (blocksSaid s b) (blocks s))) _ e in
-    let g = or-none (ltb (kindOf s b) 1 || ltb last (kindOf s b) || not (eqb (blockNumber s b) b)) _ (f .0) in
-    let h = or-none (ltb (kindOf s b) 1 || ltb last (kindOf s b)) _ (g .0) in
-    let k = or-none (ltb (kindOf s b) 1) _ (h .0) in
+    let f = all-fail (ltb k 1) (ltb last k ∷ not (eqb (blockNumber s b) b) ∷ not (eqb (blocksSaid s b) (blocks s)) ∷ not (ltb 0 last) ∷ []) e in
+    let h = ltb-true 0 last (not-false _ (f .1 .1 .1 .1 .0)) in
+    omega (arith, ltb-false, same-of)
+
+-- what rules 3 and 4 say of block b of n, as plain facts
+pub record Fine (s : List ℕ) (n b : ℕ) : Type 0 where
+  pub low : 1 ≤ kindOf s b
+  pub high : kindOf s b ≤ kinds
+  pub rises : (a : ℕ) → suc a ≡ b → kindOf s a ≤ kindOf s b
+  pub ends : suc b ≡ n → kindOf s b ≡ parametersKind
+  pub inner : kindOf s b ≡ parametersKind → suc b ≡ n
+  pub third : blocksBelow (kindOf s b) s b < 3
+  pub some : 1 ≤ countOf s b
+  pub twelve : countOf s b ≤ 12
+  pub one : kindOf s b ≡ parametersKind → countOf s b ≡ 1
+  pub filled : suc b < n → kindOf s (suc b) ≡ kindOf s b → countOf s b ≡ 12
+  pub few : 12 * blocksBelow (kindOf s b) s b + countOf s b ≤ 32
+
+-- a kind's third block has at most eight rows: with those before it at most 32
+most : (e c : ℕ) → e < 3 → c ≤ 12 → (eqb e 2 && ltb 8 c) ≡ false → 12 * e + c ≤ 32
+most zero c t h f = omega arith
+most (suc zero) c t h f = omega arith
+most (suc (suc e)) c t h f = let q : suc (suc e) ≡ 2 = omega arith in omega (arith, ltb-false 8 c (and-rest _ _ (eq-eqb (suc (suc e)) 2 q) f))
+
+fine : (s : List ℕ) (b : ℕ) → Headed s b → badBlock s b ≡ false → Fine s (blocks s) b
+unfolding badBlock kindFalls wrongEnd badCount notFilled
+fine s b h e =
+    let k = kindOf s b in
+    let f = all-fail (kindFalls s b) (wrongEnd s b ∷ fourthOfKind s b ∷ badCount s b ∷ notFilled s b ∷ overFilled s b ∷ stray s b ∷ []) e in
+    let w = or-none (eqb k parametersKind && not (isLast s b)) _ (f .1 .0) in
+    let c = all-fail (ltb (countOf s b) 1) (ltb 12 (countOf s b) ∷ (eqb k parametersKind && not (eqb (countOf s b) 1)) ∷ []) (f .1 .1 .1 .0) in
+    let next : b + 1 ≡ suc b = add-one b in
     record {
-      low = ltb-false (kindOf s b) 1 (k .0);
-      high = ltb-false last (kindOf s b) (k .1);
-      number = eqb-true (blockNumber s b) b (not-false _ (h .1));
-      said = eqb-true (blocksSaid s b) (blocks s) (not-false _ (g .1));
-      edition = not-false _ (f .1);
+      low = h .low;
+      high = omega (arith, last-kinds (edition s b));
+      rises = λ a q. let p : b - 1 ≡ a = omega arith in rw p at (ltb-false k _ (and-rest _ _ (lt-ltb 0 b (omega arith)) (f .0)));
+      ends = λ q. same-of k parametersKind (and-rest _ _ (eq-eqb (b + 1) (blocks s) (next ∙ q)) (w .1));
+      inner = λ q. sym next ∙ same-of (b + 1) (blocks s) (and-rest _ _ (eq-eqb k parametersKind q) (w .0));
+      third = leb-false 3 _ (f .1 .1 .0);
+      some = ltb-false (countOf s b) 1 (c .0);
+      twelve = ltb-false 12 (countOf s b) (c .1 .0);
+      one = λ q. same-of (countOf s b) 1 (and-rest _ _ (eq-eqb k parametersKind q) (c .1 .1 .0));
+      filled = λ l q.
+          same-of (countOf s b) 12
+          (and-rest _ _ (eq-eqb _ k (ap (kindOf s) next ∙ q)) (and-rest _ _ (lt-ltb (b + 1) (blocks s) (omega arith)) (f .1 .1 .1 .1 .0)));
+      few = most _ (countOf s b) (leb-false 3 _ (f .1 .1 .0)) (ltb-false 12 (countOf s b) (c .1 .0)) (f .1 .1 .1 .1 .1 .0);
     }
 
-record Sound (s : List ℕ) (b : ℕ) : Type 0 where
-  falls : kindFalls s b ≡ false
-  end : wrongEnd s b ≡ false
-  fourth : leb 3 (earlier s b) ≡ false
-  count : badCount s b ≡ false
-  notFull : notFilled s b ≡ false
-  over : (eqb (earlier s b) 2 && ltb 8 (countOf s b)) ≡ false
-  zeros : stray s b ≡ false
-
-sound : (s : List ℕ) (b : ℕ) → badBlock s b ≡ false → Sound s b
-unfolding badBlock
-sound s b e =
-    let g = or-none _ (stray s b) e in
-    let f = or-none _ (eqb (earlier s b) 2 && ltb 8 (countOf s b)) (g .0) in
-    let d = or-none _ (notFilled s b) (f .0) in
-    let c = or-none _ (badCount s b) (d .0) in
-    let t = or-none _ (leb 3 (earlier s b)) (c .0) in
-    let w = or-none (kindFalls s b) (wrongEnd s b) (t .0) in
-    record { falls = w .0; end = w .1; fourth = t .1; count = c .1; notFull = d .1; over = f .1; zeros = g .1 }
-
-kind-rises : (s : List ℕ) (b : ℕ) → Sound s (suc b) → kindOf s b ≤ kindOf s (suc b)
-unfolding kindFalls
-kind-rises s b g =
-    let e : suc b - 1 ≡ b = omega arith in
-    let f = ltb-false (kindOf s (suc b)) (kindOf s (suc b - 1)) (and-rest _ _ (lt-ltb 0 (suc b) (omega arith)) (g .falls)) in
-    rw e at f
-
-last-kind : (s : List ℕ) (b : ℕ) → b + 1 ≡ blocks s → Sound s b → kindOf s b ≡ parametersKind
-unfolding wrongEnd
-last-kind s b e g =
-    let f = or-none (eqb (kindOf s b) parametersKind && not (isLast s b)) _ (g .end) .1 in
-    eqb-true (kindOf s b) parametersKind (not-false _ (and-rest _ _ (eq-eqb (b + 1) (blocks s) e) f))
-
-inner-kind : (s : List ℕ) (b : ℕ) → b + 1 < blocks s → kindOf s b ≡ parametersKind → Sound s b → ⊥
-unfolding wrongEnd
-inner-kind s b l e g =
-    let f = or-none (eqb (kindOf s b) parametersKind && not (isLast s b)) _ (g .end) .0 in
-    omega (arith, eqb-true (b + 1) (blocks s) (not-false _ (and-rest _ _ (eq-eqb (kindOf s b) parametersKind e) f)))
-
-count-facts : (s : List ℕ) (b : ℕ) → Sound s b → (1 ≤ countOf s b) × (countOf s b ≤ 12) × (kindOf s b ≡ parametersKind → countOf s b ≡ 1)
-unfolding badCount
-count-facts s b g =
-    let f = or-none (ltb (countOf s b) 1 || ltb 12 (countOf s b)) _ (g .count) in
-    let h = or-none (ltb (countOf s b) 1) _ (f .0) in (
-      ltb-false (countOf s b) 1 (h .0),
-      ltb-false 12 (countOf s b) (h .1),
-      λ e. eqb-true (countOf s b) 1 (not-false _ (and-rest _ _ (eq-eqb (kindOf s b) parametersKind e) (f .1))),
-    )
-
-full-count : (s : List ℕ) (b : ℕ) → suc b < blocks s → Sound s b → kindOf s (suc b) ≡ kindOf s b → countOf s b ≡ 12
-unfolding notFilled
-full-count s b l g e =
-    let a : b + 1 ≡ suc b = omega arith in
-    let q : eqb (kindOf s (b + 1)) (kindOf s b) ≡ true = rw a (eq-eqb (kindOf s (suc b)) (kindOf s b) e) in
-    eqb-true (countOf s b) 12 (not-false _ (and-rest _ _ q (and-rest _ _ (lt-ltb (b + 1) (blocks s) (omega arith)) (g .notFull))))
+abbrev pub Ordered : List ℕ → ℕ → Type 0
+Ordered s n = (b : ℕ) → b < n → Fine s n b
 
 pub ordered : (s : List ℕ) → AllKept (blockRules s) → Ordered s (blocks s)
 unfolding blockRules Kept
-ordered s (more h₁ (more h₂ (more h₃ (more h₄ none)))) = record {
-  low = λ b l. headed s b (h₃ b l) .low;
-  high = λ b l. omega (arith, headed s b (h₃ b l) .high, last-kinds (edition s b));
-  rises = λ b l. kind-rises s b (sound s (suc b) (h₄ (suc b) l));
-  ends = λ b e. last-kind s b (omega arith) (sound s b (h₄ b (omega arith)));
-  inner = λ b l e. inner-kind s b (omega arith) e (sound s b (h₄ b (omega arith)));
-  third = λ b l. leb-false 3 (earlier s b) (sound s b (h₄ b l) .fourth);
-  some = λ b l. count-facts s b (sound s b (h₄ b l)) .0;
-  twelve = λ b l. count-facts s b (sound s b (h₄ b l)) .1;
-  one = λ b l. count-facts s b (sound s b (h₄ b l)) .2;
-  filled = λ b l. full-count s b l (sound s b (h₄ b (omega arith)));
-  eight = λ b l e. ltb-false 8 (countOf s b) (and-rest _ _ (eq-eqb (earlier s b) 2 e) (sound s b (h₄ b l) .over));
-}
+ordered s (more h₁ (more h₂ (more h₃ (more h₄ none)))) = λ b l. fine s b (headed s b (h₃ b l)) (h₄ b l)
+
+-- where row i of a kind stands
+pub record Lies (s : List ℕ) (k i : ℕ) : Type 0 where
+  pub below : startBlock k s + i / 12 < blocks s
+  pub kind : kindOf s (startBlock k s + i / 12) ≡ k
+  pub used : i % 12 < countOf s (startBlock k s + i / 12)
 
 -- ---- one block more, of the kind or not
 
@@ -144,46 +113,92 @@ module _ (k : ℕ) (s : List ℕ) (m : ℕ) where
   unfolding blocksBelow
   blocks-no h = rw (ne-eqb (kindOf s m) k h) (omega arith)
 
-  pub count-yes : kindOf s m ≡ k → countBelow k s (suc m) ≡ countBelow k s m + countOf s m
-  unfolding countBelow
-  count-yes e = rw (eq-eqb (kindOf s m) k e)
+-- ---- the blocks of a kind stand between two cuts
 
-  pub count-no : (kindOf s m ≡ k → ⊥) → countBelow k s (suc m) ≡ countBelow k s m
-  unfolding countBelow
-  count-no h = rw (ne-eqb (kindOf s m) k h) (omega arith)
-
--- nothing before the first block
-none-before : (k : ℕ) (s : List ℕ) → (blocksBelow k s 0 ≡ 0) × (countBelow k s 0 ≡ 0)
-unfolding blocksBelow countBelow
-none-before k s = (refl, refl)
-
-module _ (s : List ℕ) (n : ℕ) (o : Ordered s n) where
-  -- no block of a later kind comes before
-  pub none-later : (m k : ℕ) → m < n → kindOf s m < k → (blocksBelow k s m ≡ 0) × (countBelow k s m ≡ 0)
-  none-later zero k l h = none-before k s
-  none-later (suc m) k l h =
-      let le = o .rises m l in
-      let r = none-later m k (omega arith) (omega arith) in
-      let d : kindOf s m ≡ k → ⊥ = omega arith in
-      (blocks-no k s m d ∙ r .0, count-no k s m d ∙ r .1)
-
-  -- the blocks of a kind before a block of that kind are full
-  pub full : (m : ℕ) → m < n → countBelow (kindOf s m) s m ≡ 12 * blocksBelow (kindOf s m) s m
-  full zero l = let e = none-before (kindOf s 0) s in omega arith
-  full (suc m) l = go (full m (omega arith)) (ℕ-discrete (kindOf s m) (kindOf s (suc m)))
+module _ (s : List ℕ) (o : Ordered s (blocks s)) where
+  -- kinds never fall
+  kinds-rise : (a b : ℕ) → a ≤ b → b < blocks s → kindOf s a ≤ kindOf s b
+  kinds-rise a zero h l = let e : a ≡ 0 = omega arith in rw e (omega arith)
+  kinds-rise a (suc b) h l = go (λ g. kinds-rise a b g (omega arith)) (ℕ-discrete a (suc b))
     where
-      go : countBelow (kindOf s m) s m ≡ 12 * blocksBelow (kindOf s m) s m → Dec (kindOf s m ≡ kindOf s (suc m))
-          → countBelow (kindOf s (suc m)) s (suc m) ≡ 12 * blocksBelow (kindOf s (suc m)) s (suc m)
-      go f (yes e) =
-          let g : countBelow (kindOf s (suc m)) s m ≡ 12 * blocksBelow (kindOf s (suc m)) s m =
-          subst (λ (x : ℕ). countBelow x s m ≡ 12 * blocksBelow x s m) e f in
-          omega (arith, blocks-yes (kindOf s (suc m)) s m e, count-yes (kindOf s (suc m)) s m e, o .filled m l (sym e))
-      go f (no d) =
-          let r = none-later m (kindOf s (suc m)) (omega arith) (omega (arith, o .rises m l)) in
-          omega (arith, blocks-no (kindOf s (suc m)) s m d, count-no (kindOf s (suc m)) s m d)
+      go : (a ≤ b → kindOf s a ≤ kindOf s b) → Dec (a ≡ suc b) → kindOf s a ≤ kindOf s (suc b)
+      go r (yes e) = rw e (omega arith)
+      go r (no d) = omega (arith, r (omega arith), o (suc b) l .rises b refl)
 
-  pub full-at : (k m : ℕ) → m < n → kindOf s m ≡ k → countBelow k s m ≡ 12 * blocksBelow k s m
-  full-at k m l e = subst (λ (x : ℕ). countBelow x s m ≡ 12 * blocksBelow x s m) e (full m l)
+  -- the first block of kind k or above, or their number: there the blocks of the kinds below k end
+  abbrev place : Spot → ℕ
+  place (At i) = i
+  place Nowhere = blocks s
+
+  abbrev cut : ℕ → ℕ
+  cut k = place (first (λ b. leb k (kindOf s b)) (blocks s))
+
+  record Parted (k v : ℕ) : Type 0 where
+    end : v ≤ blocks s
+    below : (b : ℕ) → b < v → kindOf s b < k
+    above : (b : ℕ) → v ≤ b → b < blocks s → k ≤ kindOf s b
+
+  parted : (k : ℕ) → Parted k (cut k)
+  parted k = go (first (λ b. leb k (kindOf s b)) (blocks s)) (first-says (λ b. leb k (kindOf s b)) (blocks s))
+    where
+      go : (t : Spot) → Says (λ b. leb k (kindOf s b)) (blocks s) t → Parted k (place t)
+      go (At i) h = record {
+        end = omega arith;
+        below = λ b l. leb-false k (kindOf s b) (h .2 b l);
+        above = λ b g l. omega (arith, leb-true k (kindOf s i) (h .1), kinds-rise i b g l);
+      }
+      go Nowhere h = record { end = omega arith; below = λ b l. leb-false k (kindOf s b) (h b l); above = λ b g l. absurd (omega arith) }
+
+  -- of the first m blocks, those between its cuts are of a kind
+  blocks-are : (k m : ℕ) → m ≤ blocks s → blocksBelow k s m + min m (cut k) ≡ min m (cut (suc k))
+  unfolding blocksBelow
+  blocks-are k zero l = omega arith
+  blocks-are k (suc m) l = go (blocks-are k m (omega arith)) (decLt m (cut k)) (decLt m (cut (suc k)))
+    where
+      go : blocksBelow k s m + min m (cut k) ≡ min m (cut (suc k)) → Dec (m < cut k) → Dec (m < cut (suc k))
+          → blocksBelow k s (suc m) + min (suc m) (cut k) ≡ min (suc m) (cut (suc k))
+      go h (yes a) (yes b) = omega (arith, blocks-no k s m (omega (arith, parted k .below m a)))
+      go h (yes a) (no b) = absurd (omega (arith, parted k .below m a, parted (suc k) .above m (omega arith) l))
+      go h (no a) (yes b) = omega (arith, blocks-yes k s m (omega (arith, parted k .above m (omega arith) l, parted (suc k) .below m b)))
+      go h (no a) (no b) = omega (arith, blocks-no k s m (omega (arith, parted (suc k) .above m (omega arith) l)))
+
+  between : (k b : ℕ) → b < blocks s → kindOf s b ≡ k → (cut k ≤ b) × (b < cut (suc k)) × (b ≡ cut k + blocksBelow k s b)
+  between k b l e = go (decLt b (cut k)) (decLt b (cut (suc k)))
+    where
+      go : Dec (b < cut k) → Dec (b < cut (suc k)) → (cut k ≤ b) × (b < cut (suc k)) × (b ≡ cut k + blocksBelow k s b)
+      go (yes h) d = absurd (omega (arith, parted k .below b h))
+      go (no h) (no g) = absurd (omega (arith, parted (suc k) .above b (omega arith) l))
+      go (no h) (yes g) = omega (arith, blocks-are k b (omega arith))
+
+  kind-between : (k b : ℕ) → cut k ≤ b → b < cut (suc k) → (b < blocks s) × (kindOf s b ≡ k)
+  kind-between k b lo hi =
+      let l : b < blocks s = omega (arith, parted (suc k) .end) in
+      (l, omega (arith, parted k .above b lo l, parted (suc k) .below b hi))
+
+  -- the rows in the first d blocks of a kind: all but the last are full
+  unfoldable rowsIn : ℕ → ℕ → ℕ
+  rowsIn k zero = 0
+  rowsIn k (suc d) = 12 * d + countOf s (cut k + d)
+
+  full : (k d : ℕ) → cut k + d < cut (suc k) → rowsIn k d ≡ 12 * d
+  unfolding rowsIn
+  full k zero h = refl
+  full k (suc d) h =
+      let p = kind-between k (cut k + d) (omega arith) (omega arith) in
+      let q = kind-between k (suc (cut k + d)) (omega arith) (omega arith) in
+      omega (arith, o (cut k + d) (p .0) .filled (q .0) (q .1 ∙ sym (p .1)))
+
+  counts-are : (k m : ℕ) → m ≤ blocks s → countBelow k s m ≡ rowsIn k (blocksBelow k s m)
+  unfolding countBelow blocksBelow rowsIn
+  counts-are k zero l = refl
+  counts-are k (suc m) l = go (counts-are k m (omega arith)) (ℕ-discrete (kindOf s m) k)
+    where
+      go : countBelow k s m ≡ rowsIn k (blocksBelow k s m) → Dec (kindOf s m ≡ k) → countBelow k s (suc m) ≡ rowsIn k (blocksBelow k s (suc m))
+      go h (yes e) = let b = between k m l e in rw (eq-eqb (kindOf s m) k e, add-one (blocksBelow k s m), h, full k (blocksBelow k s m) (omega arith), ← b .2)
+      go h (no d) = rw (ne-eqb (kindOf s m) k d, add-zero, add-zero) h
+
+  pub full-at : (k m : ℕ) → m < blocks s → kindOf s m ≡ k → countBelow k s m ≡ 12 * blocksBelow k s m
+  full-at k m l e = counts-are k m (omega arith) ∙ full k (blocksBelow k s m) (omega (arith, between k m l e))
 
   -- a kind takes just the blocks that its rows need, at most three, and has at most 32 rows
   pub record Needed (k m : ℕ) : Type 0 where
@@ -192,202 +207,92 @@ module _ (s : List ℕ) (n : ℕ) (o : Ordered s n) where
     pub three : blocksBelow k s m ≤ 3
     pub rows : countBelow k s m ≤ 32
 
-  pub needed : (k m : ℕ) → m ≤ n → Needed k m
-  needed k zero l = let e = none-before k s in record { lower = omega arith; upper = omega arith; three = omega arith; rows = omega arith }
-  needed k (suc m) l = go (needed k m (omega arith)) (ℕ-discrete (kindOf s m) k)
+  pub needed : (k m : ℕ) → m ≤ blocks s → Needed k m
+  unfolding rowsIn
+  needed k m l = go (blocksBelow k s m) refl
     where
-      go : Needed k m → Dec (kindOf s m ≡ k) → Needed k (suc m)
-      go w (no d) =
-          let b = blocks-no k s m d in
-          let c = count-no k s m d in
-          record { lower = omega arith; upper = omega arith; three = omega arith; rows = omega arith }
-      go w (yes e) =
-          let b = blocks-yes k s m e in
-          let c = count-yes k s m e in
-          let f = full-at k m l e in
-          let lo = o .some m l in
-          let hi = o .twelve m l in
-          let t : blocksBelow k s m < 3 = subst (λ (x : ℕ). blocksBelow x s m < 3) e (o .third m l) in
-          let g : blocksBelow k s m ≡ 2 → countOf s m ≤ 8 = subst (λ (x : ℕ). blocksBelow x s m ≡ 2 → countOf s m ≤ 8) e (o .eight m l) in
-          record { lower = omega arith; upper = omega arith; three = omega arith; rows = last g (ℕ-discrete (blocksBelow k s m) 2) }
-        where
-          last : (blocksBelow k s m ≡ 2 → countOf s m ≤ 8) → Dec (blocksBelow k s m ≡ 2) → countBelow k s (suc m) ≤ 32
-          last g (yes two) = omega (arith, g two, count-yes k s m e, full-at k m l e)
-          last g (no d) =
-              let t : blocksBelow k s m < 3 = subst (λ (x : ℕ). blocksBelow x s m < 3) e (o .third m l) in
-              omega (arith, count-yes k s m e, full-at k m l e, o .twelve m l)
+      go : (d : ℕ) → blocksBelow k s m ≡ d → Needed k m
+      go zero e = let c : countBelow k s m ≡ 0 = counts-are k m l ∙ ap (rowsIn k) e in omega arith
+      go (suc d) e =
+          let c : countBelow k s m ≡ 12 * d + countOf s (cut k + d) = counts-are k m l ∙ ap (rowsIn k) e in
+          let i : cut k + d < cut (suc k) = omega (arith, blocks-are k m l) in
+          let p = kind-between k (cut k + d) (omega arith) i in
+          let f = o (cut k + d) (p .0) in
+          let q = between k (cut k + d) (p .0) (p .1) in
+          omega (arith, rw (p .1) at (f .third), rw (p .1) at (f .few))
 
-  -- no parameter block before the last
-  pub none-inner : (m : ℕ) → m < n → blocksBelow parametersKind s m ≡ 0
-  none-inner zero l = none-before parametersKind s .0
-  none-inner (suc m) l = blocks-no parametersKind s m (o .inner m l) ∙ none-inner m (omega arith)
-
-  -- kinds never fall
-  pub kinds-rise : (a d : ℕ) → a + d < n → kindOf s a ≤ kindOf s (a + d)
-  kinds-rise a zero l = let e : a + 0 ≡ a = omega arith in rw e (omega arith)
-  kinds-rise a (suc d) l =
-      let e : a + suc d ≡ suc (a + d) = omega arith in
-      rw e (omega (arith, kinds-rise a d (omega arith), o .rises (a + d) (omega arith)))
-
-  -- behind a block of a later kind, no more of a kind
-  pub frozen : (k b : ℕ) → (d : ℕ) → b + d ≤ n → (b < n → k < kindOf s b)
-      → (blocksBelow k s (b + d) ≡ blocksBelow k s b) × (countBelow k s (b + d) ≡ countBelow k s b)
-  frozen k b zero l h = let e : b + 0 ≡ b = omega arith in rw e (refl, refl)
-  frozen k b (suc d) l h =
-      let e : b + suc d ≡ suc (b + d) = omega arith in
-      let r = frozen k b d (omega arith) h in
-      let up = kinds-rise b d (omega arith) in
-      let lt = h (omega arith) in
-      let ne : kindOf s (b + d) ≡ k → ⊥ = omega arith in
-      rw e (blocks-no k s (b + d) ne ∙ r .0, count-no k s (b + d) ne ∙ r .1)
-
-  frozen-end : (k b : ℕ) → b ≤ n → (b < n → k < kindOf s b) → (blocksBelow k s n ≡ blocksBelow k s b) × (countBelow k s n ≡ countBelow k s b)
-  frozen-end k b l h =
-      let e : b + (n - b) ≡ n = omega arith in
-      subst (λ (x : ℕ). (blocksBelow k s x ≡ blocksBelow k s b) × (countBelow k s x ≡ countBelow k s b)) e (frozen k b (n - b) (omega arith) h)
-
-  -- more blocks never give fewer of a kind
-  pub grows : (k m d : ℕ) → (blocksBelow k s m ≤ blocksBelow k s (m + d)) × (countBelow k s m ≤ countBelow k s (m + d))
-  grows k m zero = let e : m + 0 ≡ m = omega arith in rw e (omega arith, omega arith)
-  grows k m (suc d) = go (grows k m d) (ℕ-discrete (kindOf s (m + d)) k)
-    where
-      e : m + suc d ≡ suc (m + d)
-      e = omega arith
-
-      go : (blocksBelow k s m ≤ blocksBelow k s (m + d)) × (countBelow k s m ≤ countBelow k s (m + d)) → Dec (kindOf s (m + d) ≡ k)
-          → (blocksBelow k s m ≤ blocksBelow k s (m + suc d)) × (countBelow k s m ≤ countBelow k s (m + suc d))
-      go r (yes q) = rw e (omega (arith, blocks-yes k s (m + d) q), omega (arith, count-yes k s (m + d) q))
-      go r (no q) = rw e (omega (arith, blocks-no k s (m + d) q), omega (arith, count-no k s (m + d) q))
-
-  grows-end : (k m : ℕ) → m ≤ n → (blocksBelow k s m ≤ blocksBelow k s n) × (countBelow k s m ≤ countBelow k s n)
-  grows-end k m l =
-      let e : m + (n - m) ≡ n = omega arith in
-      subst (λ (x : ℕ). (blocksBelow k s m ≤ blocksBelow k s x) × (countBelow k s m ≤ countBelow k s x)) e (grows k m (n - m))
-
-  -- the blocks of the kinds from 1 to k, among the first m
-  unfoldable blocksTo : ℕ → ℕ → ℕ
-  blocksTo zero m = 0
-  blocksTo (suc k) m = blocksTo k m + blocksBelow (suc k) s m
-
-  to-none : (k : ℕ) → blocksTo k 0 ≡ 0
-  unfolding blocksTo
-  to-none zero = refl
-  to-none (suc k) = omega (arith, to-none k, none-before (suc k) s .0)
-
-  -- one block more, of a later kind, or of one of these
-  to-out : (k m : ℕ) → k < kindOf s m → blocksTo k (suc m) ≡ blocksTo k m
-  unfolding blocksTo
-  to-out zero m h = refl
-  to-out (suc k) m h = omega (arith, to-out k m (omega arith), blocks-no (suc k) s m (omega arith))
-
-  to-in : (k m : ℕ) → 1 ≤ kindOf s m → kindOf s m ≤ k → blocksTo k (suc m) ≡ blocksTo k m + 1
-  unfolding blocksTo
-  to-in zero m lo hi = absurd (omega arith)
-  to-in (suc k) m lo hi = go (λ h. to-in k m lo h) (ℕ-discrete (kindOf s m) (suc k))
-    where
-      go : (kindOf s m ≤ k → blocksTo k (suc m) ≡ blocksTo k m + 1) → Dec (kindOf s m ≡ suc k)
-          → blocksTo k (suc m) + blocksBelow (suc k) s (suc m) ≡ blocksTo k m + blocksBelow (suc k) s m + 1
-      go less (yes e) = omega (arith, to-out k m (omega arith), blocks-yes (suc k) s m e)
-      go less (no d) = omega (arith, less (omega arith), blocks-no (suc k) s m d)
-
-  -- every block up to one of kind k is of a kind up to k
-  upto : (k m : ℕ) → m < n → kindOf s m ≤ k → blocksTo k (suc m) ≡ suc m
-  upto k zero l h = omega (arith, to-in k 0 (o .low 0 l) h, to-none k)
-  upto k (suc m) l h = omega (arith, to-in k (suc m) (o .low (suc m) l) h, upto k m (omega arith) (omega (arith, o .rises m l)))
-
-  all-before : (k m : ℕ) → m < n → kindOf s m ≤ k → blocksTo k m ≡ m
-  all-before k zero l h = to-none k
-  all-before k (suc m) l h = upto k m (omega arith) (omega (arith, o .rises m l))
-
-  -- and every block is of one of the kinds
-  all-kinds : blocksTo kinds n ≡ n
-  all-kinds = go n refl
-    where
-      go : (m : ℕ) → m ≡ n → blocksTo kinds m ≡ m
-      go zero e = to-none kinds
-      go (suc m) e = upto kinds m (omega arith) (o .high m (omega arith))
-
-  -- behind a block of a later kind, no more of these
-  to-frozen : (k b : ℕ) → b < n → k < kindOf s b → blocksTo k n ≡ blocksTo k b
-  unfolding blocksTo
-  to-frozen zero b l h = refl
-  to-frozen (suc k) b l h = omega (arith, to-frozen k b l (omega arith), frozen-end (suc k) b (omega arith) (λ q. h) .0)
-
-first-start : (s : List ℕ) → startBlock 1 s ≡ 0
-unfolding startBlock
-first-start s = refl
-
-start-step : (s : List ℕ) (k : ℕ) → startBlock k s ≤ startBlock (suc k) s
-unfolding startBlock
-start-step s zero = omega arith
-start-step s (suc k) = omega arith
-
-module _ (s : List ℕ) (o : Ordered s (blocks s)) where
   -- a kind takes the blocks that its rows need
-  pub kind-blocks : (k : ℕ) → blocksBelow k s (blocks s) ≡ blocksFor (rowCount k s)
-  kind-blocks k = let w = needed s (blocks s) o k (blocks s) (omega arith) in omega arith
+  kind-blocks : (k : ℕ) → cut k + blocksFor (rowCount k s) ≡ cut (suc k)
+  kind-blocks k = let w = needed k (blocks s) (omega arith) in omega (arith, blocks-are k (blocks s) (omega arith), parted k .end, parted (suc k) .end)
+
+  first-cut : (k : ℕ) → k ≤ 1 → cut k ≡ 0
+  first-cut k h = go (decLt 0 (cut k))
+    where
+      go : Dec (0 < cut k) → cut k ≡ 0
+      go (yes l) = absurd (omega (arith, parted k .below 0 l, o 0 (omega (arith, parted k .end)) .low))
+      go (no l) = omega arith
 
   -- a kind's first block comes behind the blocks of the kinds before it
-  start-to : (k : ℕ) → startBlock (suc k) s ≡ blocksTo s (blocks s) o k (blocks s)
-  unfolding startBlock blocksTo
-  start-to zero = refl
-  start-to (suc k) = omega (arith, start-to k, kind-blocks (suc k))
+  start-is : (k : ℕ) → startBlock k s ≡ cut k
+  unfolding startBlock
+  start-is zero = sym (first-cut 0 (omega arith))
+  start-is (suc zero) = sym (first-cut 1 (omega arith))
+  start-is (suc (suc k)) = omega (arith, start-is (suc k), kind-blocks (suc k))
 
   -- the blocks of all kinds are all there are
   pub start-all : startBlock (suc kinds) s ≡ blocks s
-  start-all = start-to kinds ∙ all-kinds s (blocks s) o
+  start-all = start-is (suc kinds) ∙ go (decLt (cut (suc kinds)) (blocks s))
+    where
+      go : Dec (cut (suc kinds) < blocks s) → cut (suc kinds) ≡ blocks s
+      go (yes l) = absurd (omega (arith, parted (suc kinds) .above (cut (suc kinds)) (omega arith) l, o (cut (suc kinds)) l .high))
+      go (no l) = omega (arith, parted (suc kinds) .end)
 
   -- a block's number is its kind's first block plus how many of its kind come before it
   pub at-start : (k b : ℕ) → b < blocks s → kindOf s b ≡ k → b ≡ startBlock k s + blocksBelow k s b
-  unfolding blocksTo
-  at-start zero b l e = absurd (omega (arith, o .low b l))
-  at-start (suc k) b l e =
-      omega (arith, start-to k, to-frozen s (blocks s) o k b l (omega arith), all-before s (blocks s) o (suc k) b l (omega arith))
-
-  -- and it comes before the next kind's first block
-  pub before-next : (k b : ℕ) → b < blocks s → kindOf s b ≡ suc k → b < startBlock (suc (suc k)) s
-  unfolding startBlock
-  before-next k b l e =
-      let p = at-start (suc k) b l e in
-      let g = grows-end s (blocks s) o (suc k) (suc b) l .0 in
-      omega (arith, blocks-yes (suc k) s b e, kind-blocks (suc k))
-
-  start-rises : (j d : ℕ) → startBlock j s ≤ startBlock (j + d) s
-  start-rises j zero = let e : j + 0 ≡ j = omega arith in rw e (omega arith)
-  start-rises j (suc d) = let e : j + suc d ≡ suc (j + d) = omega arith in rw e (omega (arith, start-rises j d, start-step s (j + d)))
+  at-start k b l e = omega (arith, start-is k, between k b l e .2)
 
   pub start-le : (j k : ℕ) → j ≤ k → startBlock j s ≤ startBlock k s
-  start-le j k l = let e : j + (k - j) ≡ k = omega arith in subst (λ (x : ℕ). startBlock j s ≤ startBlock x s) e (start-rises j (k - j))
+  start-le j k h = go (decLt (cut k) (cut j))
+    where
+      go : Dec (cut k < cut j) → startBlock j s ≤ startBlock k s
+      go (yes l) =
+          absurd (omega (arith, parted j .below (cut k) l, parted k .above (cut k) (omega arith) (omega (arith, parted j .end))))
+      go (no l) = omega (arith, start-is j, start-is k)
 
   -- the blocks from a kind's first to the next kind's first are of that kind
   pub kind-in : (k b : ℕ) → startBlock (suc k) s ≤ b → b < startBlock (suc (suc k)) s → k < kinds → kindOf s b ≡ suc k
-  kind-in k b lo hi below = go (ℕ-discrete (kindOf s b) (suc k)) (decLt (kindOf s b) (suc k))
-    where
-      l : b < blocks s
-      l = omega (arith, start-le (suc (suc k)) (suc kinds) (omega arith), start-all)
-
-      i : kindOf s b ≡ suc (kindOf s b - 1)
-      i = omega (arith, o .low b l)
-
-      go : Dec (kindOf s b ≡ suc k) → Dec (kindOf s b < suc k) → kindOf s b ≡ suc k
-      go (yes e) d = e
-      go (no e) (yes lt) = absurd (omega (arith, before-next (kindOf s b - 1) b l i, start-le (suc (suc (kindOf s b - 1))) (suc k) (omega (arith, o .low b l))))
-      go (no e) (no ge) = absurd (omega (arith, at-start (kindOf s b) b l refl, start-le (suc (suc k)) (kindOf s b) (omega arith)))
+  kind-in k b lo hi below = kind-between (suc k) b (omega (arith, start-is (suc k))) (omega (arith, start-is (suc (suc k)))) .1
 
   -- a block holds twelve of its kind's rows, or what is left of them
   pub count-in : (k b : ℕ) → b < blocks s → kindOf s b ≡ k → countOf s b ≡ min 12 (rowCount k s - 12 * blocksBelow k s b)
-  count-in k b l e = go (decLt (suc b) (blocks s)) (ℕ-discrete (kindOf s (suc b)) k)
+  unfolding rowsIn
+  count-in k b l e = go (between k b l e) (blocks-are k (blocks s) (omega arith)) (decLt (suc b) (cut (suc k)))
     where
-      one-more : countBelow k s (suc b) ≡ 12 * blocksBelow k s b + countOf s b
-      one-more = omega (arith, count-yes k s b e, full-at s (blocks s) o k b l e)
+      go : (cut k ≤ b) × (b < cut (suc k)) × (b ≡ cut k + blocksBelow k s b)
+          → blocksBelow k s (blocks s) + min (blocks s) (cut k) ≡ min (blocks s) (cut (suc k)) → Dec (suc b < cut (suc k))
+          → countOf s b ≡ min 12 (rowCount k s - 12 * blocksBelow k s b)
+      go p a (yes h) =
+          let q = kind-between k (suc b) (omega arith) h in
+          omega (arith, parted k .end, o b l .filled (q .0) (q .1 ∙ sym e), needed k (blocks s) (omega arith) .upper)
+      go p a (no h) =
+          let f : blocksBelow k s (blocks s) ≡ suc (blocksBelow k s b) = omega (arith, parted (suc k) .end) in
+          let c : rowCount k s ≡ 12 * blocksBelow k s b + countOf s b = rw (f, ← p .2) at (counts-are k (blocks s) (omega arith)) in
+          omega (arith, o b l .twelve)
 
-      go : Dec (suc b < blocks s) → Dec (kindOf s (suc b) ≡ k) → countOf s b ≡ min 12 (rowCount k s - 12 * blocksBelow k s b)
-      go (no last) d =
-          let n : blocks s ≡ suc b = omega arith in
-          let c : rowCount k s ≡ countBelow k s (suc b) = ap (countBelow k s) n in
-          omega (arith, one-more, o .twelve b l)
-      go (yes m) (yes q) =
-          omega (arith, one-more, o .filled b m (q ∙ sym e), count-yes k s (suc b) q, o .some (suc b) m, grows-end s (blocks s) o k (suc (suc b)) m .1)
-      go (yes m) (no q) =
-          let r = o .rises b m in
-          omega (arith, one-more, o .twelve b l, frozen-end s (blocks s) o k (suc b) (omega arith) (λ h. omega arith) .1)
+  -- row i of a kind stands in one of the kind's blocks, in a used record
+  pub lying : (k i : ℕ) → i < rowCount k s → Lies s k i
+  lying k i l =
+      let p = kind-between k (startBlock k s + i / 12) (omega (arith, start-is k)) (omega (arith, start-is k, kind-blocks k)) in
+      let q = at-start k (startBlock k s + i / 12) (p .0) (p .1) in
+      record { below = p .0; kind = p .1; used = omega (arith, count-in k (startBlock k s + i / 12) (p .0) (p .1)) }
+
+  -- a block of parameters is the only one, of one row
+  pub only-row : (b : ℕ) → b < blocks s → kindOf s b ≡ parametersKind → rowCount parametersKind s ≡ 1
+  only-row b l e = go (blocksBelow parametersKind s b) refl
+    where
+      go : (d : ℕ) → blocksBelow parametersKind s b ≡ d → rowCount parametersKind s ≡ 1
+      go zero q = omega (arith, count-in parametersKind b l e, o b l .one e)
+      go (suc d) q =
+          let p = between parametersKind b l e in
+          let h = kind-between parametersKind (cut parametersKind + d) (omega arith) (omega arith) in
+          absurd (omega (arith, o (cut parametersKind + d) (h .0) .inner (h .1)))

@@ -106,6 +106,7 @@ fn harvest(i: usize) -> Field
 {
     match i {
         0 => ID,
+        1 => AMOUNT,
         2 => TONNES_PER_M3,
         3 => FUELWOOD,
         _ => AMOUNT,

@@ -43,7 +43,7 @@ fn rule_records(bytes: &[u8]) -> Ruling
     requires { ⌜ length (now bytes) < 2 ^ 24 ⌝ }
     ensures { λ r. ⌜ r ≡ ruling (recordRules (edition (now (bytes .entry)) 0) (filed (now (bytes .entry)))) ⌝ }
 {
-    let id = records::first_bad_id(bytes);
+    let id = records::first_broken(bytes, 5);
     if let Spot::At(place) = id {
         return Ruling::Broken { number: 5, place };
     }

@@ -3,7 +3,7 @@
 use Prim.Native.Nat.{ℕ}
 use mathlib.Core.List.{List, [], _∷_, _++_}
 use lib.IntN.{ℤ, pos}
-use Rattle.wide.specs.Signs.{Holds}
+use Rattle.wide.specs.Signs.{signedOf}
 use Rattle.wide.specs.declared.signed.Signed.{Signed}
 use Rattle.worksheets.specs.Sheets.{Sheet51, Sheet52, Sheet53, Sheets}
 
@@ -54,9 +54,7 @@ listed v = listed51 (v .stocks) ++ listed52 (v .conversion) ++ listed53 (v .gase
 abbrev pub figureCount : ℕ
 figureCount = 17
 
--- a row of numbers holds the values of a list of figures, each in its one form
-abbrev pub Lists : List Signed → List Figure → Type 0
-Lists [] [] = Unit {0}
-Lists (s ∷ ss) (f ∷ fs) = Holds s (f .value) × Lists ss fs
-Lists [] (f ∷ fs) = ⊥
-Lists (s ∷ ss) [] = ⊥
+-- the values of a list of figures, each in its one form
+abbrev pub valuesOf : List Figure → List Signed
+valuesOf [] = []
+valuesOf (f ∷ fs) = signedOf (f .value) ∷ valuesOf fs

@@ -1,16 +1,17 @@
 // The figures as one list, in the order in which they are printed.
-ghost use Rattle.worksheets.specs.Answers.{Plain, figuresSaid};
-ghost use Rattle.listed.specs.Listed.{listed, Lists};
+ghost use mathlib.Core.Path.{_≡_};
+ghost use Rattle.worksheets.specs.Answers.{InForm, figuresSaid};
+ghost use Rattle.listed.specs.Listed.{listed, valuesOf};
 use wide::signed::Signed;
 use worksheets::sheets::Figures;
 
 // How many figures there are.
 pub const FIGURES: usize = 17;
 
-// Each figure's value with its sign, in the list's order. Struct literals and no calls: so its proof is one line.
+// Each figure's value with its sign, in the list's order. Struct literals and no calls: so its proof is one law.
 pub fn list(f: Figures) -> [Signed; FIGURES]
-    requires { ⌜ Plain (f .stocks) ⌝ }
-    ensures { λ r. ⌜ Lists r (listed (figuresSaid f)) ⌝ }
+    requires { ⌜ InForm f ⌝ }
+    ensures { λ r. ⌜ r ≡ valuesOf (listed (figuresSaid f)) ⌝ }
 {
     let size = f.stocks.e.0;
     let e = Signed { below: false, size };

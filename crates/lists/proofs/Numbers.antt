@@ -1,20 +1,21 @@
 -- The rules over the records of one list, by the list's own numbers. Assumes nothing.
 use Prim.Native.Nat.{ℕ, suc, _+_, _-_, _*_, _%_, _≤_, _<_}
 use mathlib.Core.Path.{_≡_, refl, sym, ap₂, _∙_}
-use mathlib.Core.Bool.{Bool, true, false, cond, not, _&&_, _||_, and-false}
+use mathlib.Core.Bool.{true, false, not, _&&_, _||_, and-false}
 use mathlib.Core.List.{List, [], _∷_}
 use native.Mathlib.Nat.{add-zero}
 use native.Mathlib.Numerals.{add-one}
 use native.Mathlib.Omega.{arith}
-use lib.Dec.{ltb, leb, eqb, lit<}
+use lib.Dec.{ltb, leb, eqb}
 use lib.ListN.{length, getD, drop, drop-of-length-le}
 use lib.Seq.{getD-take, getD-drop, drop-cons, drop-drop}
 use borrow.Author.Tests.{lt-ltb, le-ltb, le-leb, eq-eqb, ne-eqb, ltb-false, eqb-true, not-false}
 use Rattle.form.specs.Layout.{field, Layout, kinds, parametersKind, layout, numbersOf, aboveLimit, fieldAt}
-use Rattle.form.specs.Records.{RowTest, idOf, overspent, grown, fractionsAbove, densityGrown, badId, brokenBy, testNumbered}
+use Rattle.form.specs.Records.{RowTest, idOf, overspent, grown, badId, brokenBy, testNumbered}
 use Rattle.form.proofs.Tests.{or-none}
 use Rattle.form.proofs.EachKind.{parameters-last}
 use Rattle.filing.specs.Lists.{total, rowsIn, rowOf, blocksOf, filedList}
+use Rattle.filing.proofs.Choice.{either}
 use Rattle.lists.specs.Rules.{badList, badLengths, badAt, Good, blocksFrom}
 
 -- number i of row j
@@ -57,26 +58,12 @@ module _ (r : List ℕ) (j : ℕ) where
 -- ---- the rules of one row by their numbers
 
 module _ (n e kind : ℕ) (row : List ℕ) where
-  pub six : n ≡ 6 → testNumbered n e kind row ≡ aboveLimit (layout kind) row
-  six h = rw h
-
-  pub seven : kind ≡ 1 → n ≡ 7 → testNumbered n e kind row ≡ overspent row
-  seven k h = rw (h, k)
-
-  pub eight : kind ≡ 1 → n ≡ 8 → testNumbered n e kind row ≡ grown row
-  eight k h = rw (h, k)
-
   -- 7 and 8 are about conversion rows alone
   pub no-conversion : (n ≡ 6 → ⊥) → (kind ≡ 1 → ⊥) → testNumbered n e kind row ≡ false
-  no-conversion h k = rw (ne-eqb n 6 h) (go (eqb n 7) (eqb n 8))
-    where
-      go : (b c : Bool) → cond b fractionsAbove (cond c densityGrown (λ edition kind r. false)) e kind row ≡ false
-      go true c = rw (ne-eqb kind 1 k)
-      go false true = rw (ne-eqb kind 1 k)
-      go false false = refl
-
-  pub no-rule : (n ≡ 6 → ⊥) → (n ≡ 7 → ⊥) → (n ≡ 8 → ⊥) → testNumbered n e kind row ≡ false
-  no-rule h₆ h₇ h₈ = rw (ne-eqb n 6 h₆, ne-eqb n 7 h₇, ne-eqb n 8 h₈)
+  no-conversion h k =
+      rw (ne-eqb n 6 h)
+      (either (λ (t : RowTest). t e kind row ≡ false) (eqb n 7) (λ q. rw (ne-eqb kind 1 k))
+      (λ q. either (λ (t : RowTest). t e kind row ≡ false) (eqb n 8) (λ r. rw (ne-eqb kind 1 k)) (λ r. refl)))
 
 -- ---- the limits, field by field
 

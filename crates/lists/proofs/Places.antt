@@ -21,6 +21,7 @@ use Rattle.form.specs.declared.Spot.{Spot}
 use Rattle.form.specs.declared.Spot.the-variants.{At, Nowhere}
 use Rattle.form.proofs.Search.{first-at, first-none, first-is, first-is-none, first-found, first-rest}
 use Rattle.filing.specs.Lists.{Lists, rowsIn, blocksOf, filedList, behind, filedFrom}
+use Rattle.filing.proofs.Choice.{either}
 use Rattle.lists.specs.Rules.{shifted, firstOf}
 
 -- ---- a record's rules read only what stands at its place and, for its id, at the place before
@@ -35,33 +36,29 @@ module _ (f g : Filed) (k : ℕ) (kinds : (j : ℕ) → f .kind j ≡ k) (above 
   unfolding behind brokenBy
   front-row e t j h = simp (lt-ltb j (f .places) h)
 
+  -- a place behind f is one of g
+  past : (i : ℕ) → (ltb (f .places + i) (f .places) ≡ false) × (f .places + i - f .places ≡ i)
+  past i = (le-ltb (f .places + i) (f .places) (omega arith), add-sub-cancel-left (f .places) i)
+
   -- behind: the records of g, the first of which has no record of its kind before it
   back-id : (i : ℕ) → badId (behind f g) (f .places + i) ≡ badId g i
   unfolding behind badId
   back-id zero =
-      let o : ltb (f .places + 0) (f .places) ≡ false = le-ltb (f .places + 0) (f .places) (omega arith) in
-      let z : f .places + 0 - f .places ≡ 0 = omega arith in
       ⊎-elim
-      (λ e. simp (o, z, le-ltb 0 (f .places + 0) (omega arith), and-false))
+      (λ e. simp (past 0 .0, past 0 .1, le-ltb 0 (f .places + 0) (omega arith), and-false))
       (λ h.
       let before : ℕ = f .places + 0 - 1 in
       let d = ne-eqb k (g .kind 0) (λ e. omega (arith, above 0)) in
-      simp (o, z, lt-ltb before (f .places) (omega arith), kinds before, d, and-false))
+      simp (past 0 .0, past 0 .1, lt-ltb before (f .places) (omega arith), kinds before, d, and-false))
       (eq-zero-or-pos (f .places))
   back-id (suc i) =
-      let o : ltb (f .places + suc i) (f .places) ≡ false = le-ltb (f .places + suc i) (f .places) (omega arith) in
       let b : f .places + suc i - 1 ≡ f .places + i = omega arith in
-      let o′ : ltb (f .places + i) (f .places) ≡ false = le-ltb (f .places + i) (f .places) (omega arith) in
-      let z : f .places + suc i - f .places ≡ suc i = omega arith in
-      let z′ : f .places + i - f .places ≡ i = omega arith in
       let s : suc i - 1 ≡ i = omega arith in
-      let t = lt-ltb 0 (f .places + suc i) (omega arith) in
-      let t′ = lt-ltb 0 (suc i) (omega arith) in
-      simp (b, o, o′, z, z′, s, t, t′)
+      simp (b, past i .0, past (suc i) .0, past i .1, past (suc i) .1, s, lt-ltb 0 (f .places + suc i) (omega arith), lt-ltb 0 (suc i) (omega arith))
 
   back-row : (e : ℕ) (t : RowTest) (i : ℕ) → brokenBy (behind f g) e t (f .places + i) ≡ brokenBy g e t i
   unfolding behind brokenBy
-  back-row e t i = rw (le-ltb (f .places + i) (f .places) (omega arith), add-sub-cancel-left (f .places) i)
+  back-row e t i = rw (past i .0, past i .1)
 
   front : (n e j : ℕ) → j < f .places → testOf n e (behind f g) j ≡ testOf n e f j
   front n e j h = ap₂ (λ (x y : Bool). cond (eqb n 5) x y) (front-id j h) (front-row e (testNumbered n) j h)
@@ -72,11 +69,7 @@ module _ (f g : Filed) (k : ℕ) (kinds : (j : ℕ) → f .kind j ≡ k) (above 
 -- an unused place breaks no rule
 pub unused : (f : Filed) (n e j : ℕ) → f .used j ≡ false → testOf n e f j ≡ false
 unfolding badId brokenBy
-unused f n e j u = rw u (same (eqb n 5))
-  where
-    same : (b : Bool) → cond b false false ≡ false
-    same true = refl
-    same false = refl
+unused f n e j u = rw u (either (λ (x : Bool). x ≡ false) (eqb n 5) (λ t. refl) (λ t. refl))
 
 -- ---- the lowest place, part by part
 
@@ -122,21 +115,12 @@ pub shift-zero : (s : Spot) → shifted 0 s ≡ s
 shift-zero (At i) = ap (λ (n : ℕ). At n) (zero-add i)
 shift-zero Nowhere = refl
 
--- what holds of the kinds of both holds of all
-pub kind-behind : (P : ℕ → Type 0) (f g : Filed) → ((j : ℕ) → P (f .kind j)) → ((i : ℕ) → P (g .kind i)) → (j : ℕ) → P (behind f g .kind j)
-unfolding behind
-kind-behind P f g hf hg j = go (ltb j (f .places))
-  where
-    go : (b : Bool) → P (cond b (f .kind j) (g .kind (j - f .places)))
-    go true = hf j
-    go false = hg (j - f .places)
-
 -- the lists of a kind and those after it have no lower kind
 pub kinds-from : (k : ℕ) (l : Lists) (j : ℕ) → k ≤ filedFrom k l .kind j
-unfolding filedFrom filedList
+unfolding filedFrom filedList behind
 kinds-from k [] j = omega arith
 kinds-from k (r ∷ l) j =
-    kind-behind (λ x. k ≤ x) (filedList k r) (filedFrom (suc k) l) (λ i. omega arith) (λ i. omega (arith, kinds-from (suc k) l i)) j
+    either (λ (x : ℕ). k ≤ x) (ltb j (filedList k r .places)) (λ t. omega arith) (λ t. omega (arith, kinds-from (suc k) l (j - filedList k r .places)))
 
 -- the lowest place among the lists from one on, the first of them standing at `start`
 module _ (n e : ℕ) (l : Lists) (i start : ℕ) (h : i < length l) where

@@ -1,9 +1,9 @@
 -- A rule tried over the lists of an area, kind after kind. Assumes nothing.
---     scan-part     the part of the area that is tried in a turn is the list of its kind
+--     part-in, part-is, part-long, part-next    the part of an area that is a kind's list
 --     scan-found, scan-more, scan-all    a place is found there, or the next kind is tried, or none is left
-use Prim.Native.Nat.{ℕ, zero, suc, _+_, _-_, _*_, _≤_, _<_}
-use mathlib.Core.Path.{_≡_, refl, sym, ap, _∙_}
-use mathlib.Core.List.{List, [], _∷_}
+use Prim.Native.Nat.{ℕ, suc, _+_, _-_, _*_, _≤_, _<_}
+use mathlib.Core.Path.{_≡_, sym, ap, _∙_}
+use mathlib.Core.List.{List, []}
 use native.Mathlib.Numerals.{add-one}
 use native.Mathlib.Omega.{arith}
 use lib.ListN.{length, getD, take, drop, drop-of-length-le}
@@ -15,6 +15,29 @@ use Rattle.filing.specs.Lists.{cut, total, rowsIn, blocksOf, filedList, filedFr
 use Rattle.filing.proofs.Cut.{cut-length, part-at, cut-long, total-none, total-next, total-part}
 use Rattle.lists.specs.Rules.{Good, shifted, firstOf}
 use Rattle.lists.proofs.Places.{shift-zero, first-kinds}
+
+-- how many kinds there are, as a loop over them carries it, so that what it asks of their number is at hand
+abbrev pub KindsAre : Type 0
+KindsAre = kinds ≡ 4
+
+-- the part of an area that is kind k + 1's list, of m numbers from `from` on
+module _ (area : List ℕ) (k : ℕ) {lengths : List ℕ} {from m : ℕ} (g : Good lengths (length area)) (at : from ≡ total (take k lengths)) (h : k < kinds)
+    (em : m ≡ getD lengths k 0) where
+  pub in-lengths : k < length lengths
+  in-lengths = omega (arith, g .each)
+
+  pub part-in : from + m ≤ length area
+  part-in = omega (arith, g .all, total-next lengths k in-lengths, total-part lengths (k + 1))
+
+  pub part-is : take (from + m - from) (drop from area) ≡ getD (cut lengths area) k []
+  part-is = part-at lengths area k in-lengths at em
+
+  pub part-long : length (take (from + m - from) (drop from area)) ≡ m
+  part-long = ap length part-is ∙ cut-long lengths area (omega (arith, g .all)) k in-lengths ∙ sym em
+
+  -- where the next begins
+  pub part-next : from + m ≡ total (take (k + 1) lengths)
+  part-next = omega (arith, total-next lengths k in-lengths)
 
 -- the lists of the first k kinds have been tried; the next begins at `from` in the area, and its first record would stand at `start`
 pub record Scanning (n e : ℕ) (lengths area : List ℕ) (from start k : ℕ) : Type 0 where
@@ -29,29 +52,18 @@ scan-none n e lengths area =
 
 module _ {n e : ℕ} {lengths area : List ℕ} {from start k m : ℕ} (g : Good lengths (length area)) (s : Scanning n e lengths area from start k) (h : k < kinds)
     (em : m ≡ getD lengths k 0) where
-  in-lengths : k < length lengths
-  in-lengths = omega (arith, g .each)
-
-  -- the part is in the area
-  pub scan-in : from + m ≤ length area
-  scan-in = omega (arith, s .at, g .all, total-next lengths k in-lengths, total-part lengths (k + 1))
-
-  pub scan-part : take (from + m - from) (drop from area) ≡ getD (cut lengths area) k []
-  scan-part = part-at lengths area k in-lengths (s .at) em
-
-  part-long : length (getD (cut lengths area) k []) ≡ m
-  part-long = cut-long lengths area (omega (arith, g .all)) k in-lengths ∙ sym em
-
   pub scan-few : rowsIn (k + 1) (length (take (from + m - from) (drop from area))) ≤ 32
-  scan-few = rw (scan-part, part-long, em, add-one k) (g .few k h)
+  scan-few = rw (part-long area k g (s .at) h em, em, add-one k) (g .few k h)
 
   next : firstOf n e (filedLists (cut lengths area))
       ≡ orElse (shifted start (firstOf n e (filedList (k + 1) (take (from + m - from) (drop from area)))))
       (shifted (start + 12 * blocksOf (k + 1) m) (firstOf n e (filedFrom (suc (k + 1)) (drop (k + 1) (cut lengths area)))))
   next =
+      let i = in-lengths area k g (s .at) h em in
       s .so-far
-      ∙ rw (scan-part, add-one k)
-      (rw part-long at (first-kinds n e (cut lengths area) k start (omega (arith, cut-length lengths area, in-lengths))))
+      ∙ rw (add-one k)
+      (rw (← part-is area k g (s .at) h em, part-long area k g (s .at) h em) at
+      (first-kinds n e (cut lengths area) k start (omega (arith, cut-length lengths area))))
 
   module _ {r : Spot} (er : r ≡ shifted start (firstOf n e (filedList (k + 1) (take (from + m - from) (drop from area))))) where
     pub scan-found : {i : ℕ} → r ≡ At i → At i ≡ firstOf n e (filedLists (cut lengths area))
@@ -62,7 +74,7 @@ module _ {n e : ℕ} {lengths area : List ℕ} {from start k m : ℕ} (g : Good 
         let few : rowsIn (k + 1) m ≤ 32 = rw (add-one k, em) (g .few k h) in
         record {
           within = omega arith;
-          at = omega (arith, s .at, total-next lengths k in-lengths);
+          at = part-next area k g (s .at) h em;
           low = omega arith;
           so-far = next ∙ rw (← er, e′, ← ep);
         }

@@ -22,7 +22,7 @@ stockDay = 1 ∷ 0 ∷ 680 ∷ 1000 ∷ 500 ∷ []
 abbrev harvestDay : List ℕ
 harvestDay = 1 ∷ 500 ∷ 950 ∷ 300 ∷ 0 ∷ []
 
-abbrev parametersDay : List ℕ
+abbrev pub parametersDay : List ℕ
 parametersDay = 500 ∷ 12 ∷ 60 ∷ 10 ∷ 7 ∷ 121 ∷ []
 
 -- in one area, and the lengths

@@ -1,35 +1,34 @@
 -- DEMAND 1. "Every input of every length gets its answer, or one refusal number with its place, chosen by the paper's fixed order: for reading, for the sheets,
 -- for writing. A refusal carries no figures, and nothing lent has changed."
-use Prim.Native.Nat.{ℕ, _+_, _*_, _<_}
+use Prim.Native.Nat.{ℕ}
 use mathlib.Core.Path.{_≡_, refl, ap}
-use mathlib.Core.List.{List, [], _∷_, _++_, flatMap}
+use mathlib.Core.List.{List, [], _∷_, flatMap}
 use native.Mathlib.Omega.{arith}
 use lib.ListN.{length}
-use Rattle.form.specs.Ruling.{Rule, ruling}
 use Rattle.form.specs.Verdict.{blockRules, rules, rows, countsOf, verdictBy, verdictOf}
 use Rattle.form.specs.declared.Ruling.{Ruling}
-use Rattle.form.specs.declared.Ruling.the-variants.{Clean, Broken}
-use Rattle.form.specs.declared.Verdict.{Verdict}
+use Rattle.form.specs.declared.Ruling.the-variants.{Broken}
 use Rattle.form.specs.declared.Verdict.the-variants as verdict
-use Rattle.form.proofs.Order.{Least, AllKept, least-ruling, clean-ruling}
-use Rattle.filing.specs.Lists.{Lists, cut}
+use Rattle.form.proofs.EachKind.{few-kinds}
+use Rattle.filing.specs.Lists.{cut}
 use Rattle.lists.specs.Rules.{listRules}
 use Rattle.rows.specs.Reading.{readRules, readAnswer, roomAfter}
 use Rattle.rows.specs.Writing.{written, writeRules, writtenBy, writeAnswer, bytesAfter}
-use Rattle.rows.specs.declared.Written.{Written}
 use Rattle.rows.specs.declared.Written.the-variants as write
 use Rattle.worksheets.specs.Sheets.{Sheets, figuresOf}
-use Rattle.worksheets.specs.Answers.{Outcome, worked, refusal, outcomeBy, outcomeOf}
+use Rattle.worksheets.specs.Answers.{worked, refusal, outcomeBy, outcomeOf}
 use Rattle.doubles.specs.Subtotals.{subtotalsOf, answerBy, answerOf}
-use Rattle.doubles.specs.declared.Answer.{Answer}
 use Rattle.doubles.specs.declared.Answer.the-variants as doubles
 use Rattle.listed.specs.Listed.{listed}
-use Rattle.report.specs.Lines.{lineOf, refusedLine, textOf, printed, putOf, roomAfter as textAfter}
-use Rattle.report.specs.declared.Put.the-variants.{Done, Short}
-use Rattle.tabled.specs.Figures.{figuresRules, figuresAfter}
-use Rattle.door.specs.Door.{codeOf, judgeRules, countsAfter, subtotalRules, bitsAfter}
-use Rattle.door.specs.Rows.{readRulesC, rowsAfter, writeRulesC, blocksAfter, sizeAfter}
-use Rattle.promises.specs.Order.{numbers, ByOrder, Faithful, by-order}
+use Rattle.report.specs.Lines.{lineOf, refusedLine, textOf, printed, roomAfter as textAfter}
+use Rattle.report.specs.declared.Put.the-variants.{Short}
+use Rattle.tabled.specs.Figures.{figuresRules, figuresAnswer, figuresAfter}
+use Rattle.door.specs.Door.{codeOf, judgeRules, judgeCall, countsAfter, subtotalRules, subtotalCall, bitsAfter}
+use Rattle.door.specs.Rows.{readRulesC, readCall, rowsAfter, writeRulesC, writeCall, blocksAfter, sizeAfter}
+use Rattle.door.proofs.Codes.{verdict-told, bounded, bounded-then, bounded-bytes, bounded-lists}
+use Rattle.door.proofs.Writing.{written-told}
+use Rattle.steps.proofs.Told.{figures-told, doubles-told}
+use Rattle.promises.specs.Order.{numbers, ByOrder, by-order, Coded, by-code}
 
 -- ---- the orders
 -- "Sheets and doubles: 1 to 8"
@@ -48,62 +47,32 @@ unfolding numbers listRules
 write-numbers lengths rows room = refl
 
 -- ---- the answers
-verdict-faithful : (s : List ℕ) → Faithful (verdictBy s)
-verdict-faithful s = record {
-  same = λ n p m q e. (let a : n ≡ m = cc in let b : p ≡ q = cc in cc);
-  other = λ n p e. (let z : _≡_ {A = ℕ} 0 1 = cc in omega arith);
-}
-
 -- judge: the four counts, or a refusal
 pub judge-by-order : (s : List ℕ) → ByOrder (rules s) (λ n p. verdictOf s ≡ verdict.Refused n p) (verdictOf s ≡ verdict.Accepted (countsOf s))
 unfolding verdictOf
-judge-by-order s = by-order (verdictBy s) (verdict-faithful s) (rules s)
+judge-by-order s = by-order (verdictBy s) (verdict-told s) (rules s)
 
 -- read: the four counts, or a refusal
 pub read-by-order : (s room : List ℕ) → ByOrder (readRules s room) (λ n p. readAnswer s room ≡ verdict.Refused n p) (readAnswer s room ≡ verdict.Accepted (countsOf s))
 unfolding readAnswer
-read-by-order s room = by-order (verdictBy s) (verdict-faithful s) (readRules s room)
+read-by-order s room = by-order (verdictBy s) (verdict-told s) (readRules s room)
 
 -- figures: the sheets, or a refusal
-abbrev figuresBy : List ℕ → Ruling → Outcome
-figuresBy s u = outcomeBy s (verdictBy s u)
-
-figures-faithful : (s : List ℕ) → Faithful (figuresBy s)
-figures-faithful s = record {
-  same = λ n p m q e. (let a : n ≡ m = cc in let b : p ≡ q = cc in cc);
-  other = λ n p e. (let z : _≡_ {A = ℕ} 0 1 = cc in omega arith);
-}
-
 pub figures-by-order : (s : List ℕ) → ByOrder (rules s) (λ n p. outcomeOf s ≡ refusal n p) (outcomeOf s ≡ worked (figuresOf s))
 unfolding verdictOf
-figures-by-order s = by-order (figuresBy s) (figures-faithful s) (rules s)
+figures-by-order s = by-order (λ (u : Ruling). outcomeBy s (verdictBy s u)) (figures-told s) (rules s)
 
 -- subtotals: the three doubles, or a refusal
-abbrev doublesBy : List ℕ → Ruling → Answer
-doublesBy s u = answerBy s (verdictBy s u)
-
-doubles-faithful : (s : List ℕ) → Faithful (doublesBy s)
-doubles-faithful s = record {
-  same = λ n p m q e. (let a : n ≡ m = cc in let b : p ≡ q = cc in cc);
-  other = λ n p e. (let z : _≡_ {A = ℕ} 0 1 = cc in omega arith);
-}
-
 pub subtotals-by-order : (s : List ℕ) → ByOrder (rules s) (λ n p. answerOf s ≡ doubles.Refused n p) (answerOf s ≡ doubles.Figures (subtotalsOf (rows 1 s)))
 unfolding verdictOf
-subtotals-by-order s = by-order (doublesBy s) (doubles-faithful s) (rules s)
+subtotals-by-order s = by-order (λ (u : Ruling). answerBy s (verdictBy s u)) (doubles-told s) (rules s)
 
 -- write: the number of bytes, or a refusal
-written-faithful : (l : Lists) → Faithful (writtenBy 1 l)
-written-faithful l = record {
-  same = λ n p m q e. (let a : n ≡ m = cc in let b : p ≡ q = cc in cc);
-  other = λ n p e. (let z : _≡_ {A = ℕ} 0 1 = cc in omega arith);
-}
-
 pub write-by-order : (lengths rows room : List ℕ)
     → ByOrder (writeRules 1 lengths rows room) (λ n p. writeAnswer 1 lengths rows room ≡ write.Refused n p)
     (writeAnswer 1 lengths rows room ≡ write.Done (length (written 1 (cut lengths rows))))
 unfolding writeAnswer
-write-by-order lengths rows room = by-order (writtenBy 1 (cut lengths rows)) (written-faithful (cut lengths rows)) (writeRules 1 lengths rows room)
+write-by-order lengths rows room = by-order (writtenBy 1 (cut lengths rows)) (written-told (cut lengths rows)) (writeRules 1 lengths rows room)
 
 -- ---- from C
 -- "from C, then 11 and last 9"
@@ -127,16 +96,23 @@ pub c-write-numbers : (rows lengths room size : List ℕ) → numbers (writeRule
 unfolding numbers listRules
 c-write-numbers rows lengths room size = refl
 
--- "0; or 1,000 times the refusal number plus the place": of any list of rules, so of each C function's
-pub code-refused : (rs : List Rule) (n p : ℕ) → Least rs n p → codeOf (ruling rs) ≡ 1000 * n + p
-code-refused rs n p l = ap codeOf (least-ruling l)
+-- "It gets back 0; or it gets back 1,000 times the refusal number plus the place"
+pub c-judge-by-order : (s counts : List ℕ) → ByOrder (judgeRules s counts) (Coded (codeOf (judgeCall s counts))) (codeOf (judgeCall s counts) ≡ 0)
+c-judge-by-order s counts = by-code (bounded-then (rules s) _ (bounded-bytes s) (bounded (omega arith)))
 
-pub code-done : (rs : List Rule) → AllKept rs → codeOf (ruling rs) ≡ 0
-code-done rs k = ap codeOf (clean-ruling k)
+pub c-subtotal-by-order : (s : List ℕ) (code : ℕ) (room : List ℕ)
+    → ByOrder (subtotalRules s code room) (Coded (codeOf (subtotalCall s code room))) (codeOf (subtotalCall s code room) ≡ 0)
+c-subtotal-by-order s code room = by-code (bounded-then (rules s) _ (bounded-bytes s) (bounded (omega arith)))
 
--- every place is below 1,000, so that a code is one refusal's alone
-pub code-one : (n p m q : ℕ) → p < 1000 → q < 1000 → 1000 * n + p ≡ 1000 * m + q → (n ≡ m) × (p ≡ q)
-code-one n p m q h k e = (omega arith, omega arith)
+pub c-figures-by-order : (s room : List ℕ) → ByOrder (figuresRules s room) (Coded (codeOf (figuresAnswer s room))) (codeOf (figuresAnswer s room) ≡ 0)
+c-figures-by-order s room = by-code (bounded-then (rules s) _ (bounded-bytes s) (bounded (omega arith)))
+
+pub c-read-by-order : (s rows counts : List ℕ) → ByOrder (readRulesC s rows counts) (Coded (codeOf (readCall s rows counts))) (codeOf (readCall s rows counts) ≡ 0)
+c-read-by-order s rows counts = by-code (bounded-then (rules s) _ (bounded-bytes s) (bounded (omega (arith, few-kinds))))
+
+pub c-write-by-order : (rows lengths room size : List ℕ)
+    → ByOrder (writeRulesC rows lengths room size) (Coded (codeOf (writeCall rows lengths room size))) (codeOf (writeCall rows lengths room size) ≡ 0)
+c-write-by-order rows lengths room size = by-code (bounded-then (listRules 1 lengths rows) _ (bounded-lists lengths rows) (bounded (omega arith)))
 
 -- ---- "nothing lent has changed"
 pub c-judge-unchanged : (s counts : List ℕ) (n p : ℕ) → countsAfter s counts (Broken n p) ≡ counts

@@ -1,16 +1,10 @@
 -- DEMAND 2. "Figures are the 1996 Workbook's columns, kept as exact whole numbers and rounded once, at the final tonne. Good rows written as a return read back as
 -- those rows; an accepted return, read and written again, is the same bytes."
-use Prim.Native.Nat.{ℕ, suc, _+_, _-_, _*_, _/_, _%_, _^_, _<_, _≤_}
-use mathlib.Core.Path.{_≡_, refl, sym, ap, subst, _∙_}
-use mathlib.Core.Bool.{Bool, true, false, cond}
-use mathlib.Core.List.{List, [], _∷_, _++_}
-use native.Mathlib.Nat.{mul-suc, div-add-mod, mod-lt}
-use native.Mathlib.Numerals.{add-one}
-use native.Mathlib.Omega.{arith}
-use borrow.Author.Tests.{ltb-true, ltb-false}
+use Prim.Native.Nat.{ℕ, suc, _+_, _-_, _*_, _^_, _<_, _≤_}
+use mathlib.Core.Path.{_≡_, refl}
+use mathlib.Core.List.{List}
 use lib.ListN.{length, getD}
-use lib.Dec.{ltb}
-use lib.IntN.{ℤ, pos, negsuc, negℤ, _-ℤ_, _*ℤ_}
+use lib.IntN.{pos, negsuc, negℤ, _-ℤ_, _*ℤ_}
 use Rattle.form.specs.Layout.{kinds}
 use Rattle.form.specs.Bytes.{byteAt}
 use Rattle.form.specs.Records.{areaOf, before, after, onsite, onsiteOxidised, onsiteCarbon, offsite, offsiteOxidised, offsiteCarbon, tenYearArea, tenYearBefore, tenYearAfter, decay, decayCarbon}
@@ -22,10 +16,11 @@ use Rattle.rows.specs.Reading.{readAnswer, onFront, roomAfter, lengthsOf}
 use Rattle.rows.specs.Writing.{writeAnswer, bytesAfter}
 use Rattle.rows.specs.declared.Written.the-variants.{Done}
 use Rattle.trips.proofs.Again.{returned, read-accepted, read-counts, read-rows, leftBehind, write-done, write-same}
-use Rattle.wide.specs.Rounding.{settled, nearest}
+use Rattle.wide.specs.Rounding.{nearest}
 use Rattle.wide.specs.Signs.{nearestZ}
 use Rattle.totals.specs.Columns.{sumOf, rate, amount, stockCarbon, commercial, tonnesPerM3, fuelwood, otherUse, uptakePart, harvestPart, clearedPart, onsitePart, offsitePart, decayPart}
 use Rattle.worksheets.specs.Sheets.{Sheets, figuresOf, given, stocksOf, conversionOf, gasesOf}
+use Rattle.steps.proofs.Rounds.{nearest-between}
 
 -- "5-1", as 01 has it; the parameter row gives N
 pub record Sheet5-1 (s : List ℕ) (v : Sheets) : Type 0 where
@@ -71,16 +66,8 @@ pub record Rounded (x d q : ℕ) : Type 0 where
   pub reaches : 2 * (d * q) ≤ 2 * x + d
   pub passes-not : 2 * x + d < 2 * (d * q) + 2 * d
 
-settled-rounds : (b : Bool) (x d q r : ℕ) → ltb (2 * r) d ≡ b → d * q + r ≡ x → r < d → Rounded x d (cond b q (suc q))
-settled-rounds true x d q r e m l = let h = ltb-true (2 * r) d e in record { reaches = omega arith; passes-not = omega arith }
-settled-rounds false x d q r e m l =
-    let h = ltb-false (2 * r) d e in
-    let k : d * suc q ≡ d * q + d = mul-suc d q in
-    record { reaches = omega arith; passes-not = omega arith }
-
 pub nearest-rounds : (x d : ℕ) → 0 < d → Rounded x d (nearest x d)
-unfolding settled
-nearest-rounds x d h = subst (λ (y : ℕ). Rounded x d (cond (ltb (2 * (x % d)) d) (x / d) y)) (sym (add-one (x / d))) (settled-rounds (ltb (2 * (x % d)) d) x d (x / d) (x % d) refl (div-add-mod x d) (mod-lt x h))
+nearest-rounds x d h = let b = nearest-between x d h in record { reaches = b .0; passes-not = b .1 }
 
 -- below zero the size is rounded, so a half goes away from zero there too
 pub nearest-below : (n d : ℕ) → nearestZ (negsuc n) d ≡ negℤ (pos (nearest (suc n) d))

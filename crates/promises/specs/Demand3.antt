@@ -8,7 +8,6 @@ use Rattle.form.specs.Verdict.{rows, rowCount, verdictOf}
 use Rattle.form.specs.declared.Counts.{Counts}
 use Rattle.form.specs.declared.Verdict.the-variants.{Accepted}
 use Rattle.form.proofs.Accepted.{accepted-counts, few-rows, rows-length}
-use Rattle.totals.specs.Columns.{onsiteTotal, offsiteTotal, decayTotal}
 use Rattle.worksheets.specs.Sheets.{figuresOf, conversionOf}
 use Rattle.doubles.specs.Double.{Near}
 use Rattle.doubles.specs.Subtotals.{subtotalsOf, answerOf}

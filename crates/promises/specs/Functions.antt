@@ -1,4 +1,5 @@
--- The functions themselves: each entry point, as the prover takes its source, meets the contract that its source states. What the contracts say is the matter of the other pages.
+-- The functions themselves: each entry point's code, as the prover has it, meets the contract that its source states. What a contract says is the matter of the other pages;
+-- that the compiled code does the same is outside the logic (docs/TRUST.md).
 use Rattle.judge.proofs.judge.Statement as judge
 use Rattle.judge.proofs.judge.Met as judge-proof
 use Rattle.rows.proofs.read.Statement as read
@@ -23,6 +24,8 @@ use Rattle.door.proofs.niloferq_write.Statement as c-write
 use Rattle.door.proofs.niloferq_write.Met as c-write-proof
 use Rattle.door.proofs.figures.niloferq_figures.Statement as c-figures
 use Rattle.door.proofs.figures.niloferq_figures.Met as c-figures-proof
+use Rattle.door.proofs.defaults.niloferq_defaults.Statement as c-defaults
+use Rattle.door.proofs.defaults.niloferq_defaults.Met as c-defaults-proof
 
 pub judge-meets : {M : Type 1} → judge.statement M
 judge-meets = judge-proof.met
@@ -59,3 +62,6 @@ c-write-meets = c-write-proof.met
 
 pub c-figures-meets : {M : Type 1} → c-figures.statement M
 c-figures-meets = c-figures-proof.met
+
+pub c-defaults-meets : {M : Type 1} → c-defaults.statement M
+c-defaults-meets = c-defaults-proof.met

@@ -3,7 +3,7 @@
 --     of-kind, other-kind    a rule about one kind's rows alone
 --     later, no-later   rule 5 of a later record, used and unused; no-ids, a block whose kind has no id
 use Prim.Native.Nat.{ℕ, zero, suc, _+_, _-_, _*_, _<_, _≤_}
-use mathlib.Core.Path.{_≡_, sym, ap, subst, _∙_}
+use mathlib.Core.Path.{_≡_, sym, ap, _∙_}
 use mathlib.Core.Bool.{Bool, true, false, not, _&&_, and-false}
 use mathlib.Core.List.{List}
 use native.Mathlib.Nat.{add-zero}
@@ -19,7 +19,7 @@ use Rattle.form.specs.declared.Spot.the-variants.{Nowhere}
 use Rattle.form.proofs.Search.{first-is-none}
 use Rattle.form.proofs.Tests.{on, off, guarded}
 use Rattle.form.proofs.Places.{rowIn, broken-at, id-later}
-use Rattle.records.specs.Steps.{recordTest, Spared}
+use Rattle.records.specs.Steps.{rowTest, Spared}
 
 -- a test of the rows of kind m alone, of the record at a place
 pub of-kind : (m k : ℕ) (t : List ℕ → Bool) (s : List ℕ) (at : ℕ) {x : Bool} → x ≡ t (rowAt (layout m) s at) → (eqb k m && x) ≡ (eqb k m && t (rowAt (layout k) s at))
@@ -30,20 +30,16 @@ other-kind m k x h = sym (off x (not-true (eqb k m) h))
 
 module _ (s : List ℕ) (b : ℕ) where
   module _ (n : ℕ) where
-    pub tried : {x : Bool} (r : ℕ) → r < 12 → r < countOf s b → x ≡ testNumbered n (edition s 0) (kindOf s b) (rowIn s b r) → recordTest n s (12 * b + r) ≡ x
+    pub tried : {x : Bool} (r : ℕ) → r < 12 → r < countOf s b → x ≡ testNumbered n (edition s 0) (kindOf s b) (rowIn s b r) → rowTest n s (12 * b + r) ≡ x
     tried r l u e = broken-at s b r l (edition s 0) (testNumbered n) ∙ sym (on (lt-ltb r (countOf s b) u) e)
 
-    pub unused : (r : ℕ) → r < 12 → countOf s b ≤ r → recordTest n s (12 * b + r) ≡ false
+    pub unused : (r : ℕ) → r < 12 → countOf s b ≤ r → rowTest n s (12 * b + r) ≡ false
     unused r l u = broken-at s b r l (edition s 0) (testNumbered n) ∙ sym (off _ (le-ltb r (countOf s b) u))
 
-    pub spared : {k : ℕ} {over : Bool} → Spared n k over → k ≡ kindOf s b → over ≡ true → first (λ r. recordTest n s (12 * b + r)) 12 ≡ Nowhere
+    pub spared : {k : ℕ} {over : Bool} → Spared n k over → k ≡ kindOf s b → over ≡ true → first (λ r. rowTest n s (12 * b + r)) 12 ≡ Nowhere
     spared p e h =
-        let t : (r : List ℕ) → testNumbered n (edition s 0) (kindOf s b) r ≡ false =
-        λ r. subst (λ (k : ℕ). testNumbered n (edition s 0) k r ≡ false) e (p .kept h (edition s 0) r) in
         first-is-none _ 12
-        (λ r l. broken-at s b r l (edition s 0) (testNumbered n)
-        ∙ ap (λ (x : Bool). ltb r (countOf s b) && x) (t (rowIn s b r))
-        ∙ and-false (ltb r (countOf s b)))
+        (λ r l. broken-at s b r l (edition s 0) (testNumbered n) ∙ rw (rw e at (p .kept h (edition s 0) (rowIn s b r))) (and-false (ltb r (countOf s b))))
 
   pub later : {x : Bool} (r : ℕ) → 0 < r → r < 12 → r < countOf s b → hasId (kindOf s b) ≡ true
       → x ≡ leb (number 4 s (recordAt b r)) (number 4 s (recordAt b (r - 1))) → badId (filed s) (12 * b + r) ≡ x

@@ -4,11 +4,15 @@ use mathlib.Core.Path.{_≡_}
 use mathlib.Core.Bool.{Bool, true, false}
 use mathlib.Core.List.{List}
 use Rattle.form.specs.Block.{edition}
-use Rattle.form.specs.Records.{filed, brokenBy, testNumbered}
+use Rattle.form.specs.Records.{filed, brokenBy, testNumbered, testOf}
 
 -- the test of the rule of one row with a number, at the places of a return
+abbrev pub rowTest : ℕ → List ℕ → ℕ → Bool
+rowTest n s = brokenBy (filed s) (edition s 0) (testNumbered n)
+
+-- the same, or that of rule 5
 abbrev pub recordTest : ℕ → List ℕ → ℕ → Bool
-recordTest n s = brokenBy (filed s) (edition s 0) (testNumbered n)
+recordTest n s = testOf n (edition s 0) (filed s)
 
 -- what is known of a rule and a kind that are passed over together: no row of the kind breaks the rule
 pub record Spared (n k : ℕ) (over : Bool) : Type 0 where

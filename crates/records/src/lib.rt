@@ -7,7 +7,7 @@ ghost use Rattle.form.specs.First.{first};
 ghost use Rattle.form.specs.Layout.{layout, conversion, rowAt, aboveLimit};
 ghost use Rattle.form.specs.Block.{blocks, countOf, edition};
 ghost use Rattle.form.specs.Records.{filed, hasId, badId, overspent, grown, testNumbered};
-ghost use Rattle.records.specs.Steps.{recordTest, Spared};
+ghost use Rattle.records.specs.Steps.{rowTest, recordTest, Spared};
 use form::KINDS;
 use form::PARAMETERS;
 use form::Spot;
@@ -102,7 +102,7 @@ fn spares(number: u32, kind: u32) -> bool
 // A rule of one row in a block.
 fn first_row_in(bytes: &[u8], number: u32, b: usize) -> Spot
     requires { ⌜ b < blocks (now bytes) ⌝ }
-    ensures { λ x. ⌜ x ≡ first (λ r. recordTest number (now (bytes .entry)) (12 * b + r)) 12 ⌝ }
+    ensures { λ x. ⌜ x ≡ first (λ r. rowTest number (now (bytes .entry)) (12 * b + r)) 12 ⌝ }
 {
     let kind = byte_at(bytes, 512 * b);
     if spares(number, kind) {
@@ -115,31 +115,6 @@ fn first_row_in(bytes: &[u8], number: u32, b: usize) -> Spot
             return Spot::At(r as u32);
         }
         r += 1;
-    }
-    Spot::Nowhere
-}
-
-// "A record's place is 12 times its block plus its position."
-fn place(b: usize, r: u32) -> u32
-    requires { ⌜ (b < 2 ^ 24) × (r < 12) ⌝ }
-    ensures { λ x. ⌜ x ≡ 12 * b + r ⌝ }
-{
-    12 * (b as u32) + r
-}
-
-// A rule of one row over all blocks.
-pub fn first_broken(bytes: &[u8], number: u32) -> Spot
-    requires { ⌜ length (now bytes) < 2 ^ 24 ⌝ }
-    ensures { λ r. ⌜ r ≡ first (recordTest number (now (bytes .entry))) (12 * blocks (now (bytes .entry))) ⌝ }
-{
-    let n = bytes.len() / 512;
-    let mut b: usize = 0;
-    while b < n {
-        let spot = first_row_in(bytes, number, b);
-        if let Spot::At(r) = spot {
-            return Spot::At(place(b, r));
-        }
-        b += 1;
     }
     Spot::Nowhere
 }
@@ -200,15 +175,34 @@ fn first_id_in(bytes: &[u8], b: usize) -> Spot
     bad_later_id(bytes, b)
 }
 
-// Rule 5 over all blocks.
-pub fn first_bad_id(bytes: &[u8]) -> Spot
+// A rule of records, by its number, in a block.
+fn first_in(bytes: &[u8], number: u32, b: usize) -> Spot
+    requires { ⌜ b < blocks (now bytes) ⌝ }
+    ensures { λ x. ⌜ x ≡ first (λ r. recordTest number (now (bytes .entry)) (12 * b + r)) 12 ⌝ }
+{
+    if number == 5 {
+        return first_id_in(bytes, b);
+    }
+    first_row_in(bytes, number, b)
+}
+
+// "A record's place is 12 times its block plus its position."
+fn place(b: usize, r: u32) -> u32
+    requires { ⌜ (b < 2 ^ 24) × (r < 12) ⌝ }
+    ensures { λ x. ⌜ x ≡ 12 * b + r ⌝ }
+{
+    12 * (b as u32) + r
+}
+
+// A rule of records over all blocks.
+pub fn first_broken(bytes: &[u8], number: u32) -> Spot
     requires { ⌜ length (now bytes) < 2 ^ 24 ⌝ }
-    ensures { λ r. ⌜ r ≡ first (badId (filed (now (bytes .entry)))) (12 * blocks (now (bytes .entry))) ⌝ }
+    ensures { λ r. ⌜ r ≡ first (recordTest number (now (bytes .entry))) (12 * blocks (now (bytes .entry))) ⌝ }
 {
     let n = bytes.len() / 512;
     let mut b: usize = 0;
     while b < n {
-        let spot = first_id_in(bytes, b);
+        let spot = first_in(bytes, number, b);
         if let Spot::At(r) = spot {
             return Spot::At(place(b, r));
         }

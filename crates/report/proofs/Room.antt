@@ -10,9 +10,9 @@ use native.Mathlib.Numerals.{add-one}
 use native.Mathlib.Omega.{arith}
 use lib.ListN.{length, getD, take, drop, set, length-append}
 use lib.Seq.{sets, take-suc, take-length, take-at, length-take-le, sets-eq}
-use lib.IntN.{ℤ}
+use lib.IntN.{ℤ, pos}
 use Rattle.decimal.specs.Digits.{decimal, marked, Written}
-use Rattle.report.specs.Lines.{line, refusedLine, textOf, putOf, roomAfter}
+use Rattle.report.specs.Lines.{endedBy, line, refusedLine, textOf, putOf, roomAfter}
 use Rattle.worksheets.specs.Answers.{Outcome}
 use Rattle.report.specs.declared.Put.the-variants.{Done, Short}
 use Rattle.form.proofs.Tests.{taken, left}
@@ -26,17 +26,16 @@ put-more d text at i l =
     ∙ sets-append d at (take i text) (getD text i 0 ∷ [])
     ∙ ap (λ (k : ℕ). set (sets d at (take i text)) (at + k) (getD text i 0)) n)
 
-pub whole-length : (l : List ℕ) → length (take (length l) l) ≡ length l
-whole-length l = ap length (take-length l)
-
 -- "refused ", the number, a space, the place and a line feed, one after the other, are a refusal's line
-pub as-refused : (n p : ℕ) {d e : List ℕ} {i j : ℕ}
-    → Written ((114 ∷ 101 ∷ 102 ∷ 117 ∷ 115 ∷ 101 ∷ 100 ∷ 32 ∷ []) ++ decimal n ++ (32 ∷ []) ++ decimal p ++ (10 ∷ [])) d e i j → Written (refusedLine n p) d e i j
+pub as-refused : (n p : ℕ) (y z : ℤ) {d e : List ℕ} {i j : ℕ} → y ≡ pos n → z ≡ pos p
+    → Written (((114 ∷ 101 ∷ 102 ∷ 117 ∷ 115 ∷ 101 ∷ 100 ∷ 32 ∷ []) ++ endedBy 32 y) ++ endedBy 10 z) d e i j → Written (refusedLine n p) d e i j
 unfolding refusedLine
-as-refused n p {d} {e} {i} {j} w =
-    subst (λ (x : List ℕ). Written x d e i j)
-    (simp append-assoc)
-    w
+as-refused n p y z {d} {e} {i} {j} u v w =
+    let q = ap (λ (x : List ℕ). 114 ∷ 101 ∷ 102 ∷ 117 ∷ 115 ∷ 101 ∷ 100 ∷ 32 ∷ x) (append-assoc (decimal n) (32 ∷ []) (endedBy 10 (pos p))) in
+    subst (λ (x : List ℕ). Written x d e i j) (rw (u, v) q) w
+
+pub ended-length : (b : ℕ) {z : ℤ} {n : ℕ} → z ≡ pos n → length (endedBy b z) ≡ length (decimal n) + 1
+ended-length b {z} {n} e = rw e (length-append (decimal n) (b ∷ []))
 
 pub refused-length : (n p : ℕ) → length (refusedLine n p) ≡ 10 + length (decimal n) + length (decimal p)
 unfolding refusedLine

@@ -12,9 +12,12 @@ use Rattle.worksheets.specs.Answers.{Outcome, worked, refusal, outcomeOf}
 use Rattle.report.specs.declared.Put.{Put}
 use Rattle.report.specs.declared.Put.the-variants.{Done, Short}
 
--- a value with the line feed behind it, and a line, from its name in ASCII and its value
+-- a value with a byte behind it, or the line feed, and a line, from its name in ASCII and its value
+abbrev pub endedBy : ℕ → ℤ → List ℕ
+endedBy b z = marked z ++ b ∷ []
+
 abbrev pub ended : ℤ → List ℕ
-ended z = marked z ++ 10 ∷ []
+ended z = endedBy 10 z
 
 abbrev pub line : List ℕ → ℤ → List ℕ
 line name z = name ++ 32 ∷ ended z

@@ -3,15 +3,16 @@ ghost use mathlib.Core.Path.{_≡_};
 ghost use Prim.Native.Nat.{_+_, _≤_, _<_};
 ghost use mathlib.Core.List.{[], _∷_};
 ghost use lib.ListN.{length, take};
-ghost use Rattle.wide.specs.Signs.{amount, Canonical};
+ghost use lib.IntN.{pos};
+ghost use Rattle.wide.specs.Signs.{amount, Canonical, Holds};
 ghost use Rattle.decimal.specs.Digits.{Written};
-ghost use Rattle.worksheets.specs.Answers.{Plain, figuresSaid};
-ghost use Rattle.report.specs.Lines.{ended, namesOf, linesOf, refusedLine, printed};
-use decimal::write;
+ghost use Rattle.worksheets.specs.Answers.{InForm, figuresSaid};
+ghost use Rattle.report.specs.Lines.{endedBy, namesOf, linesOf, refusedLine, printed};
 use decimal::write_signed;
 use listed::list;
 use wide::of;
 use wide::signed::Signed;
+use wide::signed::with_sign;
 use worksheets::sheets::Answer;
 use worksheets::sheets::Figures;
 
@@ -36,18 +37,18 @@ fn put_byte(b: u8, out: &mut [u8], at: usize) -> usize
     at + 1
 }
 
-// A value and the line feed behind it.
-fn put_value(z: Signed, out: &mut [u8], at: usize) -> usize
-    requires { ⌜ (Canonical z) × (at + length (ended (amount z)) ≤ length (now out)) ⌝ }
-    ensures { λ r. ⌜ Written (ended (amount z)) (now (out .entry)) (now (out .exit)) at r ⌝ }
+// A value and the byte behind it.
+fn put_value(z: Signed, end: u8, out: &mut [u8], at: usize) -> usize
+    requires { ⌜ (Canonical z) × (at + length (endedBy end (amount z)) ≤ length (now out)) ⌝ }
+    ensures { λ r. ⌜ Written (endedBy end (amount z)) (now (out .entry)) (now (out .exit)) at r ⌝ }
 {
     let next = write_signed(z, out, at);
-    put_byte(10, out, next)
+    put_byte(end, out, next)
 }
 
 // All lines: the names, each with the space behind it, and after each space the next value.
 fn put_lines(names: &[u8], f: Figures, out: &mut [u8]) -> usize
-    requires { ⌜ (Plain (f .stocks)) × (now names ≡ namesOf (figuresSaid f)) × (length (linesOf (figuresSaid f)) ≤ length (now out)) ⌝ }
+    requires { ⌜ (InForm f) × (now names ≡ namesOf (figuresSaid f)) × (length (linesOf (figuresSaid f)) ≤ length (now out)) ⌝ }
     ensures { λ r. ⌜ Written (linesOf (figuresSaid f)) (now (out .entry)) (now (out .exit)) 0 r ⌝ }
 {
     let values = list(f);
@@ -58,7 +59,7 @@ fn put_lines(names: &[u8], f: Figures, out: &mut [u8]) -> usize
         let b = names[k];
         at = put_byte(b, out, at);
         if b == 32 {
-            at = put_value(values[i], out, at);
+            at = put_value(values[i], 10, out, at);
             i += 1;
         }
         k += 1;
@@ -68,7 +69,7 @@ fn put_lines(names: &[u8], f: Figures, out: &mut [u8]) -> usize
 
 // The names stand in the list's order.
 fn put_figures(f: Figures, out: &mut [u8]) -> usize
-    requires { ⌜ (Plain (f .stocks)) × (length (linesOf (figuresSaid f)) ≤ length (now out)) ⌝ }
+    requires { ⌜ (InForm f) × (length (linesOf (figuresSaid f)) ≤ length (now out)) ⌝ }
     ensures { λ r. ⌜ Written (linesOf (figuresSaid f)) (now (out .entry)) (now (out .exit)) 0 r ⌝ }
 {
     put_lines(
@@ -78,16 +79,20 @@ fn put_figures(f: Figures, out: &mut [u8]) -> usize
     )
 }
 
+fn plain(n: u64) -> Signed
+    ensures { λ r. ⌜ Holds r (pos n) ⌝ }
+{
+    with_sign(false, of(n))
+}
+
 // The one line of a refusal.
 fn put_refused(number: u8, place: u32, out: &mut [u8]) -> usize
     requires { ⌜ length (refusedLine number place) ≤ length (now out) ⌝ }
     ensures { λ r. ⌜ Written (refusedLine number place) (now (out .entry)) (now (out .exit)) 0 r ⌝ }
 {
     let a = put(b"refused ", 8, out, 0);
-    let b = write(of(number as u64), out, a);
-    let c = put_byte(32, out, b);
-    let d = write(of(place as u64), out, c);
-    put_byte(10, out, d)
+    let b = put_value(plain(number as u64), 32, out, a);
+    put_value(plain(place as u64), 10, out, b)
 }
 
 // The text of any bytes, at the front of long enough room.

@@ -2,8 +2,8 @@
 --     length-written    as long as the lists' blocks
 --     Storing           the blocks stored kind after kind
 --     no-room, .. lists-kept    the answers, from rule to rule
-use Prim.Native.Nat.{ℕ, zero, suc, _+_, _-_, _*_, _/_, _≤_, _<_}
-use mathlib.Core.Path.{_≡_, refl, sym, ap, ap₂, _∙_}
+use Prim.Native.Nat.{ℕ, suc, _+_, _-_, _*_, _/_, _≤_, _<_}
+use mathlib.Core.Path.{_≡_, refl, sym, ap, _∙_}
 use mathlib.Core.List.{List, [], _∷_, _++_, map}
 use native.Mathlib.Numerals.{add-one}
 use native.Mathlib.Omega.{arith}
@@ -22,9 +22,10 @@ use Rattle.filing.specs.Written.{inTurn, blockOf, bytesOf, kindBlocks}
 use Rattle.filing.proofs.Stores.{sets-append, sets-front, length-turns}
 use Rattle.filing.proofs.Parts.{length-block}
 use Rattle.filing.proofs.Alike.{blocks-behind}
-use Rattle.filing.proofs.Cut.{cut-length, cut-long, cut-lengths, part-at, total-none, total-next, total-part}
+use Rattle.filing.proofs.Cut.{cut-length, cut-lengths, total-none}
+use Rattle.lists.proofs.Scan.{in-lengths, part-is, part-long, part-next}
 use Rattle.lists.specs.Rules.{badAt, listRules, Good, blocksFrom}
-use Rattle.rows.specs.Writing.{written, roomRule, writtenBy, writeAnswer, bytesAfter, answerFrom5, answerFrom9}
+use Rattle.rows.specs.Writing.{written, writtenBy, writeAnswer, bytesAfter, answerFrom5, answerFrom9}
 use Rattle.rows.specs.declared.Written.{Written}
 use Rattle.rows.specs.declared.Written.the-variants.{Done, Refused}
 
@@ -60,12 +61,9 @@ pub record Storing (e n : ℕ) (lengths area d₀ d : List ℕ) (from start k : 
   pub left : start + blocksFrom (suc k) (drop k lengths) ≡ n
   pub whole : sets d (512 * start) (rest e n lengths (cut lengths area) start k) ≡ sets d₀ 0 (written e (cut lengths area))
 
-lists-long : (lengths area : List ℕ) → Good lengths (length area) → map length (cut lengths area) ≡ lengths
-lists-long lengths area g = cut-lengths lengths area (omega (arith, g .all))
-
 module _ (e n : ℕ) (lengths area : List ℕ) (g : Good lengths (length area)) (en : n ≡ blocksFrom 1 lengths) where
   pub written-long : 512 * n ≡ length (written e (cut lengths area))
-  written-long = sym (length-written e (cut lengths area) ∙ rw (lists-long lengths area g, en))
+  written-long = sym (length-written e (cut lengths area) ∙ rw (cut-lengths lengths area (omega (arith, g .all)), en))
 
   pub storing-none : {d : List ℕ} → Storing e n lengths area d d 0 0 0
   unfolding rest
@@ -74,28 +72,19 @@ module _ (e n : ℕ) (lengths area : List ℕ) (g : Good lengths (length area)) 
     at = sym (total-none lengths);
     same = refl;
     left = omega (arith, en);
-    whole = rw (written-turn e (cut lengths area), lists-long lengths area g, ← en);
+    whole = rw (written-turn e (cut lengths area), cut-lengths lengths area (omega (arith, g .all)), ← en);
   }
 
   module _ {d₀ d : List ℕ} {from start k m : ℕ} (s : Storing e n lengths area d₀ d from start k) (h : k < kinds) (em : m ≡ getD lengths k 0) where
-    in-lengths : k < length lengths
-    in-lengths = omega (arith, g .each)
-
-    pub storing-in : from + m ≤ length area
-    storing-in = omega (arith, s .at, g .all, total-next lengths k in-lengths, total-part lengths (k + 1))
-
-    pub storing-part : take (from + m - from) (drop from area) ≡ getD (cut lengths area) k []
-    storing-part = part-at lengths area k in-lengths (s .at) em
-
-    pub part-long : length (take (from + m - from) (drop from area)) ≡ m
-    part-long = ap length storing-part ∙ cut-long lengths area (omega (arith, g .all)) k in-lengths ∙ sym em
+    long : length (take (from + m - from) (drop from area)) ≡ m
+    long = part-long area k g (s .at) h em
 
     next-blocks : blocksFrom (suc k) (drop k lengths) ≡ blocksOf (suc k) m + blocksFrom (suc (suc k)) (drop (suc k) lengths)
     unfolding blocksFrom
-    next-blocks = rw (drop-cons lengths k 0 in-lengths, em)
+    next-blocks = rw (drop-cons lengths k 0 (in-lengths area k g (s .at) h em), em)
 
     pub storing-room : start + blocksOf (k + 1) (length (take (from + m - from) (drop from area))) ≤ n
-    storing-room = rw (part-long, add-one k) (omega (arith, s .left, next-blocks))
+    storing-room = rw (long, add-one k) (omega (arith, s .left, next-blocks))
 
     -- the blocks of the kind, and then those of the kinds after it
     next : rest e n lengths (cut lengths area) start k
@@ -104,11 +93,12 @@ module _ (e n : ℕ) (lengths area : List ℕ) (g : Good lengths (length area)) 
     next =
         let l = cut lengths area in
         let r = take (from + m - from) (drop from area) in
-        let cons : drop k l ≡ r ∷ drop (suc k) l = rw storing-part (drop-cons l k [] (omega (arith, cut-length lengths area, in-lengths))) in
+        let i : k < length l = omega (arith, cut-length lengths area, g .each) in
+        let cons : drop k l ≡ r ∷ drop (suc k) l = rw (part-is area k g (s .at) h em) (drop-cons l k [] i) in
         let f = filedList (suc k) r in
         let b = blocksFrom (suc (suc k)) (drop (suc k) lengths) in
-        rw (next-blocks, cons, part-long)
-        (rw part-long at (blocks-behind f (filedFrom (suc (suc k)) (drop (suc k) l)) e (blocksOf (suc k) (length r)) b start n refl))
+        rw (next-blocks, cons, long)
+        (rw long at (blocks-behind f (filedFrom (suc (suc k)) (drop (suc k) l)) e (blocksOf (suc k) (length r)) b start n refl))
 
     pub storing-more : {d₁ : List ℕ} {b : ℕ} → d₁ ≡ sets d (512 * start) (kindBlocks e n (k + 1) (take (from + m - from) (drop from area)) start) → b ≡ blocksOf (k + 1) m
         → Storing e n lengths area d₀ d₁ (from + m) (start + b) (k + 1)
@@ -118,14 +108,13 @@ module _ (e n : ℕ) (lengths area : List ℕ) (g : Good lengths (length area)) 
         let ed′ : d₁ ≡ sets d (512 * start) x = rw (add-one k) at ed in
         let eb′ : b ≡ blocksOf (suc k) m = rw (add-one k) at eb in
         let f = filedList (suc k) r in
-        let long : length x ≡ 512 * b = length-turns (blockOf e f start n) 512 (length-block f e start n) 0 (blocksOf (suc k) (length r)) ∙ rw (part-long, eb′) in
+        let lx : length x ≡ 512 * b = length-turns (blockOf e f start n) 512 (length-block f e start n) 0 (blocksOf (suc k) (length r)) ∙ rw (long, eb′) in
         let p : 512 * (start + b) ≡ 512 * start + length x = omega arith in
         let whole : sets d₁ (512 * (start + b)) (rest e n lengths (cut lengths area) (start + b) (suc k)) ≡ sets d₀ 0 (written e (cut lengths area)) =
         rw (p, ed′, eb′) (rw (next, sets-append) at (s .whole)) in
-        let at : from + m ≡ total (take (suc k) lengths) = omega (arith, s .at, em, rw (add-one k) at (total-next lengths k in-lengths)) in
         rw (add-one k) (record {
           within = omega arith;
-          at = at;
+          at = rw (add-one k) at (part-next area k g (s .at) h em);
           same = rw (ed, length-sets) (s .same);
           left = omega (arith, s .left, next-blocks);
           whole = whole;
@@ -152,23 +141,15 @@ module _ (e : ℕ) (lengths area room : List ℕ) {n : ℕ} (en : n ≡ length (
 
 module _ (e : ℕ) (lengths area room : List ℕ) where
   pub record-broken : {n p : ℕ} → ruling (recordRules e (filedLists (cut lengths area))) ≡ Broken n p → Refused n p ≡ answerFrom5 e lengths area room
-  record-broken b =
-      let l = cut lengths area in
-      ap (writtenBy e l) (sym (ruled-before (recordRules e (filedLists l)) (roomRule e l room ∷ []) b))
+  record-broken b = ap (writtenBy e (cut lengths area)) (sym (ruled-before (recordRules e (filedLists (cut lengths area))) _ b))
 
   pub records-kept : {r : Written} → ruling (recordRules e (filedLists (cut lengths area))) ≡ Clean → r ≡ answerFrom9 e lengths area room → r ≡ answerFrom5 e lengths area room
-  records-kept c q =
-      let l = cut lengths area in
-      q ∙ ap (writtenBy e l) (sym (kept-before (recordRules e (filedLists l)) (roomRule e l room ∷ []) c))
+  records-kept c q = q ∙ ap (writtenBy e (cut lengths area)) (sym (kept-before (recordRules e (filedLists (cut lengths area))) _ c))
 
   pub list-broken : {kind : ℕ} → first (badAt lengths (length area)) (suc kinds) ≡ At kind → Refused 10 kind ≡ writeAnswer e lengths area room
   unfolding writeAnswer listRules
-  list-broken b =
-      let l = cut lengths area in
-      ap (writtenBy e l) (ruled (rule 10 (suc kinds) (badAt lengths (length area))) (recordRules e (filedLists l) ++ (roomRule e l room ∷ [])) b)
+  list-broken b = ap (writtenBy e (cut lengths area)) (ruled (rule 10 (suc kinds) (badAt lengths (length area))) _ b)
 
   pub lists-kept : {r : Written} → first (badAt lengths (length area)) (suc kinds) ≡ Nowhere → r ≡ answerFrom5 e lengths area room → r ≡ writeAnswer e lengths area room
   unfolding writeAnswer listRules
-  lists-kept c q =
-      let l = cut lengths area in
-      q ∙ ap (writtenBy e l) (kept (rule 10 (suc kinds) (badAt lengths (length area))) (recordRules e (filedLists l) ++ (roomRule e l room ∷ [])) c refl)
+  lists-kept c q = q ∙ ap (writtenBy e (cut lengths area)) (kept (rule 10 (suc kinds) (badAt lengths (length area))) _ c refl)

@@ -7,26 +7,24 @@ use native.Mathlib.Omega.{arith}
 use native.Mathlib.Nat.{zero-add}
 use native.Mathlib.Numerals.{add-one}
 use borrow.Author.Tests.{lt-ltb, le-ltb}
-use lib.Dec.{ltb}
 use lib.ListN.{length, set, take, drop, length-append}
 use lib.Seq.{sets-eq, take-length}
 use lib.IntN.{ℤ, pos, negsuc}
-use Rattle.form.proofs.EachKind.{few-kinds}
 use Rattle.form.specs.Ruling.{ruling}
-use Rattle.form.specs.Verdict.{rules, verdictBy, verdictOf}
+use Rattle.form.specs.Verdict.{rules, verdictOf}
 use Rattle.form.specs.declared.Counts.{Counts}
 use Rattle.form.specs.declared.Ruling.{Ruling}
 use Rattle.form.specs.declared.Ruling.the-variants.{Clean, Broken}
 use Rattle.form.specs.declared.Verdict.{Verdict}
 use Rattle.form.specs.declared.Verdict.the-variants as verdict
 use Rattle.form.proofs.Order.{ruled-before, kept-before, one-broken, one-kept}
-use Rattle.form.proofs.Meaning.{refused-ruling, small}
+use Rattle.form.proofs.Meaning.{refused-ruling}
 use Rattle.form.proofs.Accepted.{accepted-ruling}
-use Rattle.wide.specs.Numbers.{value}
+use Rattle.wide.specs.Numbers.{value, wordsOf}
+use Rattle.wide.proofs.Laws.{words, is-itself}
 use Rattle.wide.specs.Signs.{sized, amount, Canonical}
 use Rattle.decimal.specs.Digits.{Written}
 use Rattle.decimal.proofs.DigitLaws.{written-more}
-use Rattle.wide.specs.declared.Wide.{Wide}
 use Rattle.wide.specs.declared.signed.Signed.{Signed}
 use Rattle.rows.specs.Reading.{onFront}
 use Rattle.worksheets.specs.Sheets.{Sheets, figuresOf}
@@ -35,26 +33,16 @@ use Rattle.listed.specs.Listed.{Figure, listed}
 use Rattle.listed.proofs.Laws.{figureAt, counted, flat-next}
 use Rattle.tabled.specs.Figures.{threeOf, numbersOf, figureNumbers, numbersRoom, roomRule, figuresAnswer, figuresAfter}
 
--- the words of a number
-upper : (w : Wide) → w .lo < 2 ^ 64 → w .hi ≡ value w / 2 ^ 64
-unfolding value
-upper w h = omega arith
-
-lower : (w : Wide) → w .lo < 2 ^ 64 → w .lo ≡ value w % 2 ^ 64
-unfolding value
-lower w h = omega arith
-
 three-sized : (t : Bool) (n : ℕ) → (t ≡ true → 0 < n) → cond t 1 0 ∷ n / 2 ^ 64 ∷ n % 2 ^ 64 ∷ [] ≡ threeOf (sized t n)
 three-sized false n h = refl
 three-sized true zero h = let z = h refl in absurd (omega arith)
 three-sized true (suc n) h = refl
 
 pub three : (s : Signed) → Canonical s → s .size .lo < 2 ^ 64 → (b : ℕ) → b ≡ cond (s .below) 1 0 → b ∷ s .size .hi ∷ s .size .lo ∷ [] ≡ threeOf (amount s)
+unfolding wordsOf
 three s f l b e =
-    let u = upper (s .size) l in
-    let v = lower (s .size) l in
-    let p : b ∷ s .size .hi ∷ s .size .lo ∷ [] ≡ cond (s .below) 1 0 ∷ value (s .size) / 2 ^ 64 ∷ value (s .size) % 2 ^ 64 ∷ [] = cc in
-    p ∙ three-sized (s .below) (value (s .size)) f
+    let w = words (is-itself {w = s .size} l) in
+    (λ i. e i ∷ w i .hi ∷ w i .lo ∷ []) ∙ three-sized (s .below) (value (s .size)) f
 
 -- three stores in a row
 pub three-stores : (d : List ℕ) (at a b c : ℕ) (t : List ℕ) → a ∷ b ∷ c ∷ [] ≡ t → Written t d (set (set (set d at a) (at + 1) b) (at + 2) c) at (at + 3)
@@ -128,25 +116,3 @@ module _ (s room : List ℕ) where
             ∙ ap (λ (k : ℕ). t ++ drop k room) (zero-add (length t))
             ∙ ap (λ (x : Sheets). onFront (figureNumbers x) room) (w .figures),
       )
-
-  -- every place is small, so that a refusal is one number for C
-  place-by : (v : Ruling) → ruling (rules s) ≡ v → (n p : ℕ) → figuresAnswer s room ≡ Broken n p → p < 1000
-  unfolding verdictOf ruling
-  place-by (Broken m q) e n p f =
-      let g = ruled-before (rules s) (roomRule room ∷ []) e in
-      let r : q ≡ p = cc in
-      omega (arith, few-kinds, small s m q (ap (verdictBy s) e) .1)
-  place-by Clean e n p f = last (ltb (length room) numbersRoom) refl
-    where
-      last : (b : Bool) → ltb (length room) numbersRoom ≡ b → p < 1000
-      last true h =
-          let g = kept-before (rules s) (roomRule room ∷ []) e ∙ one-broken 9 _ [] h in
-          let r : p ≡ 0 = cc in
-          omega arith
-      last false h =
-          let g = kept-before (rules s) (roomRule room ∷ []) e ∙ one-kept 9 _ [] h in
-          let z : _≡_ {A = ℕ} 0 1 = cc in
-          absurd (omega arith)
-
-  pub place-small : (n p : ℕ) → figuresAnswer s room ≡ Broken n p → p < 1000
-  place-small n p e = place-by (ruling (rules s)) refl n p e

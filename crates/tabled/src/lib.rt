@@ -5,7 +5,7 @@ ghost use Prim.Native.Nat.{_+_, _≤_};
 ghost use lib.ListN.{length};
 ghost use Rattle.wide.specs.Signs.{amount, Canonical};
 ghost use Rattle.decimal.specs.Digits.{Written};
-ghost use Rattle.worksheets.specs.Answers.{Plain, figuresSaid};
+ghost use Rattle.worksheets.specs.Answers.{InForm, figuresSaid};
 ghost use Rattle.tabled.specs.Figures.{threeOf, figureNumbers, numbersRoom, figuresAnswer, figuresAfter};
 use form::Ruling;
 use listed::FIGURES;
@@ -36,7 +36,7 @@ fn put_three(z: Signed, room: &mut [u64], at: usize) -> usize
 
 // Figure after figure, from the front of the room.
 fn put_figures(f: Figures, room: &mut [u64]) -> usize
-    requires { ⌜ (Plain (f .stocks)) × (numbersRoom ≤ length (now room)) ⌝ }
+    requires { ⌜ (InForm f) × (numbersRoom ≤ length (now room)) ⌝ }
     ensures { λ r. ⌜ Written (figureNumbers (figuresSaid f)) (now (room .entry)) (now (room .exit)) 0 r ⌝ }
 {
     let values = list(f);

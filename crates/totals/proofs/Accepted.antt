@@ -1,12 +1,12 @@
 -- Where row i of a kind stands in an accepted return, by the counts, and how large the sums are. Assumes nothing.
 --     kind-row              its bytes, from the kind's first block; conversion-row, parameter-row
---     sound, uptake-small, .., room, columns-small    its limits, and how large the sums are
---     next, turn            a turn of a loop over the rows
+--     sound, columns-small, room    its limits, and how large the sums are
+--     next, turn, whole     a turn of a loop over the rows, and its end
 use Prim.Native.Nat.{ℕ, zero, suc, _+_, _-_, _*_, _/_, _%_, _^_, _<_, _≤_}
 use mathlib.Core.Path.{_≡_, refl, sym, ap, subst, _∙_}
 use mathlib.Core.Bool.{false}
 use mathlib.Core.List.{List, []}
-use native.Mathlib.Nat.{le-refl, le-trans, mul-le-mul-left}
+use native.Mathlib.Nat.{le-trans, mul-le-mul-left}
 use lib.Dec.{lit≤}
 use native.Mathlib.Omega.{arith}
 use lib.ListN.{length, take, getD}
@@ -16,15 +16,16 @@ use Rattle.form.specs.Verdict.{rowCount, countIn, rows, verdictOf}
 use Rattle.form.specs.Standing.{startBlock, firstBlock}
 use Rattle.form.specs.declared.Counts.{Counts}
 use Rattle.form.specs.declared.Verdict.the-variants.{Accepted}
-use Rattle.form.proofs.Accepted.{accepted-counts, counted, first-block, few-rows, rows-length, one-row, row-is, inside, within, shrunk}
+use Rattle.form.proofs.Accepted.{counted, first-block, few-rows, rows-length, one-row, row-is, inside, within, shrunk}
 use Rattle.form.proofs.EachKind.{kinds-are, one-kind, parameters-last}
 use Rattle.totals.specs.Columns.{sumOf, uptakePart, harvestPart, clearedPart, onsitePart, offsitePart, decayPart, columnE, columnK, columnL, onsiteTotal, offsiteTotal, decayTotal}
 use Rattle.totals.specs.Sums.{Sound, partsOf, Added, Summed}
 use Rattle.wide.specs.Numbers.{value}
+use Rattle.wide.proofs.Laws.{is-as}
 use Rattle.totals.specs.declared.Parts.{Parts}
 use Rattle.totals.specs.declared.Totals.{Totals}
 use Rattle.totals.proofs.Limits.{cleared-below, onsite-below, offsite-below, decay-below, uptake-below, harvest-below}
-use Rattle.totals.proofs.Sums.{sum-next, sum-all, sum-below}
+use Rattle.totals.proofs.Sums.{sum-next, sum-all, sum-le, sum-below}
 
 -- row i of a kind starts at a byte, and all of it is there
 pub record Stands (s : List ℕ) (k i at : ℕ) : Type 0 where
@@ -33,18 +34,14 @@ pub record Stands (s : List ℕ) (k i at : ℕ) : Type 0 where
   pub inside : at + 40 ≤ length s
 
 module _ (s : List ℕ) (c : Counts) (acc : verdictOf s ≡ Accepted c) where
-  counts : (c .conversion ≡ rowCount 1 s) × (c .stock ≡ rowCount 2 s) × (c .harvest ≡ rowCount 3 s)
-  counts = let e = accepted-counts s c acc in (ap (λ (x : Counts). x .conversion) e, ap (λ (x : Counts). x .stock) e, ap (λ (x : Counts). x .harvest) e)
-
-  pub lengths : (length (rows 1 s) ≡ c .conversion) × (length (rows 2 s) ≡ c .stock) × (length (rows 3 s) ≡ c .harvest)
-  lengths =
-      let l = rows-length s c acc in
-      (l 1 ∙ sym (counts .0), l 2 ∙ sym (counts .1), l 3 ∙ sym (counts .2))
+  -- past the last row, all are added up
+  pub whole : (f : List ℕ → ℕ) (k i : ℕ) → k < kinds → countIn c (suc k) ≤ i → sumOf f (take i (rows (suc k) s)) ≡ sumOf f (rows (suc k) s)
+  whole f k i h l = sum-all f (rows (suc k) s) i (omega (arith, rows-length s c acc (suc k), counted s c acc k h))
 
   -- row i of a kind, from the kind's first block on
-  pub kind-row : (k first i at : ℕ) → 1 ≤ k → k ≤ kinds → first ≡ firstBlock k c → i < countIn c k → at ≡ recordAt (first + i / 12) (i % 12) → Stands s k i at
-  kind-row zero first i at lo hi e l q = absurd (omega arith)
-  kind-row (suc k) first i at lo hi e l q =
+  pub kind-row : (k : ℕ) {first i at : ℕ} → 1 ≤ k → k ≤ kinds → first ≡ firstBlock k c → i < countIn c k → at ≡ recordAt (first + i / 12) (i % 12) → Stands s k i at
+  kind-row zero lo hi e l q = absurd (omega arith)
+  kind-row (suc k) {first} {i} {at} lo hi e l q =
       let n : i < rowCount (suc k) s = omega (arith, counted s c acc k hi) in
       let b : startBlock (suc k) s ≡ first = sym (e ∙ first-block s c acc (suc k) (omega arith)) in
       let p : recordAt (startBlock (suc k) s + i / 12) (i % 12) ≡ at = ap (λ (x : ℕ). recordAt (x + i / 12) (i % 12)) b ∙ sym q in
@@ -54,13 +51,13 @@ module _ (s : List ℕ) (c : Counts) (acc : verdictOf s ≡ Accepted c) where
   -- by the counts
   pub conversion-row : (i at : ℕ) → i < c .conversion → at ≡ recordAt (0 + i / 12) (i % 12) → Stands s 1 i at
   unfolding firstBlock
-  conversion-row i at l = kind-row 1 0 i at (lit≤ tt) one-kind refl l
+  conversion-row i at l = kind-row 1 (lit≤ tt) one-kind refl l
 
   -- the one parameter row
   pub parameter-row : (first at : ℕ) → first ≡ firstBlock parametersKind c → at ≡ recordAt (first + 0 / 12) (0 % 12) → Stands s parametersKind 0 at
   parameter-row first at e =
       let last : parametersKind - 1 < kinds = omega (arith, parameters-last) in
-      kind-row parametersKind first 0 at (lit≤ tt) last e (omega (arith, counted s c acc (parametersKind - 1) last, one-row s c acc))
+      kind-row parametersKind (lit≤ tt) last e (omega (arith, counted s c acc (parametersKind - 1) last, one-row s c acc))
 
   -- each row keeps the rules, by its number
   kept : (k i : ℕ) → 1 ≤ k → k ≤ kinds → i < length (rows k s) → aboveLimit (layout k) (getD (rows k s) i []) ≡ false
@@ -69,49 +66,31 @@ module _ (s : List ℕ) (c : Counts) (acc : verdictOf s ≡ Accepted c) where
   pub sound : (i : ℕ) → i < length (rows 1 s) → Sound (getD (rows 1 s) i [])
   sound i l = record { within = kept 1 i (lit≤ tt) (omega (arith, kinds-are)) l; shrunk = shrunk s c acc i (omega (arith, rows-length s c acc 1)) }
 
-  -- what no row of a kind is above, no sum over its first rows is above 32 times
-  small : (k : ℕ) (f : List ℕ → ℕ) (b : ℕ) → 1 ≤ k → k ≤ kinds → ((r : List ℕ) → aboveLimit (layout k) r ≡ false → f r ≤ b)
-      → (i : ℕ) → i ≤ length (rows k s) → sumOf f (take i (rows k s)) ≤ b * 32
-  small k f b lo hi h i l =
-      le-trans (sum-below f b (rows k s) i (λ j m. h _ (kept k j lo hi m)) l)
+  -- what no row of a kind is above, no sum over its rows is above 32 times
+  small : (k : ℕ) (f : List ℕ → ℕ) (b : ℕ) → 1 ≤ k → k ≤ kinds → ((r : List ℕ) → aboveLimit (layout k) r ≡ false → f r ≤ b) → sumOf f (rows k s) ≤ b * 32
+  small k f b lo hi h =
+      le-trans (sum-below f b (rows k s) (λ j m. h _ (kept k j lo hi m)))
       (mul-le-mul-left b (omega (arith, few-rows s c acc k, rows-length s c acc k)))
 
-  pub uptake-small : (i : ℕ) → i ≤ length (rows 2 s) → sumOf uptakePart (take i (rows 2 s)) ≤ 10 ^ 14 * 32
-  uptake-small = small 2 uptakePart (10 ^ 14) (lit≤ tt) (omega (arith, kinds-are)) uptake-below
-
-  pub harvest-small : (i : ℕ) → i ≤ length (rows 3 s) → sumOf harvestPart (take i (rows 3 s)) ≤ 10 ^ 12 * 32
-  harvest-small = small 3 harvestPart (10 ^ 12) (lit≤ tt) (omega (arith, kinds-are)) harvest-below
-
-  pub cleared-small : (i : ℕ) → i ≤ length (rows 1 s) → sumOf clearedPart (take i (rows 1 s)) ≤ 10 ^ 13 * 32
-  cleared-small = small 1 clearedPart (10 ^ 13) (lit≤ tt) (omega (arith, kinds-are)) cleared-below
-
-  pub onsite-small : (i : ℕ) → i ≤ length (rows 1 s) → sumOf onsitePart (take i (rows 1 s)) ≤ 10 ^ 19 * 32
-  onsite-small = small 1 onsitePart (10 ^ 19) (lit≤ tt) (omega (arith, kinds-are)) onsite-below
-
-  pub offsite-small : (i : ℕ) → i ≤ length (rows 1 s) → sumOf offsitePart (take i (rows 1 s)) ≤ 10 ^ 19 * 32
-  offsite-small = small 1 offsitePart (10 ^ 19) (lit≤ tt) (omega (arith, kinds-are)) offsite-below
-
-  pub decay-small : (i : ℕ) → i ≤ length (rows 1 s) → sumOf decayPart (take i (rows 1 s)) ≤ 10 ^ 19 * 32
-  decay-small = small 1 decayPart (10 ^ 19) (lit≤ tt) (omega (arith, kinds-are)) decay-below
-
-  -- so there is room for one row more
-  pub room : (t : Totals) (i : ℕ) → i ≤ length (rows 1 s) → Summed t (take i (rows 1 s))
-      → (value (t .cleared .0) < 2 ^ 100) × (value (t .onsite .0) < 2 ^ 100) × (value (t .offsite .0) < 2 ^ 100) × (value (t .decay .0) < 2 ^ 100)
-  room t i l e = (omega (arith, cleared-small i l), omega (arith, onsite-small i l), omega (arith, offsite-small i l), omega (arith, decay-small i l))
-
-  -- how large the columns can be
   pub columns-small : (columnE s < 2 ^ 64) × (columnK s < 2 ^ 64) × (columnL s < 2 ^ 64) × (onsiteTotal s < 2 ^ 80) × (offsiteTotal s < 2 ^ 80) × (decayTotal s < 2 ^ 80)
   columns-small = (
-    omega (arith, whole uptakePart 2, uptake-small _ (le-refl _)),
-    omega (arith, whole harvestPart 3, harvest-small _ (le-refl _)),
-    omega (arith, whole clearedPart 1, cleared-small _ (le-refl _)),
-    omega (arith, whole onsitePart 1, onsite-small _ (le-refl _)),
-    omega (arith, whole offsitePart 1, offsite-small _ (le-refl _)),
-    omega (arith, whole decayPart 1, decay-small _ (le-refl _)),
+    omega (arith, small 2 uptakePart (10 ^ 14) (lit≤ tt) (omega (arith, kinds-are)) uptake-below),
+    omega (arith, small 3 harvestPart (10 ^ 12) (lit≤ tt) (omega (arith, kinds-are)) harvest-below),
+    omega (arith, small 1 clearedPart (10 ^ 13) (lit≤ tt) one-kind cleared-below),
+    omega (arith, small 1 onsitePart (10 ^ 19) (lit≤ tt) one-kind onsite-below),
+    omega (arith, small 1 offsitePart (10 ^ 19) (lit≤ tt) one-kind offsite-below),
+    omega (arith, small 1 decayPart (10 ^ 19) (lit≤ tt) one-kind decay-below),
   )
+
+  -- so there is room for one row more
+  pub room : (t : Totals) (i : ℕ) → Summed t (take i (rows 1 s))
+      → (value (t .cleared .0) < 2 ^ 100) × (value (t .onsite .0) < 2 ^ 100) × (value (t .offsite .0) < 2 ^ 100) × (value (t .decay .0) < 2 ^ 100)
+  room t i e =
+      let w = columns-small in
+      (omega (arith, up clearedPart), omega (arith, up onsitePart), omega (arith, up offsitePart), omega (arith, up decayPart))
     where
-      whole : (f : List ℕ → ℕ) (k : ℕ) → sumOf f (take (length (rows k s)) (rows k s)) ≡ sumOf f (rows k s)
-      whole f k = sum-all f (rows k s) _ (le-refl _)
+      up : (f : List ℕ → ℕ) → sumOf f (take i (rows 1 s)) ≤ sumOf f (rows 1 s)
+      up f = sum-le f (rows 1 s) i
 
 -- a turn of a loop over the rows
 pub next : {s : List ℕ} {k i at : ℕ} (f : List ℕ → ℕ) {sum x : ℕ} → Stands s k i at
@@ -121,8 +100,8 @@ next {s} {k} {i} f h e q = omega (arith, sum-next f (rows k s) i (h .there), ap 
 pub turn : {s : List ℕ} {i at : ℕ} {t u : Totals} {p : Parts} → Stands s 1 i at → p ≡ partsOf (rowAt conversion s at)
     → Summed t (take i (rows 1 s)) → Added t p u → Summed u (take (i + 1) (rows 1 s))
 turn w q h a = record {
-  cleared = a .cleared ∙ next clearedPart w (h .cleared) (ap (λ (x : Parts). x .cleared) q);
-  onsite = a .onsite ∙ next onsitePart w (h .onsite) (ap (λ (x : Parts). x .onsite) q);
-  offsite = a .offsite ∙ next offsitePart w (h .offsite) (ap (λ (x : Parts). x .offsite) q);
-  decay = a .decay ∙ next decayPart w (h .decay) (ap (λ (x : Parts). x .decay) q);
+  cleared = is-as (a .cleared) (next clearedPart w (h .cleared .number) (ap (λ (x : Parts). x .cleared .0) q));
+  onsite = is-as (a .onsite) (next onsitePart w (h .onsite .number) (ap (λ (x : Parts). x .onsite .0) q));
+  offsite = is-as (a .offsite) (next offsitePart w (h .offsite .number) (ap (λ (x : Parts). x .offsite .0) q));
+  decay = is-as (a .decay) (next decayPart w (h .decay .number) (ap (λ (x : Parts). x .decay .0) q));
 }

@@ -1,8 +1,8 @@
 -- Sums over the first rows of a list. Assumes nothing.
 --     sum-next, sum-all    how a loop over the rows goes on by one, and ends
---     sum-below            how large a sum of parts below a bound is
+--     sum-le, sum-below    how large a sum is
 use Prim.Native.Nat.{ℕ, zero, suc, _+_, _*_, _<_, _≤_}
-use mathlib.Core.Path.{_≡_, refl, ap}
+use mathlib.Core.Path.{_≡_, ap}
 use mathlib.Core.List.{List, [], _∷_}
 use native.Mathlib.Numerals.{add-one}
 use native.Mathlib.Omega.{arith}
@@ -11,10 +11,6 @@ use lib.Seq.{take-all}
 use Rattle.totals.specs.Columns.{sumOf}
 
 module _ (f : List ℕ → ℕ) where
-  sum-none : (rs : List (List ℕ)) → sumOf f (take 0 rs) ≡ 0
-  unfolding sumOf
-  sum-none rs = refl
-
   sum-suc : (rs : List (List ℕ)) (i : ℕ) → i < length rs → sumOf f (take (suc i) rs) ≡ sumOf f (take i rs) + f (getD rs i [])
   unfolding sumOf
   sum-suc [] i l = absurd (omega arith)
@@ -27,6 +23,13 @@ module _ (f : List ℕ → ℕ) where
   pub sum-all : (rs : List (List ℕ)) (i : ℕ) → length rs ≤ i → sumOf f (take i rs) ≡ sumOf f rs
   sum-all rs i l = ap (sumOf f) (take-all i rs l)
 
-  pub sum-below : (b : ℕ) (rs : List (List ℕ)) (i : ℕ) → ((j : ℕ) → j < length rs → f (getD rs j []) ≤ b) → i ≤ length rs → sumOf f (take i rs) ≤ b * i
-  sum-below b rs zero h l = omega (arith, sum-none rs)
-  sum-below b rs (suc i) h l = omega (arith, sum-suc rs i l, h i l, sum-below b rs i h (omega arith))
+  pub sum-le : (rs : List (List ℕ)) (i : ℕ) → sumOf f (take i rs) ≤ sumOf f rs
+  unfolding sumOf
+  sum-le rs zero = omega arith
+  sum-le [] (suc i) = omega arith
+  sum-le (r ∷ rs) (suc i) = omega (arith, sum-le rs i)
+
+  pub sum-below : (b : ℕ) (rs : List (List ℕ)) → ((j : ℕ) → j < length rs → f (getD rs j []) ≤ b) → sumOf f rs ≤ b * length rs
+  unfolding sumOf
+  sum-below b [] h = omega arith
+  sum-below b (r ∷ rs) h = omega (arith, h 0 (omega arith), sum-below b rs (λ j l. h (suc j) (omega arith)))

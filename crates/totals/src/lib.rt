@@ -5,7 +5,7 @@ ghost use lib.ListN.{length};
 ghost use Rattle.form.specs.Layout.{conversion, stock, harvest, rowAt};
 ghost use Rattle.form.specs.Verdict.{rows, verdictOf};
 ghost use Rattle.form.specs.declared.Verdict.the-variants.{Accepted};
-ghost use Rattle.wide.specs.Numbers.{value};
+ghost use Rattle.wide.specs.Numbers.{value, Is};
 ghost use Rattle.totals.specs.Columns.{uptakePart, harvestPart, decayPart, columnE, columnK};
 ghost use Rattle.totals.specs.Sums.{Sound, partsOf, Added, Summed};
 use form::Counts;
@@ -22,35 +22,56 @@ pub struct DryMatter(pub Wide);
 
 pub struct Carbon(pub Wide);
 
+// A row's part in a sum: one substance, in one word.
+pub struct DryMatterPart(pub u64);
+
+pub struct CarbonPart(pub u64);
+
 // The biomass that an area loses.
-fn lost(area: u32, before: u32, after: u32) -> u64
+fn lost(area: u32, before: u32, after: u32) -> DryMatterPart
     requires { ⌜ (area ≤ 1000000) × (before ≤ 10000) × (after ≤ before) ⌝ }
-    ensures { λ r. ⌜ (r ≡ area * (before - after)) × (r ≤ 10 ^ 10) ⌝ }
+    ensures { λ r. ⌜ (r .0 ≡ area * (before - after)) × (r .0 ≤ 10 ^ 10) ⌝ }
 {
-    (area as u64) * ((before - after) as u64)
+    DryMatterPart((area as u64) * ((before - after) as u64))
+}
+
+// A fraction of dry matter.
+fn share_of(mass: DryMatterPart, fraction: u32) -> DryMatterPart
+    requires { ⌜ mass .0 * fraction < 2 ^ 64 ⌝ }
+    ensures { λ r. ⌜ r .0 ≡ mass .0 * fraction ⌝ }
+{
+    DryMatterPart(mass.0 * (fraction as u64))
+}
+
+// Dry matter to carbon, by its carbon fraction: the one step from the one to the other within a row.
+fn carbon_of(mass: DryMatterPart, fraction: u32) -> CarbonPart
+    requires { ⌜ mass .0 * fraction < 2 ^ 64 ⌝ }
+    ensures { λ r. ⌜ r .0 ≡ mass .0 * fraction ⌝ }
+{
+    CarbonPart(mass.0 * (fraction as u64))
 }
 
 // The carbon of what is burned: at most 10 ^ 19, so that one word holds it.
-fn burned(biomass: u64, fraction: u32, oxidised: u32, carbon: u32) -> u64
-    requires { ⌜ (biomass ≤ 10 ^ 10) × (fraction ≤ 1000) × (oxidised ≤ 1000) × (carbon ≤ 1000) ⌝ }
-    ensures { λ r. ⌜ r ≡ biomass * fraction * oxidised * carbon ⌝ }
+fn burned(biomass: DryMatterPart, fraction: u32, oxidised: u32, carbon: u32) -> CarbonPart
+    requires { ⌜ (biomass .0 ≤ 10 ^ 10) × (fraction ≤ 1000) × (oxidised ≤ 1000) × (carbon ≤ 1000) ⌝ }
+    ensures { λ r. ⌜ r .0 ≡ biomass .0 * fraction * oxidised * carbon ⌝ }
 {
-    biomass * (fraction as u64) * (oxidised as u64) * (carbon as u64)
+    carbon_of(share_of(share_of(biomass, fraction), oxidised), carbon)
 }
 
 // One conversion row's part in each sum.
 pub struct Parts {
-    pub cleared: u64,
-    pub onsite: u64,
-    pub offsite: u64,
-    pub decay: u64,
+    pub cleared: DryMatterPart,
+    pub onsite: CarbonPart,
+    pub offsite: CarbonPart,
+    pub decay: CarbonPart,
 }
 
 // One row's part in decay carbon, from what was cleared in the ten years before.
-fn decay_at(bytes: &[u8], at: usize) -> u64
+fn decay_at(bytes: &[u8], at: usize) -> CarbonPart
     requires { ⌜ at + 40 ≤ length (now bytes) ⌝ }
     requires { ⌜ Sound (rowAt conversion (now bytes) at) ⌝ }
-    ensures { λ r. ⌜ r ≡ decayPart (rowAt conversion (now (bytes .entry)) at) ⌝ }
+    ensures { λ r. ⌜ r .0 ≡ decayPart (rowAt conversion (now (bytes .entry)) at) ⌝ }
 {
     let biomass = lost(
         four_at(bytes, at + 24),
@@ -77,7 +98,7 @@ fn parts_at(bytes: &[u8], at: usize) -> Parts
     );
     let offsite = two_at(bytes, at + 18);
     Parts {
-        cleared: biomass * (offsite as u64),
+        cleared: share_of(biomass, offsite),
         onsite: burned(
             biomass,
             two_at(bytes, at + 12),
@@ -102,15 +123,30 @@ pub struct Totals {
     pub decay: Carbon,
 }
 
+// A row's part goes to the sum of its own substance.
+fn plus_dry_matter(sum: DryMatter, part: DryMatterPart) -> DryMatter
+    requires { ⌜ value (sum .0) < 2 ^ 100 ⌝ }
+    ensures { λ r. ⌜ Is (r .0) (value (sum .0) + part .0) ⌝ }
+{
+    DryMatter(add_word(sum.0, part.0))
+}
+
+fn plus_carbon(sum: Carbon, part: CarbonPart) -> Carbon
+    requires { ⌜ value (sum .0) < 2 ^ 100 ⌝ }
+    ensures { λ r. ⌜ Is (r .0) (value (sum .0) + part .0) ⌝ }
+{
+    Carbon(add_word(sum.0, part.0))
+}
+
 fn add_row(t: Totals, p: Parts) -> Totals
     requires { ⌜ (value (t .cleared .0) < 2 ^ 100) × (value (t .onsite .0) < 2 ^ 100) × (value (t .offsite .0) < 2 ^ 100) × (value (t .decay .0) < 2 ^ 100) ⌝ }
     ensures { λ r. ⌜ Added t p r ⌝ }
 {
     Totals {
-        cleared: DryMatter(add_word(t.cleared.0, p.cleared)),
-        onsite: Carbon(add_word(t.onsite.0, p.onsite)),
-        offsite: Carbon(add_word(t.offsite.0, p.offsite)),
-        decay: Carbon(add_word(t.decay.0, p.decay)),
+        cleared: plus_dry_matter(t.cleared, p.cleared),
+        onsite: plus_carbon(t.onsite, p.onsite),
+        offsite: plus_carbon(t.offsite, p.offsite),
+        decay: plus_carbon(t.decay, p.decay),
     }
 }
 
@@ -136,52 +172,51 @@ pub fn sum_conversion(bytes: &[u8], c: Counts) -> Totals
 }
 
 // One stock row's part in E.
-fn uptake_at(bytes: &[u8], at: usize) -> u64
+fn uptake_at(bytes: &[u8], at: usize) -> CarbonPart
     requires { ⌜ at + 40 ≤ length (now bytes) ⌝ }
-    ensures { λ r. ⌜ r ≡ uptakePart (rowAt stock (now (bytes .entry)) at) ⌝ }
+    ensures { λ r. ⌜ r .0 ≡ uptakePart (rowAt stock (now (bytes .entry)) at) ⌝ }
 {
-    (four_at(bytes, at + 8) as u64)
-        * (two_at(bytes, at + 6) as u64)
-        * (two_at(bytes, at + 12) as u64)
+    let grown = DryMatterPart((four_at(bytes, at + 8) as u64) * (two_at(bytes, at + 6) as u64));
+    carbon_of(grown, two_at(bytes, at + 12))
 }
 
 // E: the carbon that the stocks take up.
 pub fn sum_uptake(bytes: &[u8], c: Counts) -> Carbon
     requires { ⌜ verdictOf (now bytes) ≡ Accepted c ⌝ }
-    ensures { λ r. ⌜ value (r .0) ≡ columnE (now (bytes .entry)) ⌝ }
+    ensures { λ r. ⌜ Is (r .0) (columnE (now (bytes .entry))) ⌝ }
 {
     let first = first_block(c, 2);
     let n = c.stock as usize;
-    let mut sum: u64 = 0;
+    let mut sum = Carbon(of(0));
     let mut i: usize = 0;
     while i < n {
-        sum += uptake_at(bytes, row_start(first, i));
+        sum = plus_carbon(sum, uptake_at(bytes, row_start(first, i)));
         i += 1;
     }
-    Carbon(of(sum))
+    sum
 }
 
 // One harvest row's part in K.
-fn harvest_at(bytes: &[u8], at: usize) -> u64
+fn harvest_at(bytes: &[u8], at: usize) -> DryMatterPart
     requires { ⌜ at + 40 ≤ length (now bytes) ⌝ }
-    ensures { λ r. ⌜ r ≡ harvestPart (rowAt harvest (now (bytes .entry)) at) ⌝ }
+    ensures { λ r. ⌜ r .0 ≡ harvestPart (rowAt harvest (now (bytes .entry)) at) ⌝ }
 {
     let sold = (four_at(bytes, at + 4) as u64) * (two_at(bytes, at + 8) as u64);
-    sold + 1000 * (four_at(bytes, at + 12) as u64 + four_at(bytes, at + 16) as u64)
+    DryMatterPart(sold + 1000 * (four_at(bytes, at + 12) as u64 + four_at(bytes, at + 16) as u64))
 }
 
 // K: the biomass that is used.
 pub fn sum_harvest(bytes: &[u8], c: Counts) -> DryMatter
     requires { ⌜ verdictOf (now bytes) ≡ Accepted c ⌝ }
-    ensures { λ r. ⌜ value (r .0) ≡ columnK (now (bytes .entry)) ⌝ }
+    ensures { λ r. ⌜ Is (r .0) (columnK (now (bytes .entry))) ⌝ }
 {
     let first = first_block(c, 3);
     let n = c.harvest as usize;
-    let mut sum: u64 = 0;
+    let mut sum = DryMatter(of(0));
     let mut i: usize = 0;
     while i < n {
-        sum += harvest_at(bytes, row_start(first, i));
+        sum = plus_dry_matter(sum, harvest_at(bytes, row_start(first, i)));
         i += 1;
     }
-    DryMatter(of(sum))
+    sum
 }

@@ -1,25 +1,24 @@
 -- THE ROUND TRIPS through the answers of `rows::write` and `rows::read` themselves. Assumes nothing.
 --     read-accepted, read-counts, read-rows    what a write left, read to room that is long enough
 --     left-is, write-done, write-same          what a read left, cut by the counts that it answered, written to room that is long enough
-use Prim.Native.Nat.{ℕ, zero, suc, _+_, _-_, _≤_, _<_}
-use mathlib.Core.Path.{_≡_, refl, sym, ap, subst, _∙_}
+use Prim.Native.Nat.{ℕ, suc, _≤_, _<_}
+use mathlib.Core.Path.{_≡_, refl, sym, ap, _∙_}
 use mathlib.Core.Bool.{false}
-use mathlib.Core.List.{List, [], _∷_, _++_, flatten, map}
+use mathlib.Core.List.{List, [], _∷_}
 use native.Mathlib.Omega.{arith}
 use borrow.Author.Tests.{le-ltb}
-use lib.Dec.{ltb}
 use lib.ListN.{length, getD, take, drop}
 use lib.Seq.{take-at}
 use Rattle.form.specs.Bytes.{byteAt}
 use Rattle.form.specs.Layout.{kinds}
 use Rattle.form.specs.Ruling.{rule, ruling}
-use Rattle.form.specs.Verdict.{rules, rowCount, countsOf, countIn, verdictBy, verdictOf}
+use Rattle.form.specs.Verdict.{rules, countsOf, countIn, verdictBy, verdictOf}
 use Rattle.form.specs.declared.Counts.{Counts}
 use Rattle.form.specs.declared.Ruling.{Ruling}
 use Rattle.form.specs.declared.Ruling.the-variants.{Clean, Broken}
 use Rattle.form.specs.declared.Verdict.the-variants.{Accepted}
 use Rattle.form.proofs.Search.{first-is-none}
-use Rattle.form.proofs.Order.{orRule, ruling-append, kept, kept-before, one-kept, or-clean}
+use Rattle.form.proofs.Order.{ruling-append, kept, kept-before, one-kept, or-clean}
 use Rattle.form.proofs.Accepted.{accepted-ruling, counted}
 use Rattle.filing.specs.Lists.{cut, total, rowsIn}
 use Rattle.filing.proofs.Cut.{total-flat}
@@ -42,38 +41,39 @@ abbrev pub returned : List ℕ → List ℕ → List ℕ → ℕ → List ℕ
 returned lengths area room n = take n (bytesAfter 1 lengths area room (Done n))
 
 module _ (lengths area room : List ℕ) (n : ℕ) (done : writeAnswer 1 lengths area room ≡ Done n) where
-  ended : (ruling (writeRules 1 lengths area room) ≡ Clean) × (length (written 1 (cut lengths area)) ≡ n)
+  -- the return that is written
+  abbrev w : List ℕ
+  w = written 1 (cut lengths area)
+
+  ended : (ruling (writeRules 1 lengths area room) ≡ Clean) × (length w ≡ n)
   unfolding writeAnswer
   ended = done-by lengths area (ruling (writeRules 1 lengths area room)) n done
 
   clean : ruling (listRules 1 lengths area) ≡ Clean
   clean = or-clean (ruling (listRules 1 lengths area)) _ (sym (ruling-append (listRules 1 lengths area) (roomRule 1 (cut lengths area) room ∷ [])) ∙ ended .0)
 
-  left : returned lengths area room n ≡ written 1 (cut lengths area)
-  left = let w = written 1 (cut lengths area) in take-at w (drop (length w) room) n (ended .1)
+  left : returned lengths area room n ≡ w
+  left = take-at w (drop (length w) room) n (ended .1)
 
   -- the room that each kind's rows end in
-  none-outgrown : (rows : List ℕ) → length area ≤ length rows → (k : ℕ) → k < suc kinds → outgrown (written 1 (cut lengths area)) (length rows) k ≡ false
+  none-outgrown : (rows : List ℕ) → length area ≤ length rows → (k : ℕ) → k < suc kinds → outgrown w (length rows) k ≡ false
   none-outgrown rows h k l =
-      let s = written 1 (cut lengths area) in
-      le-ltb (length rows) (length (areaTo s k)) (omega (arith, length-part (rowsOf s) k kinds (omega arith), ap length (rows-again lengths area clean)))
+      le-ltb (length rows) (length (areaTo w k)) (omega (arith, length-part (rowsOf w) k kinds (omega arith), ap length (rows-again lengths area clean)))
 
-  accepts : (rows : List ℕ) → length area ≤ length rows → readAnswer (written 1 (cut lengths area)) rows ≡ Accepted (countsOf (written 1 (cut lengths area)))
+  accepts : (rows : List ℕ) → length area ≤ length rows → readAnswer w rows ≡ Accepted (countsOf w)
   unfolding readAnswer ruling
   accepts rows h =
-      let s = written 1 (cut lengths area) in
-      let last = rule 9 (suc kinds) (outgrown s (length rows)) in
-      ap (verdictBy s)
-      (kept-before (rules s) (last ∷ []) (accepted-ruling s (countsOf s) (accepted-again lengths area clean))
-      ∙ sym (kept last [] (first-is-none (outgrown s (length rows)) (suc kinds) (none-outgrown rows h)) refl))
+      let last = rule 9 (suc kinds) (outgrown w (length rows)) in
+      ap (verdictBy w)
+      (kept-before (rules w) (last ∷ []) (accepted-ruling w (countsOf w) (accepted-again lengths area clean))
+      ∙ sym (kept last [] (first-is-none (outgrown w (length rows)) (suc kinds) (none-outgrown rows h)) refl))
 
   pub read-accepted : (rows : List ℕ) → length area ≤ length rows → readAnswer (returned lengths area room n) rows ≡ Accepted (countsOf (returned lengths area room n))
   read-accepted rows h = rw left (accepts rows h)
 
   pub read-counts : (k : ℕ) → k < kinds → countIn (countsOf (returned lengths area room n)) (suc k) ≡ rowsIn (suc k) (getD lengths k 0)
   read-counts k h =
-      let s = written 1 (cut lengths area) in
-      ap (λ (x : List ℕ). countIn (countsOf x) (suc k)) left ∙ counted s (countsOf s) (accepted-again lengths area clean) k h ∙ counts-again lengths area clean k h
+      ap (λ (x : List ℕ). countIn (countsOf x) (suc k)) left ∙ counted w (countsOf w) (accepted-again lengths area clean) k h ∙ counts-again lengths area clean k h
 
   pub read-rows : (rows : List ℕ) (c : Counts) → roomAfter (returned lengths area room n) rows (Accepted c) ≡ onFront area rows
   read-rows rows c = rw left (ap (λ (x : List ℕ). onFront x rows) (rows-again lengths area clean))
@@ -106,14 +106,11 @@ module _ (s rows : List ℕ) (c : Counts) (done : readAnswer s rows ≡ Accepted
     same : written 1 (cut (lengthsOf c) (areaTo s kinds)) ≡ s
     same = bytes-again s c judged bytes
 
-    fits : ltb (length room) (length (written 1 (cut (lengthsOf c) (areaTo s kinds)))) ≡ false
-    fits = le-ltb (length room) (length (written 1 (cut (lengthsOf c) (areaTo s kinds)))) (rw (ap length same) long)
-
     clean-room : ruling (writeRules 1 (lengthsOf c) (areaTo s kinds) room) ≡ Clean
     unfolding ruling
     clean-room =
         kept-before (listRules 1 (lengthsOf c) (areaTo s kinds)) (roomRule 1 (cut (lengthsOf c) (areaTo s kinds)) room ∷ []) (clean-again s c judged)
-        ∙ one-kept 9 _ [] fits
+        ∙ one-kept 9 _ [] (le-ltb (length room) (length (written 1 (cut (lengthsOf c) (areaTo s kinds)))) (rw (ap length same) long))
 
     pub write-done : writeAnswer 1 (lengthsOf c) (leftBehind s rows c) room ≡ Done (length s)
     unfolding writeAnswer

@@ -4,27 +4,28 @@
 --     block-stands    a block that breaks no rule stands as it would be written
 use Prim.Native.Nat.{ℕ, zero, suc, _+_, _-_, _*_, _/_, _^_, _<_, _≤_}
 use mathlib.Core.Path.{_≡_, refl, sym, ap, subst, _∙_}
-use mathlib.Core.Bool.{Bool, true, false, cond, not, _||_}
+use mathlib.Core.Bool.{false}
 use mathlib.Core.List.{List, [], _∷_, _++_}
 use native.Mathlib.Nat.{zero-add, add-zero, mul-suc, mul-zero, mul-le-mul}
 use native.Mathlib.Omega.{arith}
-use lib.Dec.{ltb, eqb, lit<}
+use lib.Dec.{ltb, lit<}
 use lib.ListN.{length, getD, take, drop}
 use lib.Seq.{drop-cons, take-at}
 use borrow.Author.Tests.{eqb-true, not-false}
 use Rattle.form.proofs.Stand.{headed}
 use Rattle.form.specs.First.{any}
 use Rattle.form.specs.Bytes.{byteAt, number, strayIn}
-use Rattle.form.specs.Layout.{Layout, layout, rowAt, strayAt}
+use Rattle.form.specs.Layout.{Layout, layout}
 use Rattle.form.specs.Block.{blocks, kindOf, countOf, blockNumber, blocksSaid, edition, recordAt, checkSaid, weighed, checkDue, badCheck, badHeader, strayRecord, stray}
 use Rattle.form.specs.Records.{Filed, filed}
 use Rattle.form.proofs.Tests.{or-none}
 use Rattle.form.proofs.Search.{any-each}
 use Rattle.form.proofs.Places.{block-of, position-of}
-use Rattle.filing.specs.Written.{zeros, recordFrom, recordOf, inTurn, headOf, sealed, recordOn, usedFrom, bodyOf, blockOf}
+use Rattle.filing.specs.Written.{zeros, recordFrom, inTurn, headOf, sealed, recordOn, usedFrom, bodyOf, blockOf}
 use Rattle.form.specs.Bytes.{littleEndian}
+use Rattle.filing.proofs.Choice.{either}
 use Rattle.filing.proofs.Stands.{Stands, stands-left, stands-right, stands-join, stands-at, Bytes, length-le, number-read, number-stands, zeros-read, zeros-stand, record-stands}
-use Rattle.filing.proofs.Stores.{length-turns}
+use Rattle.filing.proofs.Stores.{length-turns, zeros-turn}
 use Rattle.form.proofs.Fields.{ends-40}
 use Rattle.filing.proofs.Parts.{length-head, length-on, length-body, used-count}
 
@@ -83,10 +84,14 @@ unfolding Small littleEndian
 small-le zero v = tt
 small-le (suc w) v = (omega arith, small-le w (v / 256))
 
+small-turns : (f : ℕ → List ℕ) → ((k : ℕ) → Small (f k)) → (i n : ℕ) → Small (inTurn f i n)
+unfolding inTurn Small
+small-turns f h i zero = tt
+small-turns f h i (suc n) = small-append (f i) (inTurn f (suc i) n) (h i) (small-turns f h (suc i) n)
+
 small-zeros : (n : ℕ) → Small (zeros n)
 unfolding Small
-small-zeros zero = tt
-small-zeros (suc n) = (lit< tt, small-zeros n)
+small-zeros n = rw (zeros-turn 0 n) at (small-turns (λ k. 0 ∷ []) (λ k. (lit< tt, tt)) 0 n)
 
 small-record : (k : ℕ) (l : Layout) (r : List ℕ) → Small (recordFrom k l r)
 unfolding recordFrom
@@ -97,16 +102,7 @@ small-record k (f ∷ l) r =
 
 small-on : (f : Filed) (j : ℕ) → Small (recordOn f j)
 unfolding recordOn
-small-on f j = go (f .used j)
-  where
-    go : (u : Bool) → Small (cond u (recordOf (layout (f .kind j)) (f .row j)) (zeros 40))
-    go true = small-record 0 (layout (f .kind j)) (f .row j)
-    go false = small-zeros 40
-
-small-turns : (f : ℕ → List ℕ) → ((k : ℕ) → Small (f k)) → (i n : ℕ) → Small (inTurn f i n)
-unfolding inTurn Small
-small-turns f h i zero = tt
-small-turns f h i (suc n) = small-append (f i) (inTurn f (suc i) n) (h i) (small-turns f h (suc i) n)
+small-on f j = either Small (f .used j) (λ u. small-record 0 (layout (f .kind j)) (f .row j)) (λ u. small-zeros 40)
 
 -- the check of bytes has room in four
 weighed-small : (k n : ℕ) (x : List ℕ) → Small x → k + length x ≤ n → weighed k x ≤ n * 255 * length x
@@ -164,23 +160,18 @@ module _ (s : List ℕ) (b : ℕ) (bytes : Bytes s) (room : 512 * b + 512 ≤ le
   used-there : (r : ℕ) → r < 12 → filed s .used (12 * b + r) ≡ ltb r (countOf s b)
   used-there r l = rw (block-of b r l, position-of b r l)
 
-  whole-block : (b : ℕ) → 12 * b / 12 ≡ b
-  whole-block b = omega arith
-
   pub count-there : countOf s b ≤ 12 → usedFrom (filed s) (12 * b) 12 ≡ countOf s b
-  count-there h = used-count (filed s) 12 (countOf s b) (12 * b) used-there ∙ omega arith
+  count-there h = used-count (filed s) 12 0 (countOf s b) (12 * b) (λ r l. rw (zero-add r) (used-there r l)) ∙ omega arith
 
   on-stands : (r : ℕ) → r < 12 → strayRecord s b r ≡ false → Stands s (recordAt b r) (recordOn (filed s) (12 * b + r))
   unfolding strayRecord recordOn
-  on-stands r l e = rw (used-there r l, block-of b r l, position-of b r l) (go (ltb r (countOf s b)) e)
-    where
-      at : ℕ
-      at = recordAt b r
-
-      go : (u : Bool) → cond u (strayAt (layout (kindOf s b)) s at) (strayIn s at 40) ≡ false
-          → Stands s at (cond u (recordOf (layout (kindOf s b)) (rowAt (layout (kindOf s b)) s at)) (zeros 40))
-      go true q = rw (add-zero at) at (record-stands 0 (layout (kindOf s b)) s at (ends-40 (kindOf s b)) bytes (omega arith) q)
-      go false q = zeros-stand 40 s at (omega arith) q
+  on-stands r l e =
+      let at = recordAt b r in
+      let k = layout (kindOf s b) in
+      rw (used-there r l, block-of b r l, position-of b r l)
+      (either (λ (x : List ℕ). Stands s at x) (ltb r (countOf s b))
+      (λ t. rw (add-zero at) at (record-stands 0 k s at (ends-40 (kindOf s b)) bytes (omega arith) (rw t at e)))
+      (λ t. zeros-stand 40 s at (omega arith) (rw t at e)))
 
   pub block-stands : (e : ℕ) → edition s b ≡ e → badCheck s b ≡ false → badHeader s b ≡ false → stray s b ≡ false → countOf s b ≤ 12
       → Stands s (512 * b) (blockOf e (filed s) 0 (blocks s) b)
@@ -197,7 +188,8 @@ module _ (s : List ℕ) (b : ℕ) (bytes : Bytes s) (room : 512 * b + 512 ≤ le
       let h : List ℕ = headOf e kind count (0 + b) n in
       let lh = length-head e kind count (0 + b) n in
       let lr = length-turns (recordOn f) 40 (length-on f) (12 * b) 12 in
-      let k₀ : Stands s (512 * b) (kind ∷ []) = rw (whole-block b) (byte-stands s (512 * b) (omega arith)) in
+      let i : 12 * b / 12 ≡ b = omega arith in
+      let k₀ : Stands s (512 * b) (kind ∷ []) = rw i (byte-stands s (512 * b) (omega arith)) in
       let c₀ : Stands s (512 * b + 1) (count ∷ []) = rw (count-there few) (byte-stands s (512 * b + 1) (omega arith)) in
       let two : (p v : ℕ) → number 2 s p ≡ v → p + 2 ≤ length s → Stands s p (littleEndian 2 v) =
       λ p v q l. subst (λ (y : ℕ). Stands s p (littleEndian 2 y)) q (number-stands 2 s p bytes l) in

@@ -1,5 +1,5 @@
 -- Rows within their limits fit the widths of their fields. Assumes nothing.
-use Prim.Native.Nat.{ℕ, zero, suc, _*_, _^_, _<_}
+use Prim.Native.Nat.{ℕ, _*_, _^_, _<_}
 use mathlib.Core.Path.{_≡_, refl}
 use mathlib.Core.Bool.{Bool, true, false, _&&_}
 use mathlib.Core.List.{List, [], _∷_}
@@ -28,12 +28,9 @@ roomy-fits (f ∷ l) r h e =
     let k = and-true (ltb (f .limit) (256 ^ f .width)) (roomy l) h in
     (omega (arith, ltb-false (f .limit) (getD r 0 0) (g .0), ltb-true (f .limit) (256 ^ f .width) (k .0)), roomy-fits l (drop 1 r) (k .1) (g .1))
 
-roomy-kind : (kind : ℕ) → roomy (layout kind) ≡ true
-unfolding roomy
-roomy-kind kind = each-layout roomy refl refl kind
-
 pub fits : (kind : ℕ) (r : List ℕ) → aboveLimit (layout kind) r ≡ false → Fits (layout kind) r
-fits kind r e = roomy-fits (layout kind) r (roomy-kind kind) e
+unfolding roomy
+fits kind r e = roomy-fits (layout kind) r (each-layout roomy refl refl kind) e
 
 pub length-rowOf : (kind : ℕ) (r : List ℕ) (j : ℕ) → j < rowsIn kind (length r) → length (rowOf kind r j) ≡ numbersOf kind
 length-rowOf kind r j h =

@@ -2,18 +2,16 @@
 --     list-alike    of one kind; lists-alike, of all
 use Prim.Native.Nat.{ℕ, zero, suc, _+_, _-_, _*_, _/_, _%_, _<_, _≤_, min}
 use mathlib.Core.Path.{_≡_, sym, ap, subst, _∙_}
-use mathlib.Core.Bool.{true, cond}
-use mathlib.Core.List.{List, _++_}
-use native.Mathlib.Nat.{zero-add, add-zero, mul-suc, mul-zero, mul-div-cancel-left}
-use native.Mathlib.Decide.{decLt}
+use mathlib.Core.List.{List}
+use native.Mathlib.Nat.{zero-add, mul-div-cancel-left}
 use native.Mathlib.Omega.{arith}
 use lib.Dec.{ltb}
 use lib.ListN.{length, take, drop}
-use lib.Seq.{take-at, drop-at, drop-drop}
-use borrow.Author.Tests.{lt-ltb, le-ltb, ltb-true}
+use lib.Seq.{take-at}
+use borrow.Author.Tests.{ltb-true}
 use Rattle.form.specs.Layout.{kinds, numbersOf}
 use Rattle.form.specs.Block.{blocks, kindOf, countOf, blocksBelow}
-use Rattle.form.specs.Records.{Filed, filed}
+use Rattle.form.specs.Records.{filed}
 use Rattle.form.specs.Verdict.{rowCount, verdictOf}
 use Rattle.form.specs.Standing.{blocksFor, startBlock, startPlace}
 use Rattle.form.specs.declared.Counts.{Counts}
@@ -24,46 +22,20 @@ use Rattle.filing.specs.Lists.{rowsIn, filedList, behind, filedFrom, filedLists
 use Rattle.filing.specs.Written.{inTurn}
 use Rattle.filing.specs.Tables.{rowOn}
 use Rattle.filing.proofs.Parts.{length-rowOn}
+use Rattle.filing.proofs.Stands.{stands-whole}
+use Rattle.trips.proofs.Blocks.{turn-stands}
 use Rattle.form.proofs.Fields.{some-numbers}
-use Rattle.filing.proofs.Alike.{Alike}
+use Rattle.filing.proofs.Choice.{ltb-same}
+use Rattle.filing.proofs.Alike.{Alike, alike-then, alike-join, front-alike, back-alike}
 use Rattle.rows.specs.Reading.{rowsOf, listsFrom, rowLists}
 use Rattle.rows.proofs.Rows.{rows-turn, rows-long, start-next, start-first}
 
 -- ---- parts of one length
 
-pub turn-part : (f : ℕ → List ℕ) (w : ℕ) → ((k : ℕ) → length (f k) ≡ w) → (n i k : ℕ) → k < n → take w (drop (w * k) (inTurn f i n)) ≡ f (i + k)
-unfolding inTurn
-turn-part f w long zero i k h = absurd (omega arith)
-turn-part f w long (suc n) i zero h = rw (mul-zero w, add-zero i) (take-at (f i) (inTurn f (suc i) n) w (long i))
-turn-part f w long (suc n) i (suc k) h =
-    let q : w * suc k ≡ w + w * k = omega (arith, mul-suc w k) in
-    let j : i + suc k ≡ suc i + k = omega arith in
-    rw (q, j, ← drop-drop (w * k) w (f i ++ inTurn f (suc i) n), drop-at (f i) (inTurn f (suc i) n) w (long i)) (turn-part f w long n (suc i) k (omega arith))
-
--- ---- records behind others
-
-pub behind-alike : (f g h : Filed) (j m : ℕ) → Alike f 0 h j (f .places) → Alike g 0 h (j + f .places) m → Alike (behind f g) 0 h j (f .places + m)
-unfolding behind
-behind-alike f g h j m af ag = record { used = λ k l. used k l (decLt k (f .places)); kind = λ k l. kind k l (decLt k (f .places)); row = λ k l. row k l (decLt k (f .places)) }
-  where
-    past : (k : ℕ) → f .places ≤ k → j + f .places + (k - f .places) ≡ j + k
-    past k l = omega arith
-
-    used : (k : ℕ) → k < f .places + m → Dec (k < f .places) → cond (ltb (0 + k) (f .places)) (f .used (0 + k)) (g .used (0 + k - f .places)) ≡ h .used (j + k)
-    used k l (yes a) = rw (zero-add k, lt-ltb k (f .places) a) (rw (zero-add k) at (af .used k a))
-    used k l (no a) = rw (zero-add k, le-ltb k (f .places) (omega arith)) (rw (zero-add (k - f .places), past k (omega arith)) at (ag .used (k - f .places) (omega arith)))
-
-    kind : (k : ℕ) → k < f .places + m → Dec (k < f .places) → cond (ltb (0 + k) (f .places)) (f .kind (0 + k)) (g .kind (0 + k - f .places)) ≡ h .kind (j + k)
-    kind k l (yes a) = rw (zero-add k, lt-ltb k (f .places) a) (rw (zero-add k) at (af .kind k a))
-    kind k l (no a) = rw (zero-add k, le-ltb k (f .places) (omega arith)) (rw (zero-add (k - f .places), past k (omega arith)) at (ag .kind (k - f .places) (omega arith)))
-
-    row : (k : ℕ) → k < f .places + m → Dec (k < f .places)
-        → cond (ltb (0 + k) (f .places)) (f .used (0 + k)) (g .used (0 + k - f .places)) ≡ true
-        → cond (ltb (0 + k) (f .places)) (f .row (0 + k)) (g .row (0 + k - f .places)) ≡ h .row (j + k)
-    row k l (yes a) = rw (zero-add k, lt-ltb k (f .places) a) (λ u. rw (zero-add k) at (af .row k a (rw (zero-add k) u)))
-    row k l (no a) =
-        rw (zero-add k, le-ltb k (f .places) (omega arith))
-        (λ u. rw (zero-add (k - f .places), past k (omega arith)) at (ag .row (k - f .places) (omega arith) (rw (zero-add (k - f .places)) u)))
+turn-part : (f : ℕ → List ℕ) (w : ℕ) → ((k : ℕ) → length (f k) ≡ w) → (n i k : ℕ) → k < n → take w (drop (w * k) (inTurn f i n)) ≡ f (i + k)
+turn-part f w long n i k h =
+    let st = turn-stands f w long (inTurn f i n) n i 0 k h (stands-whole (inTurn f i n)) in
+    rw (rw (zero-add (w * k)) at (st .is)) (take-at (f (i + k)) (st .rest) w (long (i + k)))
 
 -- ---- one kind
 
@@ -87,25 +59,23 @@ module _ (s : List ℕ) (c : Counts) (acc : verdictOf s ≡ Accepted c) (k : ℕ
       (kind, count-in s o (suc k) b below kind ∙ ap (λ (x : ℕ). min 12 (rowCount (suc k) s - 12 * x)) e)
 
   used-there : (i : ℕ) → i < 12 * blocksFor (rowCount (suc k) s) → ltb i (rowCount (suc k) s) ≡ filed s .used (startPlace (suc k) s + i)
-  used-there i l = go (decLt i (rowCount (suc k) s))
-    where
-      n : ℕ
-      n = countOf s ((startPlace (suc k) s + i) / 12)
-
-      go : Dec (i < rowCount (suc k) s) → ltb i (rowCount (suc k) s) ≡ ltb ((startPlace (suc k) s + i) % 12) n
-      go (yes a) = lt-ltb i (rowCount (suc k) s) a ∙ sym (lt-ltb ((startPlace (suc k) s + i) % 12) n (omega (arith, there i l .1)))
-      go (no a) = le-ltb i (rowCount (suc k) s) (omega arith) ∙ sym (le-ltb ((startPlace (suc k) s + i) % 12) n (omega (arith, there i l .1)))
+  used-there i l =
+      let j = startPlace (suc k) s + i in
+      ltb-same i (rowCount (suc k) s) (j % 12) (countOf s (j / 12)) (λ q. omega (arith, there i l .1)) (λ q. omega (arith, there i l .1))
 
   pub list-alike : Alike (filedList (suc k) (rowsOf s (suc k))) 0 (filed s) (startPlace (suc k) s) (12 * blocksFor (rowCount (suc k) s))
   unfolding filedList rowOn
   list-alike = record {
-    used = λ i l. rw (zero-add i, rows-counted) (used-there i l);
-    kind = λ i l. sym (there i l .0);
-    row = λ i l u.
-        let lt : i < rowCount (suc k) s = ltb-true i (rowCount (suc k) s) (rw (zero-add i, rows-counted) at u) in
-        rw (zero-add i, ← rows-turn s c acc k h)
-        (turn-part (rowOn (suc k) s) (numbersOf (suc k)) (length-rowOn (suc k) s) (rowCount (suc k) s) (startPlace (suc k) s) i lt
-        ∙ rw (there i l .0));
+    at = λ i l.
+        record {
+          used = rw (zero-add i, rows-counted) (used-there i l);
+          kind = sym (there i l .0);
+          row = λ t.
+              let lt : i < rowCount (suc k) s = ltb-true i (rowCount (suc k) s) (rw (zero-add i, rows-counted) at t) in
+              rw (zero-add i, ← rows-turn s c acc k h)
+              (turn-part (rowOn (suc k) s) (numbersOf (suc k)) (length-rowOn (suc k) s) (rowCount (suc k) s) (startPlace (suc k) s) i lt
+              ∙ rw (there i l .0));
+        };
   }
 
   -- as many places as its blocks have
@@ -132,16 +102,15 @@ module _ (s : List ℕ) (c : Counts) (acc : verdictOf s ≡ Accepted c) where
   alike-from : (n k : ℕ) → k + n ≤ kinds
       → Alike (filedFrom (suc k) (listsFrom s (suc k) n)) 0 (filed s) (startPlace (suc k) s) (filedFrom (suc k) (listsFrom s (suc k) n) .places)
   unfolding listsFrom filedFrom behind
-  alike-from zero k h =
-      record { used = λ q l. absurd (omega arith); kind = λ q l. absurd (omega arith); row = λ q l. absurd (omega arith) }
+  alike-from zero k h = record { at = λ q l. absurd (omega arith) }
   alike-from (suc n) k h =
       let f = filedList (suc k) (rowsOf s (suc k)) in
       let g = filedFrom (suc (suc k)) (listsFrom s (suc (suc k)) n) in
       let p = list-places s c acc k (omega arith) in
       let e : startPlace (suc k) s + f .places ≡ startPlace (suc (suc k)) s = omega (arith, start-next s k) in
-      behind-alike f g (filed s) (startPlace (suc k) s) (g .places)
-      (subst (λ (m : ℕ). Alike f 0 (filed s) (startPlace (suc k) s) m) (sym p) (list-alike s c acc k (omega arith)))
-      (rw e (alike-from n (suc k) (omega arith)))
+      alike-join
+      (alike-then (front-alike f g) (subst (λ (m : ℕ). Alike f 0 (filed s) (startPlace (suc k) s) m) (sym p) (list-alike s c acc k (omega arith))))
+      (alike-then (back-alike f g (g .places)) (alike-from n (suc k) (omega arith))) (zero-add (f .places)) e
 
   pub lists-alike : Alike (filedLists (rowLists s)) 0 (filed s) 0 (filedLists (rowLists s) .places)
   lists-alike =

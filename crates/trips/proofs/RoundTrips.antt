@@ -3,7 +3,7 @@
 --     clean-again, bytes-again                    read and written: no rule broken, and the same bytes
 use Prim.Native.Nat.{ℕ, zero, suc, _<_}
 use mathlib.Core.Path.{_≡_, refl, sym, ap, subst, _∙_}
-use mathlib.Core.List.{List, [], _∷_, _++_, flatten, map}
+use mathlib.Core.List.{List, _++_, flatten, map}
 use native.Mathlib.Omega.{arith}
 use lib.Dec.{lit<}
 use lib.ListN.{length, getD}
@@ -14,18 +14,16 @@ use Rattle.form.specs.Verdict.{rowCount, countsOf, verdictOf}
 use Rattle.form.specs.declared.Counts.{Counts}
 use Rattle.form.specs.declared.Ruling.the-variants.{Clean}
 use Rattle.form.specs.declared.Verdict.the-variants.{Accepted}
-use Rattle.form.proofs.Order.{Kept, AllKept, more, ruling-clean}
 use Rattle.form.proofs.EachKind.{first-edition}
 use Rattle.filing.specs.Lists.{cut, rowsIn}
 use Rattle.filing.specs.Written.{inTurn}
-use Rattle.filing.proofs.Cut.{cut-long, flat-cut}
+use Rattle.filing.proofs.Cut.{cut-long, flat-cut, cut-flat}
 use Rattle.lists.specs.Rules.{Good, listRules}
-use Rattle.lists.proofs.Numbers.{good}
 use Rattle.rows.specs.Reading.{rowsOf, areaTo, listsFrom, rowLists, lengthsOf}
 use Rattle.rows.specs.Writing.{written}
-use Rattle.trips.proofs.Standing.{Clear, clear}
+use Rattle.trips.proofs.Standing.{kept-lists, Clear, clear}
 use Rattle.trips.proofs.ReadBack.{accepted-back, counts-back, rows-back}
-use Rattle.trips.proofs.WriteBack.{lengths-are, cut-back, rows-clean, first-is-one, written-back}
+use Rattle.trips.proofs.WriteBack.{lengths-are, rows-clean, first-is-one, written-back}
 
 -- the rows of a return in one area are its row lists, one after the other
 flat-from : (s : List ℕ) (n k : ℕ) → flatten (listsFrom s k n) ≡ inTurn (rowsOf s) k n
@@ -42,11 +40,7 @@ module _ (lengths area : List ℕ) (clean : ruling (listRules 1 lengths area) �
   ok = clear 1 lengths area clean first-edition (lit< tt)
 
   good-lists : Good lengths (length area)
-  unfolding listRules Kept
-  good-lists = go (ruling-clean clean)
-    where
-      go : AllKept (listRules 1 lengths area) → Good lengths (length area)
-      go (more h rest) = good lengths (length area) h
+  good-lists = kept-lists 1 lengths area clean .0
 
   pub accepted-again : verdictOf (written 1 (cut lengths area)) ≡ Accepted (countsOf (written 1 (cut lengths area)))
   accepted-again = accepted-back 1 (cut lengths area) ok
@@ -71,5 +65,5 @@ module _ (s : List ℕ) (c : Counts) (acc : verdictOf s ≡ Accepted c) where
 
   pub bytes-again : ((i : ℕ) → i < length s → byteAt s i < 256) → written 1 (cut (lengthsOf c) (areaTo s kinds)) ≡ s
   bytes-again small =
-      rw (lengths-are s c acc, ← area-is s, cut-back s c acc)
+      rw (lengths-are s c acc, ← area-is s, cut-flat (rowLists s))
       (subst (λ (e : ℕ). written e (rowLists s) ≡ s) (first-is-one s c acc) (written-back s c acc small))

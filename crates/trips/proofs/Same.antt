@@ -8,13 +8,14 @@ use native.Mathlib.Decide.{decLt}
 use native.Mathlib.Omega.{arith}
 use borrow.Author.Tests.{eqb-true, ltb-true, lt-ltb, le-ltb}
 use lib.Dec.{ltb, leb, eqb}
+use lib.ListN.{length}
 use Rattle.form.specs.First.{first}
 use Rattle.form.specs.Ruling.{refuse, ruling}
 use Rattle.form.specs.Records.{Filed, RowTest, RowRule, hasId, idOf, badId, brokenBy, rowRules, overPlaces, recordRules}
 use Rattle.form.proofs.Tests.{guarded}
 use Rattle.form.proofs.Search.{first-same}
-use Rattle.filing.specs.Lists.{Lists, filedList, behind, filedFrom}
-use Rattle.filing.proofs.Alike.{Alike}
+use Rattle.filing.specs.Lists.{Lists, rowsIn, filedList, behind, filedFrom}
+use Rattle.filing.proofs.Alike.{Same, Alike}
 use Rattle.lists.proofs.Places.{kinds-from}
 
 -- a used place behind one of its kind: that one is used too
@@ -22,32 +23,26 @@ pub Solid : Filed → ℕ → Type 0
 Solid f n = (j : ℕ) → suc j < n → f .used (suc j) ≡ true → f .kind j ≡ f .kind (suc j) → f .used j ≡ true
 
 module _ {f g : Filed} {n : ℕ} (a : Alike f 0 g 0 n) where
-  used-at : (j : ℕ) → j < n → f .used j ≡ g .used j
-  used-at j h = rw (zero-add j) at (a .used j h)
-
-  kind-at : (j : ℕ) → j < n → f .kind j ≡ g .kind j
-  kind-at j h = rw (zero-add j) at (a .kind j h)
-
-  row-at : (j : ℕ) → j < n → f .used j ≡ true → f .row j ≡ g .row j
-  row-at j h u = rw (zero-add j) at (a .row j h (rw (zero-add j) u))
+  same-at : (j : ℕ) → j < n → Same f j g j
+  same-at j h = rw (zero-add j) at (a .at j h)
 
   id-same : Solid f n → (j : ℕ) → j < n → badId f j ≡ badId g j
   unfolding badId Solid
-  id-same solid zero h = rw (← used-at 0 h, ← kind-at 0 h)
+  id-same solid zero h = let s = same-at 0 h in rw (← s .used, ← s .kind)
   id-same solid (suc j) h =
       let e : suc j - 1 ≡ j = omega arith in
-      let l : j < n = omega arith in
-      rw (e, ← used-at (suc j) h, ← kind-at (suc j) h, ← kind-at j l)
+      let s = same-at (suc j) h in
+      let p = same-at j (omega arith) in
+      rw (e, ← s .used, ← s .kind, ← p .kind)
       (guarded (f .used (suc j))
       (λ u.
       ap (λ (b : Bool). hasId (f .kind (suc j)) && (ltb 0 (suc j) && b))
       (guarded (eqb (f .kind j) (f .kind (suc j)))
-      (λ q.
-      ap₂ (λ x y. leb (idOf x) (idOf y)) (row-at (suc j) h u) (row-at j l (solid j h u (eqb-true (f .kind j) (f .kind (suc j)) q)))))))
+      (λ q. ap₂ (λ x y. leb (idOf x) (idOf y)) (s .row u) (p .row (solid j h u (eqb-true (f .kind j) (f .kind (suc j)) q)))))))
 
   row-same : (e : ℕ) (t : RowTest) (j : ℕ) → j < n → brokenBy f e t j ≡ brokenBy g e t j
   unfolding brokenBy
-  row-same e t j h = rw (← used-at j h, ← kind-at j h) (guarded (f .used j) (λ u. ap (t e (f .kind j)) (row-at j h u)))
+  row-same e t j h = let s = same-at j h in rw (← s .used, ← s .kind) (guarded (f .used j) (λ u. ap (t e (f .kind j)) (s .row u)))
 
 module _ (e : ℕ) (f g : Filed) (a : Alike f 0 g 0 (f .places)) (same : f .places ≡ g .places) where
   at : (p q : ℕ → Bool) → ((j : ℕ) → j < f .places → p j ≡ q j) → first p (f .places) ≡ first q (g .places)
@@ -63,10 +58,6 @@ module _ (e : ℕ) (f g : Filed) (a : Alike f 0 g 0 (f .places)) (same : f .plac
   rules-same solid = ap₂ (refuse 5) (at (badId f) (badId g) (id-same a solid)) (over-same rowRules)
 
 -- ---- the records of lists are solid
-
-solid-list : (kind : ℕ) (r : List ℕ) (n : ℕ) → Solid (filedList kind r) n
-unfolding Solid filedList
-solid-list kind r n j h u e = lt-ltb j _ (omega (arith, ltb-true (suc j) _ u))
 
 solid-behind : (f g : Filed) (k m : ℕ) → ((j : ℕ) → f .kind j ≡ k) → ((i : ℕ) → k < g .kind i) → Solid f (f .places) → Solid g m → Solid (behind f g) (f .places + m)
 unfolding Solid behind
@@ -89,4 +80,4 @@ unfolding filedFrom filedList behind Solid
 solid-lists k [] = λ j h. absurd (omega arith)
 solid-lists k (r ∷ l) =
     solid-behind (filedList k r) (filedFrom (suc k) l) k (filedFrom (suc k) l .places) (λ j. refl) (λ i. kinds-from (suc k) l i)
-    (solid-list k r (filedList k r .places)) (solid-lists (suc k) l)
+    (λ j h u e. lt-ltb j (rowsIn k (length r)) (omega (arith, ltb-true (suc j) (rowsIn k (length r)) u))) (solid-lists (suc k) l)

@@ -2,17 +2,16 @@
 --     startOf       the first block of a list; whereis, the list that a block is of
 --     list-at       the records of a list, where they stand among all
 use Prim.Native.Nat.{ℕ, zero, suc, _+_, _-_, _*_, _<_, _≤_}
-use mathlib.Core.Path.{_≡_, refl, sym, _∙_}
-use mathlib.Core.List.{List, [], _∷_, map}
+use mathlib.Core.Path.{_≡_, refl}
+use mathlib.Core.List.{[], map}
 use native.Mathlib.Nat.{zero-add, add-zero}
 use native.Mathlib.Decide.{decLt}
 use native.Mathlib.Omega.{arith}
 use lib.ListN.{length, getD, drop, drop-of-length-le}
 use lib.Seq.{drop-cons}
 use Rattle.form.specs.Layout.{kinds}
-use Rattle.form.specs.Records.{Filed}
 use Rattle.filing.specs.Lists.{Lists, ofKind, blocksOf, filedList, behind, filedFrom, filedLists}
-use Rattle.filing.proofs.Alike.{Alike, alike-part, front-alike, back-alike}
+use Rattle.filing.proofs.Alike.{Alike, alike-part, alike-then, front-alike, back-alike}
 use Rattle.lists.specs.Rules.{blocksFrom}
 
 -- the blocks that the list of a kind takes
@@ -37,20 +36,11 @@ start-up l j (suc d) =
 pub start-mono : (l : Lists) (j k : ℕ) → j ≤ k → startOf l j ≤ startOf l k
 start-mono l j k h = let e : j + (k - j) ≡ k = omega arith in rw e at (start-up l j (k - j))
 
-first-block : (l : Lists) → startOf l 0 ≡ 0
-unfolding startOf
-first-block l = refl
-
-blocks-cons : (j n : ℕ) (ns : List ℕ) → blocksFrom j (n ∷ ns) ≡ blocksOf j n + blocksFrom (suc j) ns
-unfolding blocksFrom
-blocks-cons j n ns = refl
-
 -- the blocks of the kinds up to one, and of those after it
 start-split : (l : Lists) (k : ℕ) → k ≤ length l → startOf l k + blocksFrom (suc k) (map length (drop k l)) ≡ blocksFrom 1 (map length l)
-unfolding startOf
+unfolding startOf blocksFrom
 start-split l zero h = omega arith
-start-split l (suc k) h =
-    omega (arith, rw (drop-cons l k [] h) at (start-split l k (omega arith)), blocks-cons (suc k) (length (getD l k [])) (map length (drop (suc k) l)))
+start-split l (suc k) h = omega (arith, rw (drop-cons l k [] h) at (start-split l k (omega arith)))
 
 pub start-all : (l : Lists) → startOf l (length l) ≡ blocksFrom 1 (map length l)
 unfolding blocksFrom
@@ -66,39 +56,28 @@ pub record Where (l : Lists) (b : ℕ) : Type 0 where
   pub below : b < startOf l (suc k)
 
 pub whereis : (l : Lists) (b n : ℕ) → n ≤ kinds → b < startOf l n → Where l b
-whereis l b zero h l₀ = absurd (omega (arith, first-block l))
+unfolding startOf
+whereis l b zero h l₀ = absurd (omega arith)
 whereis l b (suc n) h l₀ = go (λ x. whereis l b n (omega arith) x) (decLt b (startOf l n))
   where
     go : (b < startOf l n → Where l b) → Dec (b < startOf l n) → Where l b
     go w (yes x) = w x
     go w (no x) = record { k = n; kind = h; from = omega arith; below = l₀ }
 
--- the two kinds of a block are one
-pub where-same : (l : Lists) {b j k : ℕ} → startOf l j ≤ b → b < startOf l (suc j) → startOf l k ≤ b → b < startOf l (suc k) → j ≡ k
-where-same l {b} {j} {k} a₁ a₂ b₁ b₂ = go (decLt j k) (decLt k j)
+-- a later block is of no earlier kind
+pub where-rises : (l : Lists) {b c : ℕ} (v : Where l b) (w : Where l c) → b ≤ c → v .k ≤ w .k
+where-rises l v w h = go (decLt (w .k) (v .k))
   where
-    go : Dec (j < k) → Dec (k < j) → j ≡ k
-    go (yes h) g = absurd (omega (arith, start-mono l (suc j) k h))
-    go (no h) (yes g) = absurd (omega (arith, start-mono l (suc k) j g))
-    go (no h) (no g) = omega arith
+    go : Dec (w .k < v .k) → v .k ≤ w .k
+    go (yes g) = absurd (omega (arith, start-mono l (suc (w .k)) (v .k) g, w .below, v .from))
+    go (no g) = omega arith
 
 -- ---- the records of each list
-
-alike-then : {f g h : Filed} {i j k n : ℕ} → Alike f i g j n → Alike g j h k n → Alike f i h k n
-alike-then a b =
-    record {
-      used = λ q l. a .used q l ∙ b .used q l;
-      kind = λ q l. a .kind q l ∙ b .kind q l;
-      row = λ q l u. a .row q l u ∙ b .row q l (sym (a .used q l) ∙ u);
-    }
-
-alike-self : (f : Filed) (n : ℕ) → Alike f 0 f 0 n
-alike-self f n = record { used = λ k h. refl; kind = λ k h. refl; row = λ k h u. refl }
 
 -- the lists from one on, among all
 from-at : (l : Lists) (k m : ℕ) → k ≤ length l → Alike (filedLists l) (12 * startOf l k) (filedFrom (suc k) (drop k l)) 0 m
 unfolding startOf filedFrom filedList
-from-at l zero m h = alike-self (filedLists l) m
+from-at l zero m h = record { at = λ q b. record { used = refl; kind = refl; row = λ u. refl } }
 from-at l (suc k) m h =
     let n = blocksAt l (suc k) in
     let f = filedList (suc k) (getD l k []) in

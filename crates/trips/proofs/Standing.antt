@@ -1,31 +1,31 @@
 -- The return of row lists that break no rule: what is read of each of its blocks and records. Assumes nothing.
-use Prim.Native.Nat.{ℕ, zero, suc, _+_, _-_, _*_, _/_, _%_, _<_, _≤_, min}
-use mathlib.Core.Path.{_≡_, refl, sym, ap, subst, _∙_}
-use mathlib.Core.Bool.{Bool, true, false, cond}
-use mathlib.Core.List.{List, [], _∷_, map}
+use Prim.Native.Nat.{ℕ, zero, suc, _+_, _-_, _*_, _%_, _<_, _≤_, min}
+use mathlib.Core.Path.{_≡_, sym, ap, subst, _∙_}
+use mathlib.Core.Bool.{Bool, true, false}
+use mathlib.Core.List.{List, _∷_, map}
 use native.Mathlib.Nat.{zero-add, add-zero}
-use native.Mathlib.Decide.{decLt}
 use native.Mathlib.Omega.{arith}
 use lib.Dec.{ltb, lit<}
 use lib.ListN.{length, getD}
-use borrow.Author.Tests.{lt-ltb, le-ltb, ltb-true}
-use Rattle.form.specs.Ruling.{ruling}
+use borrow.Author.Tests.{ltb-true}
+use Rattle.form.specs.Ruling.{Rule, ruling}
 use Rattle.form.specs.Layout.{kinds, parametersKind, layout, numbersOf, rowAt, strayAt, aboveLimit}
 use Rattle.form.specs.Edition.{lastKind}
-use Rattle.form.specs.Bytes.{strayIn}
 use Rattle.form.specs.Block.{mostBlocks, blocks, kindOf, countOf, recordAt, strayRecord}
-use Rattle.form.specs.Records.{fieldAbove, brokenBy, recordRules}
+use Rattle.form.specs.Records.{Filed, filed, fieldAbove, brokenBy, recordRules}
 use Rattle.form.specs.declared.Ruling.the-variants.{Clean}
 use Rattle.form.proofs.Order.{Kept, AllKept, more, ruling-clean}
 use Rattle.form.proofs.Tests.{and-rest}
 use Rattle.form.proofs.EachKind.{parameters-last, few-kinds}
-use Rattle.filing.specs.Lists.{Lists, ofKind, cut, rowsIn, rowOf, blocksOf, filedList, filedLists}
+use Rattle.form.proofs.Places.{block-of, position-of}
+use Rattle.filing.specs.Lists.{Lists, ofKind, cut, rowsIn, rowOf, filedList, filedLists}
 use Rattle.filing.specs.Written.{recordOf, inTurn, recordOn, usedFrom, blockOf}
 use Rattle.filing.proofs.Stands.{Stands, stands-whole, record-read, zeros-read}
 use Rattle.filing.proofs.Parts.{length-block, list-used}
-use Rattle.filing.proofs.Alike.{Alike, alike-part, used-alike}
+use Rattle.filing.proofs.Choice.{either, ltb-same}
+use Rattle.filing.proofs.Alike.{Same, Alike, alike-part, used-alike}
 use Rattle.filing.proofs.Cut.{cut-length, cut-long}
-use Rattle.lists.specs.Rules.{listRules, blocksFrom}
+use Rattle.lists.specs.Rules.{Good, listRules, blocksFrom}
 use Rattle.lists.proofs.Numbers.{good}
 use Rattle.rows.specs.Writing.{written}
 use Rattle.rows.proofs.Return.{places-from, written-turn, length-written}
@@ -54,33 +54,36 @@ pub record Clear (e : ℕ) (l : Lists) : Type 0 where
   pub allows : lastKind e ≡ kinds
   pub small : e < 65536
 
-pub clear : (e : ℕ) (lengths area : List ℕ) → ruling (listRules e lengths area) ≡ Clean → lastKind e ≡ kinds → e < 65536 → Clear e (cut lengths area)
+kept-head : {r : Rule} {rs : List Rule} → AllKept (r ∷ rs) → Kept r × AllKept rs
+kept-head (more h rest) = (h, rest)
+
+-- what clean rules say of lengths and lists
+pub kept-lists : (e : ℕ) (lengths area : List ℕ) → ruling (listRules e lengths area) ≡ Clean
+    → Good lengths (length area) × AllKept (recordRules e (filedLists (cut lengths area)))
 unfolding listRules Kept
-clear e lengths area clean allows small = go (ruling-clean clean)
-  where
-    go : AllKept (listRules e lengths area) → Clear e (cut lengths area)
-    go (more h rest) =
-        let g = good lengths (length area) h in
-        let long : (k : ℕ) → k < kinds → length (ofKind (cut lengths area) (suc k)) ≡ getD lengths k 0 =
-        λ k l. cut-long lengths area (omega (arith, g .all)) k (omega (arith, g .each)) in
-        record {
-          records = rest;
-          each = cut-length lengths area ∙ g .each;
-          whole = λ k l. rw (long k l) (g .whole k l);
-          few = λ k l. rw (long k l) (g .few k l);
-          one = rw (long (parametersKind - 1) (omega (arith, parameters-last))) (g .one);
-          allows = allows;
-          small = small;
-        }
+kept-lists e lengths area clean = let k = kept-head (ruling-clean clean) in (good lengths (length area) (k .0), k .1)
+
+pub clear : (e : ℕ) (lengths area : List ℕ) → ruling (listRules e lengths area) ≡ Clean → lastKind e ≡ kinds → e < 65536 → Clear e (cut lengths area)
+clear e lengths area clean allows small =
+    let g = kept-lists e lengths area clean .0 in
+    let long : (k : ℕ) → k < kinds → length (ofKind (cut lengths area) (suc k)) ≡ getD lengths k 0 =
+    λ k l. cut-long lengths area (omega (arith, g .all)) k (omega (arith, g .each)) in
+    record {
+      records = kept-lists e lengths area clean .1;
+      each = cut-length lengths area ∙ g .each;
+      whole = λ k l. rw (long k l) (g .whole k l);
+      few = λ k l. rw (long k l) (g .few k l);
+      one = rw (long (parametersKind - 1) (omega (arith, parameters-last))) (g .one);
+      allows = allows;
+      small = small;
+    }
+
+-- 6 is kept at each place
+field-kept : (e : ℕ) (f : Filed) → AllKept (recordRules e f) → (j : ℕ) → j < f .places → brokenBy f e fieldAbove j ≡ false
+unfolding Kept
+field-kept e f (more h₅ (more h₆ rest)) = h₆
 
 module _ (e : ℕ) (l : Lists) (ok : Clear e l) where
-  no-bad-field : (j : ℕ) → j < filedLists l .places → brokenBy (filedLists l) e fieldAbove j ≡ false
-  unfolding Kept
-  no-bad-field = go (ok .records)
-    where
-      go : AllKept (recordRules e (filedLists l)) → (j : ℕ) → j < filedLists l .places → brokenBy (filedLists l) e fieldAbove j ≡ false
-      go (more h₅ (more h₆ rest)) = h₆
-
   all-blocks : blocksFrom 1 (map length l) ≡ startOf l kinds
   all-blocks = sym (start-all l) ∙ ap (startOf l) (ok .each)
 
@@ -128,7 +131,7 @@ module _ (e : ℕ) (l : Lists) (ok : Clear e l) where
 
     kind-there : (r : ℕ) → r < 12 → filedLists l .kind (12 * b + r) ≡ suc (w .k)
     unfolding filedList
-    kind-there r h = alike-there .kind r h
+    kind-there r h = alike-there .at r h .kind
 
     used-there : usedFrom (filedLists l) (12 * b) 12 ≡ min 12 (rowsAt w - 12 * nth w)
     used-there = used-alike 12 alike-there ∙ list-used (suc (w .k)) (listOf w) (nth w)
@@ -150,56 +153,46 @@ module _ (e : ℕ) (l : Lists) (ok : Clear e l) where
     pub count-is : countOf (written e l) b ≡ min 12 (rowsAt w - 12 * nth w)
     count-is = read .count ∙ used-there
 
-    pub used-is : (r : ℕ) → r < 12 → filedLists l .used (12 * b + r) ≡ ltb r (countOf (written e l) b)
+    used-is : (r : ℕ) → r < 12 → filedLists l .used (12 * b + r) ≡ ltb r (countOf (written e l) b)
     unfolding filedList
-    used-is r h = alike-there .used r h ∙ go (decLt r (countOf (written e l) b))
-      where
-        n : ℕ
-        n = rowsAt w
-
-        go : Dec (r < countOf (written e l) b) → ltb (12 * nth w + r) n ≡ ltb r (countOf (written e l) b)
-        go (yes a) = lt-ltb (12 * nth w + r) n (omega (arith, count-is)) ∙ sym (lt-ltb r (countOf (written e l) b) a)
-        go (no a) = le-ltb (12 * nth w + r) n (omega (arith, count-is)) ∙ sym (le-ltb r (countOf (written e l) b) (omega arith))
-
-    pub kind-read : (r : ℕ) → r < 12 → filedLists l .kind (12 * b + r) ≡ kindOf (written e l) b
-    kind-read r h = kind-there r h ∙ sym kind-is
+    used-is r h = alike-there .at r h .used ∙ ltb-same (12 * nth w + r) (rowsAt w) r _ (λ q. omega (arith, count-is)) (λ q. omega (arith, count-is))
 
     -- ---- a record
 
     module _ (r : ℕ) (h : r < 12) where
-      place-in : 12 * b + r < filedLists l .places
-      place-in = omega (arith, in-all, places-blocks)
-
       row-there : filedLists l .used (12 * b + r) ≡ true → filedLists l .row (12 * b + r) ≡ rowOf (suc (w .k)) (listOf w) (12 * nth w + r)
       unfolding filedList
-      row-there u = alike-there .row r h u
-
-      in-list : filedLists l .used (12 * b + r) ≡ true → 12 * nth w + r < rowsAt w
-      unfolding filedList
-      in-list u = ltb-true (12 * nth w + r) (rowsAt w) (sym (alike-there .used r h) ∙ u)
+      row-there u = alike-there .at r h .row u
 
       within : filedLists l .used (12 * b + r) ≡ true → aboveLimit (layout (suc (w .k))) (rowOf (suc (w .k)) (listOf w) (12 * nth w + r)) ≡ false
       unfolding brokenBy
       within u =
-          rw (kind-there r h, row-there u) at (and-rest (filedLists l .used (12 * b + r)) _ u (no-bad-field (12 * b + r) place-in))
+          let k = field-kept e (filedLists l) (ok .records) (12 * b + r) (omega (arith, in-all, places-blocks)) in
+          rw (kind-there r h, row-there u) at (and-rest (filedLists l .used (12 * b + r)) _ u k)
 
       -- a used record is read as its row, and has no stray byte
-      pub used-read : filedLists l .used (12 * b + r) ≡ true
+      used-read : filedLists l .used (12 * b + r) ≡ true
           → (rowAt (layout (kindOf (written e l) b)) (written e l) (recordAt b r) ≡ filedLists l .row (12 * b + r))
           × (strayAt (layout (kindOf (written e l) b)) (written e l) (recordAt b r) ≡ false)
-      unfolding recordOn
+      unfolding recordOn filedList
       used-read u =
           let row = rowOf (suc (w .k)) (listOf w) (12 * nth w + r) in
           let st : Stands (written e l) (recordAt b r + 0) (recordOf (layout (suc (w .k))) row) =
           rw (add-zero (recordAt b r)) (rw (u, kind-there r h, row-there u) at (read .records r h)) in
+          let in-list = ltb-true (12 * nth w + r) (rowsAt w) (sym (alike-there .at r h .used) ∙ u) in
           rw (kind-is, row-there u)
-          (record-read 0 (layout (suc (w .k))) row (written e l) (recordAt b r) (fits (suc (w .k)) row (within u)) (length-rowOf (suc (w .k)) (listOf w) (12 * nth w + r) (in-list u)) st)
+          (record-read 0 (layout (suc (w .k))) row (written e l) (recordAt b r) (fits (suc (w .k)) row (within u)) (length-rowOf (suc (w .k)) (listOf w) (12 * nth w + r) in-list) st)
+
+      -- the record that is read is the one that was written
+      pub place-same : Same (filedLists l) (12 * b + r) (filed (written e l)) (12 * b + r)
+      place-same = record {
+        used = rw (block-of b r h, position-of b r h) (used-is r h);
+        kind = rw (block-of b r h) (kind-there r h ∙ sym kind-is);
+        row = λ u. rw (block-of b r h, position-of b r h) (sym (used-read u .0));
+      }
 
       pub no-stray : strayRecord (written e l) b r ≡ false
       unfolding strayRecord recordOn
-      no-stray = rw (← used-is r h) (go (filedLists l .used (12 * b + r)) refl)
-        where
-          go : (u : Bool) → filedLists l .used (12 * b + r) ≡ u
-              → cond (filedLists l .used (12 * b + r)) (strayAt (layout (kindOf (written e l) b)) (written e l) (recordAt b r)) (strayIn (written e l) (recordAt b r) 40) ≡ false
-          go true u = rw u (used-read u .1)
-          go false u = rw u (zeros-read 40 (written e l) (recordAt b r) (rw u at (read .records r h)))
+      no-stray =
+          either (λ (x : Bool). x ≡ false) (ltb r (countOf (written e l) b)) (λ t. used-read (used-is r h ∙ t) .1)
+          (λ t. zeros-read 40 (written e l) (recordAt b r) (rw (used-is r h ∙ t) at (read .records r h)))

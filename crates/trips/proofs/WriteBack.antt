@@ -1,19 +1,16 @@
 -- THE SECOND ROUND TRIP: an accepted return, read and written again, is itself. Assumes nothing.
---     cut-back        its rows in one area, cut by their lengths, are its row lists
 --     rows-clean      no rule of writing is broken by its rows
 --     written-back    and the bytes written are its own
 use Prim.Native.Nat.{ℕ, zero, suc, _+_, _*_, _/_, _%_, _<_, _≤_}
 use mathlib.Core.Path.{_≡_, refl, sym, ap, ap₂, _∙_}
-use mathlib.Core.Bool.{false, not, _&&_, _||_, and-false}
-use mathlib.Core.List.{List, [], _∷_, flatten, map}
-use native.Mathlib.Nat.{zero-add, mul-mod-right, mul-div-cancel-left}
-use native.Mathlib.Decide.{decLt, ℕ-discrete}
+use mathlib.Core.Bool.{false, not, _||_}
+use mathlib.Core.List.{List, _∷_, flatten, map}
+use native.Mathlib.Nat.{zero-add, mul-mod-right}
 use native.Mathlib.Omega.{arith}
-use lib.Dec.{eqb, lit<}
-use lib.ListN.{length, getD, List·getD-eq-default}
-use borrow.Author.Tests.{le-ltb, eq-eqb, ne-eqb}
+use lib.Dec.{eqb}
+use lib.ListN.{length, getD, length-map}
+use borrow.Author.Tests.{le-ltb, eq-eqb, eqb-true}
 use Rattle.form.specs.Ruling.{rule, ruling}
-use Rattle.form.specs.Bytes.{byteAt}
 use Rattle.form.specs.Layout.{kinds, parametersKind, numbersOf}
 use Rattle.form.specs.Block.{blocks, edition, kindFalls, wrongEnd, fourthOfKind, badCount, notFilled, overFilled, stray, badCheck, badHeader, badBlock}
 use Rattle.form.specs.Records.{filed, recordRules}
@@ -24,14 +21,14 @@ use Rattle.form.specs.declared.Verdict.the-variants.{Accepted}
 use Rattle.form.proofs.Search.{first-is-none}
 use Rattle.form.proofs.Order.{kept, or-second, ruling-append, Kept, AllKept, more, ruling-clean}
 use Rattle.form.proofs.Tests.{or-none}
+use Rattle.filing.proofs.Choice.{or-of, implies}
 use Rattle.form.proofs.EachKind.{known-edition}
 use Rattle.form.proofs.Stand.{headed}
 use Rattle.form.proofs.Accepted.{eachFrom, counts-listed, accepted-counts, accepted-ruling, in-order, whole-blocks, few-rows, one-row}
-use Rattle.filing.specs.Lists.{Lists, cut, total, rowsIn, filedLists}
+use Rattle.filing.specs.Lists.{total, rowsIn, filedLists}
 use Rattle.filing.specs.Written.{inTurn, blockOf, bytesOf}
 use Rattle.filing.proofs.Stands.{Stands, stands-all, Bytes}
 use Rattle.filing.proofs.Parts.{length-block}
-use Rattle.form.proofs.Fields.{some-numbers}
 use Rattle.filing.proofs.Alike.{alike-part, block-alike}
 use Rattle.filing.proofs.Cut.{cut-flat, total-flat}
 use Rattle.lists.specs.Rules.{badList, badLengths, badAt, listRules}
@@ -43,26 +40,20 @@ use Rattle.trips.proofs.Same.{rules-same, solid-lists}
 use Rattle.trips.proofs.Blocks.{turns-stand, block-stands}
 use Rattle.trips.proofs.Rooms.{rows-counted, lists-places, lists-alike}
 
-length-map : (l : Lists) → length (map length l) ≡ length l
-length-map [] = refl
-length-map (x ∷ l) = ap suc (length-map l)
-
 good-list : (kind n : ℕ) → n % numbersOf kind ≡ 0 → rowsIn kind n ≤ 32 → (kind ≡ parametersKind → rowsIn kind n ≡ 1) → badList kind n ≡ false
 unfolding badList
-good-list kind n m few one = rw (eq-eqb (n % numbersOf kind) 0 m, le-ltb 32 (rowsIn kind n) few) (go (ℕ-discrete kind parametersKind))
-  where
-    go : Dec (kind ≡ parametersKind) → (eqb kind parametersKind && not (eqb (rowsIn kind n) 1)) ≡ false
-    go (yes e) = simp (eq-eqb (rowsIn kind n) 1 (one e), and-false)
-    go (no d) = rw (ne-eqb kind parametersKind d)
-
--- what rules 2 to 4 say of a block
-block-kept : (s : List ℕ) → AllKept (rules s) → (b : ℕ) → b < blocks s → (badCheck s b ≡ false) × (badHeader s b ≡ false) × (badBlock s b ≡ false)
-unfolding blockRules Kept
-block-kept s (more h₁ (more h₂ (more h₃ (more h₄ rest)))) b l = (h₂ b l, h₃ b l, h₄ b l)
+good-list kind n m few one =
+    or-of (or-of (ap not (eq-eqb (n % numbersOf kind) 0 m)) (le-ltb 32 (rowsIn kind n) few))
+    (implies (eqb kind parametersKind) (λ e. eq-eqb (rowsIn kind n) 1 (one (eqb-true _ _ e))))
 
 no-stray : (s : List ℕ) (b : ℕ) → badBlock s b ≡ false → stray s b ≡ false
 unfolding badBlock
 no-stray s b e = or-none (kindFalls s b || wrongEnd s b || fourthOfKind s b || badCount s b || notFilled s b || overFilled s b) (stray s b) e .1
+
+-- what rules 2 to 4 say of a block
+block-kept : (s : List ℕ) → AllKept (rules s) → (b : ℕ) → b < blocks s → (badCheck s b ≡ false) × (badHeader s b ≡ false) × (stray s b ≡ false)
+unfolding blockRules Kept
+block-kept s (more h₁ (more h₂ (more h₃ (more h₄ rest)))) b l = (h₂ b l, h₃ b l, no-stray s b (h₄ b l))
 
 module _ (s : List ℕ) (c : Counts) (acc : verdictOf s ≡ Accepted c) where
   lists-length : (k n : ℕ) → length (listsFrom s k n) ≡ n
@@ -75,9 +66,6 @@ module _ (s : List ℕ) (c : Counts) (acc : verdictOf s ≡ Accepted c) where
   list-at zero k i h = absurd (omega arith)
   list-at (suc n) k zero h = let e : k + 0 ≡ k = omega arith in rw e
   list-at (suc n) k (suc i) h = let e : k + suc i ≡ suc k + i = omega arith in rw e (list-at n (suc k) i (omega arith))
-
-  length-at : (k : ℕ) → k < kinds → getD (map length (rowLists s)) k 0 ≡ numbersOf (suc k) * rowCount (suc k) s
-  length-at k h = let e : 1 + k ≡ suc k = omega arith in list-at kinds 1 k h ∙ rw e (rows-long s c acc k h)
 
   -- as the counts give them
   lengths-from : (n k : ℕ) → k + n ≡ kinds → lengthsFrom (suc k) (eachFrom (λ x. rowCount x s) (suc k) n) ≡ map length (listsFrom s (suc k) n)
@@ -92,25 +80,18 @@ module _ (s : List ℕ) (c : Counts) (acc : verdictOf s ≡ Accepted c) where
       ∙ ap (lengthsFrom 1) (counts-listed s)
       ∙ lengths-from kinds 0 (omega arith)
 
-  -- the area of the rows, cut by their lengths, is the lists
-  pub cut-back : cut (map length (rowLists s)) (flatten (rowLists s)) ≡ rowLists s
-  cut-back = cut-flat (rowLists s)
-
   list-good : (k : ℕ) → k < kinds → badList (suc k) (getD (map length (rowLists s)) k 0) ≡ false
   list-good k h =
+      let e : 1 + k ≡ suc k = omega arith in
       let n = rows-counted s c acc k h in
-      rw (length-at k h)
-      (good-list (suc k) (numbersOf (suc k) * rowCount (suc k) s) (mul-mod-right (numbersOf (suc k)) (rowCount (suc k) s))
-      (rw count (few-rows s c acc (suc k)))
-      (λ e. rw count (rw e (one-row s c acc))))
-    where
-      count : rowsIn (suc k) (numbersOf (suc k) * rowCount (suc k) s) ≡ rowCount (suc k) s
-      count = mul-div-cancel-left (rowCount (suc k) s) (some-numbers k h)
+      rw (list-at kinds 1 k h, e)
+      (good-list (suc k) (length (rowsOf s (suc k))) (rw (rows-long s c acc k h) (mul-mod-right (numbersOf (suc k)) (rowCount (suc k) s)))
+      (rw n (few-rows s c acc (suc k))) (λ p. rw (n, p) (one-row s c acc)))
 
   lengths-good : badLengths (map length (rowLists s)) (length (flatten (rowLists s))) ≡ false
   unfolding badLengths
   lengths-good =
-      rw (eq-eqb (length (map length (rowLists s))) kinds (length-map (rowLists s) ∙ lists-length 1 kinds), eq-eqb (total (map length (rowLists s))) _ (total-flat (rowLists s)))
+      rw (eq-eqb (length (map length (rowLists s))) kinds (length-map (rowLists s) length ∙ lists-length 1 kinds), eq-eqb (total (map length (rowLists s))) _ (total-flat (rowLists s)))
 
   all-good : (p : ℕ) → p < suc kinds → badAt (map length (rowLists s)) (length (flatten (rowLists s))) p ≡ false
   all-good zero h = lengths-good
@@ -124,7 +105,7 @@ module _ (s : List ℕ) (c : Counts) (acc : verdictOf s ≡ Accepted c) where
       let records : ruling (recordRules e (filed s)) ≡ Clean =
       or-second (ruling (blockRules s)) (ruling (recordRules e (filed s))) (sym (ruling-append (blockRules s) (recordRules e (filed s))) ∙ accepted-ruling s c acc) in
       let same = rules-same e f (filed s) (lists-alike s c acc) (lists-places s c acc) (solid-lists 1 (rowLists s)) in
-      rw cut-back
+      rw (cut-flat (rowLists s))
       (sym (kept (rule 10 (suc kinds) (badAt (map length (rowLists s)) (length (flatten (rowLists s))))) (recordRules e f)
       (first-is-none (badAt (map length (rowLists s)) (length (flatten (rowLists s)))) (suc kinds) all-good) (sym (same ∙ records))))
 
@@ -135,7 +116,7 @@ module _ (s : List ℕ) (c : Counts) (acc : verdictOf s ≡ Accepted c) where
   pub first-is-one : edition s 0 ≡ 1
   first-is-one = let w = whole-blocks s c acc in same-edition 0 (omega arith)
 
-  pub written-back : ((i : ℕ) → i < length s → byteAt s i < 256) → written (edition s 0) (rowLists s) ≡ s
+  pub written-back : Bytes s → written (edition s 0) (rowLists s) ≡ s
   unfolding bytesOf
   written-back small =
       let f = filedLists (rowLists s) in
@@ -147,13 +128,6 @@ module _ (s : List ℕ) (c : Counts) (acc : verdictOf s ≡ Accepted c) where
       turns-stand (blockOf e f 0 (blocks s)) 512 (length-block f e 0 (blocks s)) s (blocks s) 0 0 block in
       sym (stands-all s (written e (rowLists s)) long (rw n stands))
     where
-      bytes : Bytes s
-      bytes i = go (decLt i (length s))
-        where
-          go : Dec (i < length s) → byteAt s i < 256
-          go (yes l) = small i l
-          go (no l) = rw (List·getD-eq-default s 0 {n = i} (omega arith)) (lit< tt)
-
       block : (b : ℕ) → b < blocks s → Stands s (0 + 512 * b) (blockOf (edition s 0) (filedLists (rowLists s)) 0 (blocks s) (0 + b))
       block b l =
           let f = filedLists (rowLists s) in
@@ -162,4 +136,4 @@ module _ (s : List ℕ) (c : Counts) (acc : verdictOf s ≡ Accepted c) where
           let e = edition s 0 in
           let same = block-alike {f = f} {g = filed s} e b b 0 0 (blocks s) (alike-part (lists-alike s c acc) (12 * b) 12 (omega (arith, lists-places s c acc)) (zero-add (12 * b)) (zero-add (12 * b))) refl in
           rw (zero-add (512 * b), zero-add b, same)
-          (block-stands s b bytes (omega arith) e (same-edition b l ∙ sym first-is-one) (k .0) (k .1) (no-stray s b (k .2)) (in-order s c acc .twelve b l))
+          (block-stands s b small (omega arith) e (same-edition b l ∙ sym first-is-one) (k .0) (k .1) (k .2) (in-order s c acc b l .twelve))

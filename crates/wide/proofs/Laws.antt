@@ -1,5 +1,5 @@
 -- Laws of numbers in two words. Assumes nothing.
-use mathlib.Core.Path.{_≡_, sym, ap, _∙_}
+use mathlib.Core.Path.{_≡_, refl, sym, ap, _∙_}
 use Prim.Native.Nat.{ℕ, zero, suc, _+_, _-_, _*_, _/_, _%_, _^_, _<_, _≤_}
 use native.Mathlib.Omega.{arith}
 use native.Mathlib.Decide.{decLt}
@@ -8,21 +8,28 @@ use native.Mathlib.Numerals.{bound}
 use lib.Arith.{digits-div, digits-mod, mod-mul}
 use lib.Dec.{ltb, eqb, lit≤, lit<}
 use borrow.Author.Tests.{lt-ltb, le-ltb, eq-eqb, ne-eqb}
-use Rattle.wide.specs.Numbers.{value}
+use Rattle.wide.specs.Numbers.{value, wordsOf, Is}
 use Rattle.wide.specs.declared.Wide.{Wide}
 
--- one number has one pair of words, so a contract on `value` admits one answer
-pub value-one : (a b : Wide) → a .lo < 2 ^ 64 → b .lo < 2 ^ 64 → value a ≡ value b → a ≡ b
-unfolding value
-value-one a b fa fb e =
-    let p : a .lo ≡ b .lo = omega arith in
-    let q : a .hi ≡ b .hi = omega arith in
+-- the words of a number are that number
+pub value-words : (n : ℕ) → Is (wordsOf n) n
+unfolding value wordsOf
+value-words n = record { number = omega arith; word = omega arith }
+
+-- and no other pair of words is
+pub words : {w : Wide} {n : ℕ} → Is w n → w ≡ wordsOf n
+unfolding value wordsOf
+words {w} {n} h =
+    let p : w .lo ≡ n % 2 ^ 64 = omega arith in
+    let q : w .hi ≡ n / 2 ^ 64 = omega arith in
     λ i. record { lo = p i; hi = q i }
 
--- a number that one word holds has nothing in the upper
-pub value-word : (a : Wide) → value a < 2 ^ 64 → a .lo ≡ value a
-unfolding value
-value-word a h = omega arith
+pub is-itself : {w : Wide} → w .lo < 2 ^ 64 → Is w (value w)
+is-itself h = record { number = refl; word = h }
+
+-- what is a number is its equal
+pub is-as : {w : Wide} {m n : ℕ} → Is w m → m ≡ n → Is w n
+is-as h e = record { number = h .number ∙ e; word = h .word }
 
 -- nothing in the upper word, or something
 pub value-low : (a : Wide) → a .hi ≡ 0 → value a ≡ a .lo
@@ -48,18 +55,18 @@ unfolding value
 high-le a b f h = omega arith
 
 pub sub-plain : (a b : Wide) → a .lo < 2 ^ 64 → b .lo ≤ a .lo → value b ≤ value a
-    → value (record { lo = a .lo - b .lo; hi = a .hi - b .hi }) ≡ value a - value b
+    → Is (record { lo = a .lo - b .lo; hi = a .hi - b .hi }) (value a - value b)
 unfolding value
-sub-plain a b f t h = omega arith
+sub-plain a b f t h = record { number = omega arith; word = omega arith }
 
 pub high-lt : (a b : Wide) → a .lo < b .lo → value b ≤ value a → b .hi < a .hi
 unfolding value
 high-lt a b t h = omega arith
 
 pub sub-borrow : (a b : Wide) → b .lo < 2 ^ 64 → a .lo < b .lo → value b ≤ value a
-    → value (record { lo = 2 ^ 64 - 1 - b .lo + a .lo + 1; hi = a .hi - b .hi - 1 }) ≡ value a - value b
+    → Is (record { lo = 2 ^ 64 - 1 - b .lo + a .lo + 1; hi = a .hi - b .hi - 1 }) (value a - value b)
 unfolding value
-sub-borrow a b f t h = omega arith
+sub-borrow a b f t h = record { number = omega arith; word = omega arith }
 
 -- two tests that agree
 same-test : (a b c d : ℕ) → (a < b → c < d) → (b ≤ a → d ≤ c) → ltb a b ≡ ltb c d
@@ -99,9 +106,9 @@ column-fits h q hh hq = omega arith
 
 -- the columns p and q of a product by a digit
 pub times-value : (a : Wide) (k p q : ℕ) → p ≡ a .lo % 2 ^ 32 * k → q ≡ a .lo / 2 ^ 32 * k + p / 2 ^ 32
-    → value (record { lo = q % 2 ^ 32 * 2 ^ 32 + p % 2 ^ 32; hi = a .hi * k + q / 2 ^ 32 }) ≡ value a * k
+    → Is (record { lo = q % 2 ^ 32 * 2 ^ 32 + p % 2 ^ 32; hi = a .hi * k + q / 2 ^ 32 }) (value a * k)
 unfolding value
-times-value a k p q ep eq = omega (arith, ap (λ (n : ℕ). n * k) (div-add-mod' (a .lo) (2 ^ 32)))
+times-value a k p q ep eq = record { number = omega (arith, ap (λ (n : ℕ). n * k) (div-add-mod' (a .lo) (2 ^ 32))); word = omega arith }
 
 -- a number that is q times d and r below d has the quotient q and the rest r
 pub divided : (x d q r : ℕ) → r < d → q * d + r ≡ x → (q ≡ x / d) × (r ≡ x % d)
@@ -119,11 +126,11 @@ step n m d hd h hm = (
 
 -- the steps f and s of long division
 pub divide-value : (x : Wide) (d f s : ℕ) → 0 < d → f ≡ x .hi % d * 2 ^ 32 + x .lo / 2 ^ 32 → s ≡ f % d * 2 ^ 32 + x .lo % 2 ^ 32
-    → (value (record { lo = f / d * 2 ^ 32 + s / d; hi = x .hi / d }) ≡ value x / d) × (s % d ≡ value x % d)
+    → f / d * 2 ^ 32 + s / d < 2 ^ 64 → (Is (record { lo = f / d * 2 ^ 32 + s / d; hi = x .hi / d }) (value x / d)) × (s % d ≡ value x % d)
 unfolding value
-divide-value x d f s hd ef es =
-    divided (x .lo + 2 ^ 64 * x .hi) d _ (s % d) (mod-lt s hd)
-    (omega (arith, div-add-mod' f d, div-add-mod' s d, div-add-mod' (x .hi) d))
+divide-value x d f s hd ef es h =
+    let e = divided (x .lo + 2 ^ 64 * x .hi) d (f / d * 2 ^ 32 + s / d + 2 ^ 64 * (x .hi / d)) (s % d) (mod-lt s hd) (omega (arith, div-add-mod' f d, div-add-mod' s d, div-add-mod' (x .hi) d)) in
+    (record { number = e .0; word = h }, e .1)
 
 -- division by a product: by the one factor, and then by the other
 rest-twice : (x a b : ℕ) → 0 < a → 0 < b → x / a % b * a + x % a ≡ x % (a * b)

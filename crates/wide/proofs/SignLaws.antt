@@ -9,13 +9,13 @@ use lib.IntN.{ℤ, pos, negsuc, negℤ, negℤ-negℤ, natAbs, _-ℤ_, _*ℤ_}
 use borrow.Author.Tests.{lt-ltb, le-ltb}
 use Rattle.wide.specs.Numbers.{value}
 use Rattle.wide.specs.Rounding.{settled, nearest}
-use Rattle.wide.specs.Signs.{sized, amount, Holds, nearestZ}
+use Rattle.wide.specs.Signs.{sized, amount, sign, signedOf, Holds, nearestZ}
 use Rattle.wide.specs.declared.signed.Signed.{Signed}
-use Rattle.wide.proofs.Laws.{value-one}
+use Rattle.wide.proofs.Laws.{value-words, words}
 
 -- what holds an integer holds its equal
 pub holds-as : {s : Signed} {z w : ℤ} → Holds s z → z ≡ w → Holds s w
-holds-as h e = record { number = h .number ∙ e; form = h .form }
+holds-as h e = record { number = h .number ∙ e; form = h .form; word = h .word }
 
 -- zero has no sign
 pub sized-zero : (t : Bool) (n : ℕ) → n ≡ 0 → pos n ≡ sized t n
@@ -57,10 +57,6 @@ minus-sized a zero = refl
 minus-sized a (suc n) = refl
 
 -- what holds an integer has its sign and its size
-abbrev pub sign : ℤ → Bool
-sign (pos n) = false
-sign (negsuc n) = true
-
 sign-sized : (t : Bool) (n : ℕ) → (t ≡ true → 0 < n) → t ≡ sign (sized t n)
 sign-sized false n h = refl
 sign-sized true zero h = let z : ⊥ = omega (arith, h refl) in elim z [ ]
@@ -80,12 +76,17 @@ size-amount s = size-sized (s .below) (value (s .size))
 pub size-is : (s : Signed) (z : ℤ) → Holds s z → value (s .size) ≡ natAbs z
 size-is s z h = size-amount s ∙ ap natAbs (h .number)
 
--- so a contract with `Holds` admits one answer
-pub holds-one : (s t : Signed) (z : ℤ) → s .size .lo < 2 ^ 64 → t .size .lo < 2 ^ 64 → Holds s z → Holds t z → s ≡ t
-holds-one s t z fs ft hs ht =
-    let p = sign-is s z hs ∙ sym (sign-is t z ht) in
-    let q = value-one (s .size) (t .size) fs ft (size-is s z hs ∙ sym (size-is t z ht)) in
-    λ i. record { below = p i; size = q i }
+-- the form of an integer holds it, and nothing else does
+pub form-holds : (z : ℤ) → Holds (signedOf z) z
+form-holds (pos n) = record { number = ap pos (value-words n .number); form = λ e. (let z : _≡_ {A = ℕ} 0 1 = cc in absurd (omega arith)); word = value-words n .word }
+form-holds (negsuc n) =
+    let w = value-words (suc n) in
+    record { number = ap (sized true) (w .number); form = λ e. omega arith; word = w .word }
+
+pub signed : {s : Signed} {z : ℤ} → Holds s z → s ≡ signedOf z
+signed {s} {z} h =
+    let q = words (record { number = size-is s z h; word = h .word }) in
+    λ i. record { below = sign-is s z h i; size = q i }
 
 -- sizes, for the room that a difference or a product asks
 pub size-minus : (a : ℕ) (z : ℤ) → natAbs (pos a -ℤ z) ≤ a + natAbs z

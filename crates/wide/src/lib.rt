@@ -5,7 +5,7 @@ pub mod signed;
 ghost use mathlib.Core.Path.{_≡_};
 ghost use Prim.Native.Nat.{_+_, _-_, _*_, _/_, _%_, _^_, _<_, _≤_};
 ghost use lib.Dec.{ltb, eqb};
-ghost use Rattle.wide.specs.Numbers.{value};
+ghost use Rattle.wide.specs.Numbers.{value, Is};
 
 // A number in two words. Sums and products are kept below 2 ^ 120, so that no carry out of the upper word is lost.
 pub struct Wide {
@@ -14,23 +14,15 @@ pub struct Wide {
 }
 
 pub fn of(x: u64) -> Wide
-    ensures { λ r. ⌜ value r ≡ x ⌝ }
+    ensures { λ r. ⌜ Is r x ⌝ }
 {
     Wide { lo: x, hi: 0 }
-}
-
-// The number, where one word holds it.
-pub fn word(a: Wide) -> u64
-    requires { ⌜ value a < 2 ^ 64 ⌝ }
-    ensures { λ r. ⌜ r ≡ value a ⌝ }
-{
-    a.lo
 }
 
 // The lower word wraps, and its carry goes up: a wrapped sum is below each summand.
 pub fn add(a: Wide, b: Wide) -> Wide
     requires { ⌜ value a + value b < 2 ^ 120 ⌝ }
-    ensures { λ r. ⌜ value r ≡ value a + value b ⌝ }
+    ensures { λ r. ⌜ Is r (value a + value b) ⌝ }
 {
     let lo = std::num::wrapping_add_u64(a.lo, b.lo);
     if lo < a.lo {
@@ -48,7 +40,7 @@ pub fn add(a: Wide, b: Wide) -> Wide
 
 pub fn add_word(a: Wide, x: u64) -> Wide
     requires { ⌜ value a + x < 2 ^ 120 ⌝ }
-    ensures { λ r. ⌜ value r ≡ value a + x ⌝ }
+    ensures { λ r. ⌜ Is r (value a + x) ⌝ }
 {
     add(a, of(x))
 }
@@ -72,7 +64,7 @@ pub fn is_zero(a: Wide) -> bool
 // The lower word borrows where it is too small.
 pub fn sub(a: Wide, b: Wide) -> Wide
     requires { ⌜ value b ≤ value a ⌝ }
-    ensures { λ r. ⌜ value r ≡ value a - value b ⌝ }
+    ensures { λ r. ⌜ Is r (value a - value b) ⌝ }
 {
     if a.lo < b.lo {
         Wide {
@@ -90,7 +82,7 @@ pub fn sub(a: Wide, b: Wide) -> Wide
 // By columns of 32 bits, so that no product wraps.
 pub fn times(a: Wide, k: u32) -> Wide
     requires { ⌜ value a * k < 2 ^ 120 ⌝ }
-    ensures { λ r. ⌜ value r ≡ value a * k ⌝ }
+    ensures { λ r. ⌜ Is r (value a * k) ⌝ }
 {
     let m = k as u64;
     let p = a.lo % 4294967296 * m;
@@ -110,7 +102,7 @@ pub struct Parts {
 // Long division: the upper word, then the lower one by its two halves.
 pub fn divide(x: Wide, d: u32) -> Parts
     requires { ⌜ 0 < d ⌝ }
-    ensures { λ r. ⌜ (value (r .quotient) ≡ value x / d) × (r .rest ≡ value x % d) ⌝ }
+    ensures { λ r. ⌜ (Is (r .quotient) (value x / d)) × (r .rest ≡ value x % d) ⌝ }
 {
     let m = d as u64;
     let first = x.hi % m * 4294967296 + x.lo / 4294967296;

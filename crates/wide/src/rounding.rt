@@ -1,7 +1,7 @@
 // Division by a constant beyond one word, and the rule of rounding.
 ghost use mathlib.Core.Path.{_≡_};
 ghost use Prim.Native.Nat.{_+_, _*_, _/_, _%_, _^_, _<_};
-ghost use Rattle.wide.specs.Numbers.{value};
+ghost use Rattle.wide.specs.Numbers.{value, Is};
 ghost use Rattle.wide.specs.Rounding.{settled, nearest};
 use crate::Wide;
 use crate::add;
@@ -20,7 +20,7 @@ pub struct Share {
 // x over a * b * c, by one factor after the other: 7 * 10 ^ 19 is 70 * 10 ^ 9 * 10 ^ 9.
 pub fn divide_by(x: Wide, a: u32, b: u32, c: u32) -> Share
     requires { ⌜ 0 < a * b * c ⌝ }
-    ensures { λ r. ⌜ (value (r .quotient) ≡ value x / (a * b * c)) × (value (r .rest) ≡ value x % (a * b * c)) ⌝ }
+    ensures { λ r. ⌜ (Is (r .quotient) (value x / (a * b * c))) × (Is (r .rest) (value x % (a * b * c))) ⌝ }
 {
     let one = divide(x, a);
     let two = divide(one.quotient, b);
@@ -34,7 +34,7 @@ pub fn divide_by(x: Wide, a: u32, b: u32, c: u32) -> Share
 // THE rule of rounding, and the only place in the code that knows it.
 pub fn settle(q: Wide, r: Wide, d: Wide) -> Wide
     requires { ⌜ (value q + 1 < 2 ^ 120) × (value r + value r < 2 ^ 120) ⌝ }
-    ensures { λ s. ⌜ value s ≡ settled (value q) (value r) (value d) ⌝ }
+    ensures { λ s. ⌜ Is s (settled (value q) (value r) (value d)) ⌝ }
 {
     if less(add(r, r), d) {
         q
@@ -46,7 +46,7 @@ pub fn settle(q: Wide, r: Wide, d: Wide) -> Wide
 // One word over a divisor, by one division where that is one word too.
 fn divide_word(x: u64, d: Wide) -> Share
     requires { ⌜ 0 < value d ⌝ }
-    ensures { λ r. ⌜ (value (r .quotient) ≡ x / value d) × (value (r .rest) ≡ x % value d) ⌝ }
+    ensures { λ r. ⌜ (Is (r .quotient) (x / value d)) × (Is (r .rest) (x % value d)) ⌝ }
 {
     if d.hi == 0 {
         let quotient = of(x / d.lo);
@@ -61,7 +61,7 @@ fn divide_word(x: u64, d: Wide) -> Share
 // x over a * b * c, rounded.
 pub fn rounded(x: Wide, a: u32, b: u32, c: u32) -> Wide
     requires { ⌜ (0 < a * b * c) × (value x + 1 < 2 ^ 120) ⌝ }
-    ensures { λ r. ⌜ value r ≡ nearest (value x) (a * b * c) ⌝ }
+    ensures { λ r. ⌜ Is r (nearest (value x) (a * b * c)) ⌝ }
 {
     let d = times(of((a as u64) * (b as u64)), c);
     if x.hi == 0 {

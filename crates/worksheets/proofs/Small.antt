@@ -37,33 +37,21 @@ nearest-abs : (z : ℤ) (d : ℕ) → natAbs (nearestZ z d) ≤ natAbs z + 1
 nearest-abs (pos n) d = nearest-le n d
 nearest-abs (negsuc n) d = omega (arith, abs-neg (pos (nearest (suc n) d)), nearest-le (suc n) d)
 
-pub record Small51 (v : Sheet51) : Type 0 where
-  pub e : v .e < 10 ^ 34
-  pub k : v .k < 10 ^ 34
-  pub l : v .l < 10 ^ 34
-  pub m : natAbs (v .m) < 10 ^ 34
-  pub o : natAbs (v .o) < 10 ^ 34
-  pub p : natAbs (v .p) < 10 ^ 34
-  pub q : natAbs (v .q) < 10 ^ 34
-  pub report : natAbs (v .report) < 10 ^ 34
+-- below 10 ^ 34, and so all the values of a sheet
+abbrev pub Fits : ℕ → Type 0
+Fits n = n < 10 ^ 34
 
-pub record Small52 (v : Sheet52) : Type 0 where
-  pub onsite : v .onsite < 10 ^ 34
-  pub offsite : v .offsite < 10 ^ 34
-  pub r : v .r < 10 ^ 34
-  pub decay : v .decay < 10 ^ 34
-  pub co2 : v .co2 < 10 ^ 34
+abbrev pub Small51 : Sheet51 → Type 0
+Small51 v = Fits (v .e) × Fits (v .k) × Fits (v .l) × Fits (natAbs (v .m)) × Fits (natAbs (v .o)) × Fits (natAbs (v .p)) × Fits (natAbs (v .q)) × Fits (natAbs (v .report))
 
-pub record Small53 (v : Sheet53) : Type 0 where
-  pub ch4 : v .ch4 < 10 ^ 34
-  pub co : v .co < 10 ^ 34
-  pub n2o : v .n2o < 10 ^ 34
-  pub nox : v .nox < 10 ^ 34
+abbrev pub Small52 : Sheet52 → Type 0
+Small52 v = Fits (v .onsite) × Fits (v .offsite) × Fits (v .r) × Fits (v .decay) × Fits (v .co2)
 
-pub record Small (v : Sheets) : Type 0 where
-  pub stocks : Small51 (v .stocks)
-  pub conversion : Small52 (v .conversion)
-  pub gases : Small53 (v .gases)
+abbrev pub Small53 : Sheet53 → Type 0
+Small53 v = Fits (v .ch4) × Fits (v .co) × Fits (v .n2o) × Fits (v .nox)
+
+abbrev pub Small : Sheets → Type 0
+Small v = Small51 (v .stocks) × Small52 (v .conversion) × Small53 (v .gases)
 
 stocks-small : (e k l n : ℕ) → e < 2 ^ 64 → k < 2 ^ 64 → l < 2 ^ 64 → n ≤ 1000 → Small51 (stocksOf e k l n)
 unfolding stocksOf
@@ -72,32 +60,27 @@ stocks-small e k l n he hk hl hn =
     let o : natAbs (columnO (columnM k l) n) < 2 ^ 90 = subst (λ (x : ℕ). x < 2 ^ 90) (sym (size-times (columnM k l) n)) (thousand 80 _ n m hn) in
     let p : natAbs (columnP e (columnO (columnM k l) n)) < 2 ^ 91 = omega (arith, size-minus (100 * e) (columnO (columnM k l) n)) in
     let q = eleven (columnP e (columnO (columnM k l) n)) p in
-    record { e = omega arith; k = omega arith; l = omega arith; m = omega arith; o = omega arith; p = omega arith; q = q; report = subst (λ (x : ℕ). x < 10 ^ 34) (sym (abs-neg (columnQ (columnP e (columnO (columnM k l) n))))) q }
+    (omega arith, omega arith, omega arith, omega arith, omega arith, omega arith, q, subst Fits (sym (abs-neg (columnQ (columnP e (columnO (columnM k l) n))))) q)
   where
-    eleven : (z : ℤ) → natAbs z < 2 ^ 91 → natAbs (columnQ z) < 10 ^ 34
+    eleven : (z : ℤ) → natAbs z < 2 ^ 91 → Fits (natAbs (columnQ z))
     eleven z h = omega (arith, nearest-abs (pos 11 *ℤ z) 3000000, ap natAbs (*ℤ-comm (pos 11) z), size-times z 11)
 
 conversion-small : (a b d : ℕ) → a < 2 ^ 80 → b < 2 ^ 80 → d < 2 ^ 80 → Small52 (conversionOf a b d)
 unfolding conversionOf
-conversion-small a b d ha hb hd =
-    record { onsite = omega arith; offsite = omega arith; r = omega arith; decay = omega arith; co2 = omega (arith, nearest-le (11 * (a + b + d)) 3000000000) }
+conversion-small a b d ha hb hd = (omega arith, omega arith, omega arith, omega arith, omega (arith, nearest-le (11 * (a + b + d)) 3000000000))
 
 gases-small : (c : ℕ) (p : Parameters) → c < 2 ^ 80 → Ratios p → Small53 (gasesOf c p)
 unfolding gasesOf
-gases-small c p hc r = record {
-  ch4 = of-carbon 4 (p .ch4) (lit≤ tt) (r .ch4);
-  co = of-carbon 7 (p .co) (lit≤ tt) (r .co);
-  n2o = of-nitrogen 11 (p .n2o) (lit≤ tt) (r .n2o);
-  nox = of-nitrogen 23 (p .nox) (lit≤ tt) (r .nox);
-}
+gases-small c p hc r =
+    (of-carbon 4 (p .ch4) (lit≤ tt) (r .ch4), of-carbon 7 (p .co) (lit≤ tt) (r .co), of-nitrogen 11 (p .n2o) (lit≤ tt) (r .n2o), of-nitrogen 23 (p .nox) (lit≤ tt) (r .nox))
   where
     parts : (w : ℕ) → w ≤ 1000 → w * c < 2 ^ 90
     parts w hw = omega (arith, thousand 80 c w hc hw)
 
-    of-carbon : (w ratio : ℕ) → w ≤ 1000 → ratio ≤ 1000 → nearest (w * c * ratio) (3 * 10 ^ 12) < 10 ^ 34
+    of-carbon : (w ratio : ℕ) → w ≤ 1000 → ratio ≤ 1000 → Fits (nearest (w * c * ratio) (3 * 10 ^ 12))
     of-carbon w ratio hw hr = omega (arith, nearest-le (w * c * ratio) (3 * 10 ^ 12), thousand 90 (w * c) ratio (parts w hw) hr)
 
-    of-nitrogen : (w ratio : ℕ) → w ≤ 1000 → ratio ≤ 1000 → nearest (w * c * p .nc * ratio) (7 * 10 ^ 15) < 10 ^ 34
+    of-nitrogen : (w ratio : ℕ) → w ≤ 1000 → ratio ≤ 1000 → Fits (nearest (w * c * p .nc * ratio) (7 * 10 ^ 15))
     of-nitrogen w ratio hw hr =
         let n = thousand 90 (w * c) (p .nc) (parts w hw) (r .nc) in
         omega (arith, nearest-le (w * c * p .nc * ratio) (7 * 10 ^ 15), thousand 100 (w * c * p .nc) ratio n hr)
@@ -106,8 +89,4 @@ pub figures-small : (s : List ℕ) (c : Counts) → verdictOf s ≡ Accepted c �
 figures-small s c acc =
     let w = columns-small s c acc in
     let r = ratios s c acc in
-    record {
-      stocks = stocks-small _ _ _ _ (w .0) (w .1) (w .2) (r .n);
-      conversion = conversion-small _ _ _ (w .3) (w .4) (w .5);
-      gases = gases-small _ _ (w .3) r;
-    }
+    (stocks-small _ _ _ _ (w .0) (w .1) (w .2) (r .n), conversion-small _ _ _ (w .3) (w .4) (w .5), gases-small _ _ (w .3) r)

@@ -5,8 +5,8 @@ use mathlib.Core.Path.{_≡_}
 use Rattle.form.specs.Verdict.{verdictOf}
 use Rattle.form.specs.declared.Verdict.{Verdict}
 use Rattle.form.specs.declared.Verdict.the-variants as verdict
-use Rattle.wide.specs.Numbers.{value}
-use Rattle.wide.specs.Signs.{amount, Canonical}
+use Rattle.wide.specs.Numbers.{value, wordsOf}
+use Rattle.wide.specs.Signs.{amount, signedOf}
 use Rattle.worksheets.specs.Sheets.{Sheet51, Sheet52, Sheet53, Sheets, figuresOf}
 use Rattle.worksheets.specs.declared.sheets.Stocks.{Stocks}
 use Rattle.worksheets.specs.declared.sheets.Conversion.{Conversion}
@@ -40,14 +40,6 @@ stocksSaid f = record {
   report = amount (f .report .0);
 }
 
--- zero has no minus sign, so that each signed figure has one form
-pub record Plain (f : Stocks) : Type 0 where
-  pub m : Canonical (f .m .0)
-  pub o : Canonical (f .o .0)
-  pub p : Canonical (f .p .0)
-  pub q : Canonical (f .q .0)
-  pub report : Canonical (f .report .0)
-
 abbrev pub conversionSaid : Conversion → Sheet52
 conversionSaid f = record {
   onsite = value (f .onsite .0);
@@ -63,17 +55,48 @@ gasesSaid f = record { ch4 = value (f .ch4 .0); co = value (f .co .0); n2o = val
 abbrev pub figuresSaid : declared.Figures → Sheets
 figuresSaid f = record { stocks = stocksSaid (f .stocks); conversion = conversionSaid (f .conversion); gases = gasesSaid (f .gases) }
 
--- a struct holds the figures, each in its one form
-pub record Shows (f : declared.Figures) (v : Sheets) : Type 0 where
-  pub values : figuresSaid f ≡ v
-  pub plain : Plain (f .stocks)
-
 -- an answer's number and values, case by case
 abbrev pub said : Answer → Outcome
 said (Figures f) = worked (figuresSaid f)
 said (Refused n p) = refusal n p
 
--- and what it holds is in its one form
-abbrev pub InForm : Answer → Type 0
-InForm (Figures f) = Plain (f .stocks)
-InForm (Refused n p) = Unit {0}
+-- the other way: the one form of a sheet's values, and of an answer
+unfoldable pub stocksHeld : Sheet51 → Stocks
+stocksHeld v = record {
+  e = record { 0 = wordsOf (v .e) };
+  k = record { 0 = wordsOf (v .k) };
+  l = record { 0 = wordsOf (v .l) };
+  m = record { 0 = signedOf (v .m) };
+  o = record { 0 = signedOf (v .o) };
+  p = record { 0 = signedOf (v .p) };
+  q = record { 0 = signedOf (v .q) };
+  report = record { 0 = signedOf (v .report) };
+}
+
+unfoldable pub conversionHeld : Sheet52 → Conversion
+conversionHeld v = record {
+  onsite = record { 0 = wordsOf (v .onsite) };
+  offsite = record { 0 = wordsOf (v .offsite) };
+  r = record { 0 = wordsOf (v .r) };
+  decay = record { 0 = wordsOf (v .decay) };
+  co2 = record { 0 = wordsOf (v .co2) };
+}
+
+unfoldable pub gasesHeld : Sheet53 → Gases
+gasesHeld v = record {
+  ch4 = record { 0 = wordsOf (v .ch4) };
+  co = record { 0 = wordsOf (v .co) };
+  n2o = record { 0 = wordsOf (v .n2o) };
+  nox = record { 0 = wordsOf (v .nox) };
+}
+
+abbrev pub figuresHeld : Sheets → declared.Figures
+figuresHeld v = record { stocks = stocksHeld (v .stocks); conversion = conversionHeld (v .conversion); gases = gasesHeld (v .gases) }
+
+abbrev pub answered : Outcome → Answer
+answered (worked v) = Figures (figuresHeld v)
+answered (refusal n p) = Refused n p
+
+-- a struct has its values in their one form
+abbrev pub InForm : declared.Figures → Type 0
+InForm f = f ≡ figuresHeld (figuresSaid f)

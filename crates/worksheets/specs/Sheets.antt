@@ -1,6 +1,6 @@
 -- Worksheets 5-1, 5-2 and 5-3: each column from those that it is made of, in the unit of 01's "Worksheet rules". Every rounded tonne cites the one rule.
 use Prim.Native.Nat.{ℕ, _+_, _*_, _^_, _≤_}
-use mathlib.Core.List.{List, []}
+use mathlib.Core.List.{List, [], _∷_}
 use lib.ListN.{getD}
 use lib.IntN.{ℤ, pos, negℤ, _-ℤ_, _*ℤ_}
 use Rattle.form.specs.Layout.{parametersKind}
@@ -13,6 +13,10 @@ use Rattle.worksheets.specs.declared.sheets.Parameters.{Parameters}
 -- N, CH4, CO, N/C, N2O and NOx, by the numbers of a parameter row
 abbrev pub parametersOf : List ℕ → Parameters
 parametersOf r = record { n = getD r 0 0; ch4 = getD r 1 0; co = getD r 2 0; nc = getD r 3 0; n2o = getD r 4 0; nox = getD r 5 0 }
+
+-- and the numbers of the row, in its order
+abbrev pub parameterNumbers : Parameters → List ℕ
+parameterNumbers p = p .n ∷ p .ch4 ∷ p .co ∷ p .nc ∷ p .n2o ∷ p .nox ∷ []
 
 -- "always one parameter row"
 abbrev pub given : List ℕ → Parameters

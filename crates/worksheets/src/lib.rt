@@ -6,7 +6,7 @@ ghost use mathlib.Core.Path.{_≡_};
 ghost use Rattle.form.specs.Verdict.{verdictOf};
 ghost use Rattle.form.specs.declared.Verdict.the-variants.{Accepted};
 ghost use Rattle.worksheets.specs.Sheets.{figuresOf};
-ghost use Rattle.worksheets.specs.Answers.{Shows, said, outcomeOf, InForm};
+ghost use Rattle.worksheets.specs.Answers.{figuresHeld, answered, outcomeOf};
 use crate::sheets::Answer;
 use crate::sheets::Figures;
 use crate::sheets::read_parameters;
@@ -23,7 +23,7 @@ use totals::sum_uptake;
 // The figures of bytes that were judged before, with the counts that the judge gave.
 pub fn work_out(bytes: &[u8], c: Counts) -> Figures
     requires { ⌜ verdictOf (now bytes) ≡ Accepted c ⌝ }
-    ensures { λ r. ⌜ Shows r (figuresOf (now (bytes .entry))) ⌝ }
+    ensures { λ r. ⌜ r ≡ figuresHeld (figuresOf (now (bytes .entry))) ⌝ }
 {
     let p = read_parameters(bytes, c);
     let t = sum_conversion(bytes, c);
@@ -38,9 +38,9 @@ pub fn work_out(bytes: &[u8], c: Counts) -> Figures
 }
 
 // The figures of a checked return.
-fn figures_of<'a>(c: Checked<'a>) -> Figures
+pub fn figures_of<'a>(c: Checked<'a>) -> Figures
     requires { ⌜ verdictOf (now (c .bytes)) ≡ Accepted (c .counts) ⌝ }
-    ensures { λ r. ⌜ Shows r (figuresOf (now (c .entry .bytes))) ⌝ }
+    ensures { λ r. ⌜ r ≡ figuresHeld (figuresOf (now (c .entry .bytes))) ⌝ }
 {
     work_out(c.bytes, c.counts)
 }
@@ -48,14 +48,14 @@ fn figures_of<'a>(c: Checked<'a>) -> Figures
 // Bytes that were judged, held with their counts as a checked return.
 fn figures_judged(bytes: &[u8], counts: Counts) -> Figures
     requires { ⌜ verdictOf (now bytes) ≡ Accepted counts ⌝ }
-    ensures { λ r. ⌜ Shows r (figuresOf (now (bytes .entry))) ⌝ }
+    ensures { λ r. ⌜ r ≡ figuresHeld (figuresOf (now (bytes .entry))) ⌝ }
 {
     figures_of(held::hold(bytes, counts))
 }
 
 // Any bytes of any length: they are judged once, and worked out where they are accepted.
 pub fn figures(bytes: &[u8]) -> Answer
-    ensures { λ r. ⌜ (said r ≡ outcomeOf (now (bytes .entry))) × InForm r ⌝ }
+    ensures { λ r. ⌜ r ≡ answered (outcomeOf (now (bytes .entry))) ⌝ }
 {
     match judge::judge(bytes) {
         Verdict::Accepted(counts) => Answer::Figures(figures_judged(bytes, counts)),

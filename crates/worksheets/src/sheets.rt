@@ -7,7 +7,7 @@ ghost use Rattle.form.specs.Verdict.{verdictOf};
 ghost use Rattle.form.specs.declared.Verdict.the-variants.{Accepted};
 ghost use Rattle.wide.specs.Numbers.{value};
 ghost use Rattle.worksheets.specs.Sheets.{standard, parametersOf, given, Ratios, stocksOf, conversionOf, gasesOf};
-ghost use Rattle.worksheets.specs.Answers.{stocksSaid, Plain, conversionSaid, gasesSaid};
+ghost use Rattle.worksheets.specs.Answers.{stocksHeld, conversionHeld, gasesHeld};
 use crate::units::Co2;
 use crate::units::Gas;
 use crate::units::NetCarbon;
@@ -106,7 +106,7 @@ pub struct Stocks {
 
 pub fn work_stocks(e: Carbon, k: DryMatter, l: DryMatter, n: u32) -> Stocks
     requires { ⌜ (value (e .0) < 2 ^ 64) × (value (k .0) < 2 ^ 64) × (value (l .0) < 2 ^ 64) × (n ≤ 1000) ⌝ }
-    ensures { λ r. ⌜ (stocksSaid r ≡ stocksOf (value (e .0)) (value (k .0)) (value (l .0)) n) × Plain r ⌝ }
+    ensures { λ r. ⌜ r ≡ stocksHeld (stocksOf (value (e .0)) (value (k .0)) (value (l .0)) n) ⌝ }
 {
     let m = net_wood(k, l);
     let o = carbon_in(m, n);
@@ -136,7 +136,7 @@ pub struct Conversion {
 
 pub fn work_conversion(onsite: Carbon, offsite: Carbon, decay: Carbon) -> Conversion
     requires { ⌜ (value (onsite .0) < 2 ^ 80) × (value (offsite .0) < 2 ^ 80) × (value (decay .0) < 2 ^ 80) ⌝ }
-    ensures { λ r. ⌜ conversionSaid r ≡ conversionOf (value (onsite .0)) (value (offsite .0)) (value (decay .0)) ⌝ }
+    ensures { λ r. ⌜ r ≡ conversionHeld (conversionOf (value (onsite .0)) (value (offsite .0)) (value (decay .0))) ⌝ }
 {
     let r = both(onsite, offsite);
     let co2 = co2_of(both(r, decay));
@@ -160,7 +160,7 @@ pub struct Gases {
 // The gases by their weights: CH4 16 and CO 28 to carbon's 12, N2O 44 to nitrogen's 28, NOx 46 to its 14.
 pub fn work_gases(c: Carbon, p: Parameters) -> Gases
     requires { ⌜ (value (c .0) < 2 ^ 80) × Ratios p ⌝ }
-    ensures { λ r. ⌜ gasesSaid r ≡ gasesOf (value (c .0)) p ⌝ }
+    ensures { λ r. ⌜ r ≡ gasesHeld (gasesOf (value (c .0)) p) ⌝ }
 {
     let nitrogen = nitrogen_in(c, p.nc);
     Gases {

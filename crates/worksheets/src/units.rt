@@ -1,7 +1,7 @@
 // The other masses. One substance becomes another only by a step named here.
 ghost use mathlib.Core.Path.{_≡_};
 ghost use Prim.Native.Nat.{_+_, _*_, _^_, _<_, _≤_};
-ghost use Rattle.wide.specs.Numbers.{value};
+ghost use Rattle.wide.specs.Numbers.{value, Is};
 ghost use Rattle.wide.specs.Rounding.{nearest};
 ghost use Rattle.wide.specs.Signs.{amount, Holds};
 ghost use Rattle.worksheets.specs.Sheets.{columnM, columnO, columnP, columnQ, reported, co2Of};
@@ -74,7 +74,7 @@ pub fn emission(q: NetCo2) -> NetCo2
 
 pub fn both(a: Carbon, b: Carbon) -> Carbon
     requires { ⌜ value (a .0) + value (b .0) < 2 ^ 120 ⌝ }
-    ensures { λ r. ⌜ value (r .0) ≡ value (a .0) + value (b .0) ⌝ }
+    ensures { λ r. ⌜ Is (r .0) (value (a .0) + value (b .0)) ⌝ }
 {
     Carbon(add(a.0, b.0))
 }
@@ -82,7 +82,7 @@ pub fn both(a: Carbon, b: Carbon) -> Carbon
 // Carbon to CO2, by 44/12.
 pub fn co2_of(c: Carbon) -> Co2
     requires { ⌜ value (c .0) < 2 ^ 100 ⌝ }
-    ensures { λ r. ⌜ value (r .0) ≡ co2Of (value (c .0)) ⌝ }
+    ensures { λ r. ⌜ Is (r .0) (co2Of (value (c .0))) ⌝ }
 {
     Co2(rounded(times(c.0, 11), 3000000000, 1, 1))
 }
@@ -90,7 +90,7 @@ pub fn co2_of(c: Carbon) -> Co2
 // Carbon to nitrogen, by N/C.
 pub fn nitrogen_in(c: Carbon, nc: u32) -> Nitrogen
     requires { ⌜ value (c .0) * nc < 2 ^ 120 ⌝ }
-    ensures { λ r. ⌜ value (r .0) ≡ value (c .0) * nc ⌝ }
+    ensures { λ r. ⌜ Is (r .0) (value (c .0) * nc) ⌝ }
 {
     Nitrogen(times(c.0, nc))
 }
@@ -98,7 +98,7 @@ pub fn nitrogen_in(c: Carbon, nc: u32) -> Nitrogen
 // So many parts of a mass, by a ratio.
 fn share(mass: Wide, parts: u32, ratio: u32) -> Wide
     requires { ⌜ (value mass < 2 ^ 90) × (parts ≤ 1000) × (ratio ≤ 1000) ⌝ }
-    ensures { λ r. ⌜ (value r ≡ parts * value mass * ratio) × (value r < 2 ^ 110) ⌝ }
+    ensures { λ r. ⌜ (Is r (parts * value mass * ratio)) × (value r < 2 ^ 110) ⌝ }
 {
     times(times(mass, parts), ratio)
 }
@@ -106,7 +106,7 @@ fn share(mass: Wide, parts: u32, ratio: u32) -> Wide
 // A gas that holds carbon: so many thirds of the carbon's weight.
 pub fn gas_of_carbon(c: Carbon, thirds: u32, ratio: u32) -> Gas
     requires { ⌜ (value (c .0) < 2 ^ 90) × (thirds ≤ 1000) × (ratio ≤ 1000) ⌝ }
-    ensures { λ r. ⌜ value (r .0) ≡ nearest (thirds * value (c .0) * ratio) (3 * 10 ^ 12) ⌝ }
+    ensures { λ r. ⌜ Is (r .0) (nearest (thirds * value (c .0) * ratio) (3 * 10 ^ 12)) ⌝ }
 {
     Gas(rounded(share(c.0, thirds, ratio), 3000, 1000000000, 1))
 }
@@ -114,7 +114,7 @@ pub fn gas_of_carbon(c: Carbon, thirds: u32, ratio: u32) -> Gas
 // A gas that holds nitrogen: so many sevenths of the nitrogen's weight.
 pub fn gas_of_nitrogen(n: Nitrogen, sevenths: u32, ratio: u32) -> Gas
     requires { ⌜ (value (n .0) < 2 ^ 90) × (sevenths ≤ 1000) × (ratio ≤ 1000) ⌝ }
-    ensures { λ r. ⌜ value (r .0) ≡ nearest (sevenths * value (n .0) * ratio) (7 * 10 ^ 15) ⌝ }
+    ensures { λ r. ⌜ Is (r .0) (nearest (sevenths * value (n .0) * ratio) (7 * 10 ^ 15)) ⌝ }
 {
     Gas(rounded(share(n.0, sevenths, ratio), 7000000, 1000000000, 1))
 }

@@ -1,11 +1,5 @@
 -- `blocks::bad_block` meets its contract. Assumes nothing.
-use Rattle.form.specs.Block.{kindOf, blocksBelow, stray, badBlock}
-use Prim.Native.Nat.{ℕ}
-use mathlib.Core.Path.{_≡_, ap, _∙_}
-use denote.Ref.{now}
-use lib.Dec.{ltb, leb, eqb}
-use Rattle.form.proofs.Tests.{or-of, and-of}
-use native.Mathlib.Omega.{arith}
+use Rattle.form.specs.Block.{stray, badBlock}
 use borrow.Author.Needs.{needs}
 use Rattle.blocks.proofs.bad_block.Statement.{statement}
 use Rattle.blocks.proofs.bad_block.Tie as tie
@@ -40,6 +34,9 @@ bad-count-requires c κs = search needs
 not-filled-requires : tie.Need-not-filled-requires
 not-filled-requires c κs = search needs
 
+over-filled-requires : tie.Need-over-filled-requires
+over-filled-requires c κs = search needs
+
 stray-records-requires : tie.Need-stray-records-requires
 stray-records-requires c κs = search needs
 
@@ -54,22 +51,7 @@ stray-in-requires c κs = search needs
 
 returns : tie.Need-returns
 unfolding badBlock stray
-returns c =
-    let x = c .before .before .before .before .before .before in
-    let a = x .before .before .before .before .args in
-    let e : x .before .blocks-below .result ≡ blocksBelow (kindOf (now (a .bytes)) (a .b)) (now (a .bytes)) (a .b) =
-    x .before .blocks-below .ensures ∙ ap (λ (k : ℕ). blocksBelow k (now (a .bytes)) (a .b)) (x .before .before .byte-at .ensures .0) in
-    or-of
-    (or-of
-    (or-of
-    (or-of
-    (or-of
-    (or-of (c .before .before .before .before .before .kind-falls .ensures) (c .before .before .before .before .wrong-end .ensures))
-    (ap (λ (n : ℕ). leb 3 n) e))
-    (c .before .before .before .bad-count .ensures))
-    (c .before .before .not-filled .ensures))
-    (and-of (ap (λ (n : ℕ). eqb n 2) e) (ap (λ (n : ℕ). ltb 8 n) (x .byte-at2 .ensures .0))))
-    (or-of (c .before .stray-records .ensures) (c .stray-in .ensures))
+returns c = cc
 
 pub bad-block-spec : {M : Type 1} → statement M
 bad-block-spec =
@@ -85,6 +67,7 @@ bad-block-spec =
     wrong-end-requires
     bad-count-requires
     not-filled-requires
+    over-filled-requires
     stray-records-requires
     mul-stray-in
     add-stray-in

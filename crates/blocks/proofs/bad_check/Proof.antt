@@ -1,6 +1,5 @@
 -- `blocks::bad_check` meets its contract. Assumes nothing.
 use Rattle.form.specs.Block.{badCheck}
-use native.Mathlib.Omega.{arith}
 use borrow.Author.Needs.{needs}
 use Rattle.blocks.proofs.bad_check.Statement.{statement}
 use Rattle.blocks.proofs.bad_check.Tie as tie

@@ -1,6 +1,6 @@
 -- `blocks::bad_count` meets its contract. Assumes nothing.
+use mathlib.Core.Path.{refl}
 use Rattle.form.specs.Block.{badCount}
-use native.Mathlib.Omega.{arith}
 use borrow.Author.Needs.{needs}
 use Rattle.blocks.proofs.bad_count.Statement.{statement}
 use Rattle.blocks.proofs.bad_count.Tie as tie
@@ -25,7 +25,7 @@ cast-result c = search needs
 
 returns : tie.Need-returns
 unfolding badCount
-returns c = cc
+returns c = rw (c .before .byte-at .ensures .0, c .byte-at2 .ensures .0) refl
 
 pub bad-count-spec : {M : Type 1} → statement M
 bad-count-spec =

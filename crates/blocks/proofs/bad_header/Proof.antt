@@ -1,6 +1,6 @@
 -- `blocks::bad_header` meets its contract. Assumes nothing.
+use mathlib.Core.Path.{refl}
 use Rattle.form.specs.Block.{badHeader}
-use native.Mathlib.Omega.{arith}
 use borrow.Author.Needs.{needs}
 use Rattle.blocks.proofs.bad_header.Statement.{statement}
 use Rattle.blocks.proofs.bad_header.Tie as tie
@@ -54,7 +54,10 @@ cast-result-2 c = search needs
 
 returns : tie.Need-returns
 unfolding badHeader
-returns c = cc
+returns c =
+    let l = c .before .before in
+    let e = l .before in
+    rw (e .before .byte-at .ensures .0, l .last-kind .ensures, e .two-at .ensures .0, c .before .two-at2 .ensures .0, c .two-at3 .ensures .0) refl
 
 pub bad-header-spec : {M : Type 1} → statement M
 bad-header-spec =

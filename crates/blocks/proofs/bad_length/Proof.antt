@@ -2,8 +2,6 @@
 use mathlib.Core.Path.{refl}
 use Rattle.form.specs.Layout.{kinds}
 use Rattle.form.specs.Block.{badLength}
-use borrow.Author.Needs.{needs}
-use native.Mathlib.Omega.{arith}
 use Rattle.blocks.proofs.bad_length.Statement.{statement}
 use Rattle.blocks.proofs.bad_length.Tie as tie
 

@@ -5,7 +5,6 @@ use mathlib.Core.Path.{ap₂}
 use lib.Dec.{ltb}
 use Rattle.form.proofs.Tests.{on}
 use borrow.Author.Tests.{lt-ltb, le-ltb}
-use native.Mathlib.Omega.{arith}
 use borrow.Author.Needs.{needs}
 use Rattle.blocks.proofs.kind_falls.Statement.{statement}
 use Rattle.blocks.proofs.kind_falls.Tie as tie

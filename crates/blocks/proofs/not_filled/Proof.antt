@@ -1,12 +1,8 @@
 -- `blocks::not_filled` meets its contract. Assumes nothing.
+use mathlib.Core.Path.{refl}
 use Rattle.form.specs.Block.{notFilled}
-use Prim.Native.Nat.{ℕ}
-use mathlib.Core.Path.{ap, ap₂}
-use mathlib.Core.Bool.{Bool, not, _&&_}
-use lib.Dec.{eqb}
 use Rattle.form.proofs.Tests.{on}
 use borrow.Author.Tests.{lt-ltb, le-ltb}
-use native.Mathlib.Omega.{arith}
 use borrow.Author.Needs.{needs}
 use Rattle.blocks.proofs.not_filled.Statement.{statement}
 use Rattle.blocks.proofs.not_filled.Tie as tie
@@ -41,10 +37,8 @@ byte-at-requires-3 c κs = search needs
 returns : tie.Need-returns
 unfolding notFilled
 returns c =
-    on (lt-ltb _ _ (c .before .before .before .if1 .taken))
-    (ap₂ (λ (x y : Bool). x && y)
-    (ap₂ (λ (m n : ℕ). eqb m n) (c .before .before .byte-at .ensures .0) (c .before .byte-at2 .ensures .0))
-    (ap (λ (n : ℕ). not (eqb n 12)) (c .byte-at3 .ensures .0)))
+    let a = c .before .before in
+    on (lt-ltb _ _ (a .before .if1 .taken)) (rw (a .byte-at .ensures .0, c .before .byte-at2 .ensures .0, c .byte-at3 .ensures .0) refl)
 
 returns-2 : tie.Need-returns-2
 unfolding notFilled

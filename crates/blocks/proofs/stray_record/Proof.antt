@@ -1,11 +1,7 @@
 -- `blocks::stray_record` meets its contract. Assumes nothing.
-use Rattle.form.specs.Block.{recordAt, strayRecord}
-use denote.Ref.{now}
-use mathlib.Core.Path.{refl, ap, _∙_}
-use Prim.Native.Nat.{ℕ}
-use Rattle.form.specs.Layout.{layout, strayAt}
-use Rattle.form.proofs.Tests.{taken, left, ltb-yes, ltb-no}
-use native.Mathlib.Omega.{arith}
+use Rattle.form.specs.Block.{strayRecord}
+use borrow.Author.Tests.{lt-ltb, le-ltb}
+use Rattle.form.proofs.Tests.{taken, left}
 use borrow.Author.Needs.{needs}
 use Rattle.blocks.proofs.stray_record.Statement.{statement}
 use Rattle.blocks.proofs.stray_record.Tie as tie
@@ -60,14 +56,11 @@ stray-in-requires c κs = search needs
 
 returns : tie.Need-returns
 unfolding strayRecord
-returns c =
-    let a = c .before .before .before .before .before .args in
-    taken _ (ltb-yes refl (c .before .before .before .byte-at .ensures .0) (c .before .before .if1 .taken))
-    (c .stray-at .ensures ∙ ap (λ (k : ℕ). strayAt (layout k) (now (a .bytes)) (recordAt (a .b) (a .r))) (c .before .byte-at2 .ensures .0))
+returns c = taken _ (rw (c .before .before .before .byte-at .ensures .0) at (lt-ltb _ _ (c .before .before .if1 .taken))) (cc)
 
 returns-2 : tie.Need-returns-2
 unfolding strayRecord
-returns-2 c = left _ (ltb-no refl (c .before .before .byte-at .ensures .0) (c .before .if1 .left)) (c .stray-in .ensures)
+returns-2 c = left _ (rw (c .before .before .byte-at .ensures .0) at (le-ltb _ _ (c .before .if1 .left))) (c .stray-in .ensures)
 
 pub stray-record-spec : {M : Type 1} → statement M
 stray-record-spec =

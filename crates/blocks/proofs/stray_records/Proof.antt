@@ -2,7 +2,6 @@
 use Prim.Native.Nat.{_≤_, _-_}
 use mathlib.Core.Path.{_≡_, sym, refl, _∙_}
 use mathlib.Core.Bool.{false}
-use denote.Ref.{now}
 use Rattle.form.specs.First.{any}
 use Rattle.form.specs.Block.{strayRecord}
 use Rattle.form.proofs.Search.{any-more, any-found}
@@ -25,10 +24,7 @@ stray-record-requires : tie.Need-stray-record-requires Inv-loop μ-loop
 stray-record-requires c κs = search needs
 
 returns : tie.Need-returns Inv-loop μ-loop
-returns c =
-    let b = c .before in
-    let a = b .before .before .before .before .args in
-    sym (any-found (strayRecord (now (a .bytes)) (a .b)) (b .before .before .loop .r) 12 (sym (b .stray-record .ensures) ∙ c .if1 .taken) (search needs))
+returns c = sym (any-found _ _ 12 (sym (c .before .stray-record .ensures) ∙ c .if1 .taken) (search needs))
 
 add-r : tie.Need-add-r Inv-loop μ-loop
 add-r c = search needs

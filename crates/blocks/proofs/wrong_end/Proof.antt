@@ -1,6 +1,6 @@
 -- `blocks::wrong_end` meets its contract. Assumes nothing.
+use mathlib.Core.Path.{refl}
 use Rattle.form.specs.Block.{wrongEnd}
-use native.Mathlib.Omega.{arith}
 use borrow.Author.Needs.{needs}
 use Rattle.blocks.proofs.wrong_end.Statement.{statement}
 use Rattle.blocks.proofs.wrong_end.Tie as tie
@@ -19,7 +19,7 @@ add-last c = search needs
 
 returns : tie.Need-returns
 unfolding wrongEnd
-returns c = cc
+returns c = rw (c .byte-at .ensures .0) refl
 
 pub wrong-end-spec : {M : Type 1} → statement M
 wrong-end-spec = tie.close (tie.spec mul-byte-at byte-at-requires cast-parameters add-last returns)

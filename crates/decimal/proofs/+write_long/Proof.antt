@@ -51,10 +51,7 @@ module _ (t : ℕ) where
   -- the digits above the last eight
   longer : (c : lts.After-divide callees at-t write-long.Post) → let x = c .before .before .before .before .args .x in
       length (decimal (value x)) ≡ length (decimal (value (c .divide .result .quotient))) + 8
-  longer c =
-      let x = value (c .before .before .before .before .args .x) in
-      let h = high (c .before) in
-      length-after 8 (value (c .divide .result .quotient)) (c .divide .result .rest) x (omega arith) (omega arith) (omega arith)
+  longer c = let h = high (c .before) in length-after 8 _ (c .divide .ensures .0 .number) (c .divide .ensures .1) (omega arith)
 
   write-word-requires : lts.Need-write-word-requires callees at-t write-long.Post
   write-word-requires c κs = omega (arith, ap (λ (n : ℕ). length (decimal n)) (low (c .before)))
@@ -85,9 +82,7 @@ module _ (t : ℕ) where
       let w = c .before .before .before .before .before .before .before in
       let d = w .before .before in
       let h = high (d .before) in
-      write-after 8 (value (d .divide .result .quotient)) (d .divide .result .rest) (value (d .before .before .before .before .args .x)) (omega arith) (omega arith) (omega arith)
-      (w .write-long .ensures)
-      (c .before .before .put-eight .ensures)
+      write-after 8 _ (d .divide .ensures .0 .number) (d .divide .ensures .1) (omega arith) (w .write-long .ensures) (c .before .before .put-eight .ensures)
 
 pub +write-long-spec : {M : Type 1} → statement M
 +write-long-spec =

@@ -1,3 +1,4 @@
+use mathlib.Core.Path.{refl}
 use Prim.Native.Nat.{_/_, _%_}
 use Rattle.decimal.proofs.DigitLaws.{padded-length, put-after}
 use native.Mathlib.Omega.{arith}
@@ -15,9 +16,7 @@ same-length : tie.Need-same-length
 same-length c = search needs
 
 returns : tie.Need-returns
-returns c =
-    let d = c .before .before .before .before .before .before .before .before .before .args .d in
-    put-after 4 (d / 10000) (d % 10000) d (omega arith) (omega arith) 4 (c .before .before .before .before .before .before .put-four .ensures) (c .before .before .put-four2 .ensures)
+returns c = put-after 4 _ refl refl 4 (c .before .before .before .before .before .before .put-four .ensures) (c .before .before .put-four2 .ensures)
 
 pub put-eight-spec : {M : Type 1} → statement M
 put-eight-spec = tie.close (tie.spec put-four-requires put-four-requires-2 same-length returns)

@@ -1,3 +1,4 @@
+use mathlib.Core.Path.{refl}
 use Prim.Native.Nat.{_/_, _%_}
 use Rattle.decimal.proofs.DigitLaws.{padded-length, put-after}
 use native.Mathlib.Omega.{arith}
@@ -15,9 +16,7 @@ same-length : tie.Need-same-length
 same-length c = search needs
 
 returns : tie.Need-returns
-returns c =
-    let d = c .before .before .before .before .before .before .before .before .before .args .d in
-    put-after 2 (d / 100) (d % 100) d (omega arith) (omega arith) 2 (c .before .before .before .before .before .before .put-two .ensures) (c .before .before .put-two2 .ensures)
+returns c = put-after 2 _ refl refl 2 (c .before .before .before .before .before .before .put-two .ensures) (c .before .before .put-two2 .ensures)
 
 pub put-four-spec : {M : Type 1} → statement M
 put-four-spec = tie.close (tie.spec put-two-requires put-two-requires-2 same-length returns)

@@ -1,4 +1,5 @@
 -- The upper digits, and then a group that may have zeros in front. Assumes nothing.
+use mathlib.Core.Path.{refl}
 use Prim.Native.Nat.{_/_, _%_}
 use Rattle.decimal.proofs.DigitLaws.{length-after, write-after}
 use native.Mathlib.Omega.{arith}
@@ -19,21 +20,19 @@ returns : tie.Need-returns
 returns c = search needs
 
 write-twelve-requires : tie.Need-write-twelve-requires
-write-twelve-requires c κs = let d = c .before .before .before .args .d in (omega arith, omega (arith, length-after 8 (d / 100000000) (d % 100000000) d (omega arith) (omega arith) (omega arith)))
+write-twelve-requires c κs = let d = c .before .before .before .args .d in (omega arith, omega (arith, length-after 8 d refl refl (omega arith)))
 
 cast-put-eight : tie.Need-cast-put-eight
 cast-put-eight c = search needs
 
 put-eight-requires : tie.Need-put-eight-requires
-put-eight-requires c κs = let d = c .before .before .before .before .before .before .before .args .d in (omega arith, omega (arith, length-after 8 (d / 100000000) (d % 100000000) d (omega arith) (omega arith) (omega arith)))
+put-eight-requires c κs = let d = c .before .before .before .before .before .before .before .args .d in (omega arith, omega (arith, length-after 8 d refl refl (omega arith)))
 
 same-length-2 : tie.Need-same-length-2
 same-length-2 c = search needs
 
 returns-2 : tie.Need-returns-2
-returns-2 c =
-    let d = c .before .before .before .before .before .before .before .before .before .before .args .d in
-    write-after 8 (d / 100000000) (d % 100000000) d (omega arith) (omega arith) (omega arith) (c .before .before .before .before .before .before .write-twelve .ensures) (c .before .before .put-eight .ensures)
+returns-2 c = write-after 8 _ refl refl (omega arith) (c .before .before .before .before .before .before .write-twelve .ensures) (c .before .before .put-eight .ensures)
 
 pub write-word-spec : {M : Type 1} → statement M
 write-word-spec =

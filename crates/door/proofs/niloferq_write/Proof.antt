@@ -1,7 +1,8 @@
 -- `door::niloferq_write` meets its contract. Assumes nothing.
 use denote.Ref.{now}
 use mathlib.Core.Path.{sym, ap, _∙_}
-use Rattle.door.proofs.Rooms.{one-store}
+use mathlib.Core.List.{[], _∷_}
+use Rattle.filing.proofs.Stores.{sets-front}
 use Rattle.door.proofs.Writing.{codeBy, sizeBy, unsized-out, written-out, write-small, done-small}
 use native.Mathlib.Omega.{arith}
 use borrow.Author.Needs.{needs}
@@ -64,7 +65,7 @@ returns-3 c =
     let a = t .before .before .before .before .before .args in
     let e = c .before .n .given .1 in
     written-out (now (a .rows)) (now (a .lengths)) (now (a .room)) (now (a .size)) _ (t .if1 .left) (w .write .ensures .0) (ap codeBy (sym e))
-    (w .write .ensures .1) (one-store (now (a .size)) _ (t .if1 .left) ∙ ap (sizeBy (now (a .size))) (sym e))
+    (w .write .ensures .1) (sets-front (now (a .size)) (_ ∷ []) (t .if1 .left) ∙ ap (sizeBy (now (a .size))) (sym e))
 
 pub niloferq-write-spec : {M : Type 1} → statement M
 niloferq-write-spec =

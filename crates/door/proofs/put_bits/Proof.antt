@@ -2,7 +2,7 @@
 use denote.Ref.{now}
 use lib.ListN.{length-set}
 use Rattle.form.specs.Bytes.{littleEndian}
-use Rattle.door.proofs.Rooms.{eight-stores}
+use Rattle.filing.proofs.Stores.{sets-front}
 use native.Mathlib.Omega.{arith}
 use borrow.Author.Needs.{needs}
 use Rattle.door.proofs.put_bits.Statement.{statement}
@@ -61,7 +61,7 @@ same-length c = search needs
 
 returns : tie.Need-returns
 unfolding littleEndian
-returns c = eight-stores (now (c .args .room)) _ _ _ _ _ _ _ _ (c .pre)
+returns c = sets-front (now (c .args .room)) (littleEndian 8 (c .args .bits)) (c .pre)
 
 pub put-bits-spec : {M : Type 1} → statement M
 put-bits-spec =

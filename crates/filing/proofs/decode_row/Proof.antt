@@ -2,8 +2,8 @@
 use Prim.Native.Nat.{_+_, _-_, _≤_, _<_}
 use lib.ListN.{length}
 use Rattle.form.specs.Layout.{layout, numbersOf}
-use Rattle.form.proofs.Fields.{ends-40, Readable, field-readable}
-use Rattle.filing.proofs.Fields.{Decoding, decoding-none, decoding-in, decoding-more, decoding-all}
+use Rattle.form.proofs.Fields.{ends-40, field-in, Readable, field-readable}
+use Rattle.filing.proofs.Fields.{Decoding, decoding-none, decoding-more, decoding-all}
 use borrow.Author.Needs.{needs}
 use native.Mathlib.Omega.{arith}
 use Rattle.filing.proofs.decode_row.Statement.{statement}
@@ -25,8 +25,9 @@ inside : (c : tie.After-field Inv-loop μ-loop)
     (v .k + f .zeros + f .width ≤ 40) × (c .before .before .before .before .before .before .args .to + v .i < length (v .room))
 inside c =
     let v = c .before .before .loop in
+    let a = c .before .before .before .before .before .before .args in
     let i = counted (c .before) in
-    (rw (c .field .ensures) (decoding-in (v .inv) i), omega (arith, v .inv .same))
+    (rw (c .field .ensures) (field-in (v .k) (v .i) (layout (a .kind)) i (v .inv .left)), omega (arith, v .inv .same))
 
 fits : (c : tie.After-field Inv-loop μ-loop) → Readable (c .field .result .width)
 fits c =

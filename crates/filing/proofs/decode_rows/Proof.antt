@@ -1,18 +1,19 @@
 -- `filing::decode_rows` meets its contract. Assumes nothing.
-use Prim.Native.Nat.{ℕ, _+_, _-_, _≤_}
-use mathlib.Core.Path.{ap}
+use Prim.Native.Nat.{_+_, _-_, _*_, _≤_}
+use mathlib.Core.Path.{_≡_}
+use native.Mathlib.Nat.{mul-add}
 use lib.ListN.{length}
 use Rattle.form.specs.Layout.{numbersOf}
 use Rattle.filing.specs.Tables.{rowOn}
-use Rattle.filing.proofs.Stores.{Filling, filling-none, filling-in, filling-more, filling-all}
-use Rattle.filing.proofs.Parts.{length-rowOn}
+use Rattle.filing.proofs.Stores.{Filling, filling-none, filling-more, filling-all}
+use Rattle.filing.proofs.Parts.{part-fits, length-rowOn}
 use borrow.Author.Needs.{needs}
 use native.Mathlib.Omega.{arith}
 use Rattle.filing.proofs.decode_rows.Statement.{statement}
 use Rattle.filing.proofs.decode_rows.Tie as tie
 
 abbrev Inv-loop : tie.InvT-loop
-Inv-loop bytes kind place n room₀ start m to₀ i₀ room to i = Filling (rowOn kind bytes) (numbersOf kind) place n room₀ start room to i
+Inv-loop bytes kind place n room₀ start m to₀ i₀ room to i = (Filling (rowOn kind bytes) place n room₀ start room to i) × (to ≡ start + numbersOf kind * i)
 
 abbrev μ-loop : tie.MeasureT-loop
 μ-loop bytes kind place n room₀ start m to₀ i₀ room to i = n - i
@@ -23,14 +24,14 @@ inside : (c : tie.In-loop Inv-loop μ-loop)
     let a = c .before .before .before .before .before .args in
     v .to + numbersOf (a .kind) ≤ length (v .room)
 inside c =
-    let v = c .before .loop in
-    omega (arith, filling-in (v .inv) (c .loop-test .taken), v .inv .same)
+    let a = c .before .before .before .before .before .args in
+    omega (arith, part-fits (numbersOf (a .kind)) (c .before .loop .i) (a .n) (c .loop-test .taken), c .before .loop .inv .0 .same)
 
 numbers-requires : tie.Need-numbers-requires Inv-loop μ-loop
 numbers-requires c κs = search needs
 
 loop-holds : tie.Need-loop-holds Inv-loop μ-loop
-loop-holds c = filling-none
+loop-holds c = (filling-none, omega arith)
 
 add-j : tie.Need-add-j Inv-loop μ-loop
 add-j c = search needs
@@ -66,14 +67,15 @@ loop-again c =
     let turn = at-row .before .before in
     let a = turn .before .before .before .before .before .args in
     let v = turn .before .loop in
-    filling-more (v .inv) (turn .loop-test .taken) (length-rowOn (a .kind) (a .bytes .now) _) (at-row .decode-row .ensures)
-    (ap (λ (x : ℕ). v .to + x) (turn .before .before .numbers .ensures .0))
+    let w = turn .before .before .numbers .ensures .0 in
+    let place = mul-add (numbersOf (a .kind)) (v .i) 1 in
+    (filling-more (v .inv .0) (turn .loop-test .taken) (at-row .decode-row .ensures) (rw (w, length-rowOn (a .kind) (a .bytes .now))), omega arith)
 
 same-length : tie.Need-same-length Inv-loop μ-loop
 same-length c = search needs
 
 returns : tie.Need-returns Inv-loop μ-loop
-returns c = filling-all (c .before .loop .inv) (c .loop-test .left)
+returns c = filling-all (c .before .loop .inv .0) (c .loop-test .left)
 
 pub decode-rows-spec : {M : Type 1} → statement M
 decode-rows-spec =

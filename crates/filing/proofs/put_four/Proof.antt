@@ -1,8 +1,9 @@
 -- `filing::put_four` meets its contract. Assumes nothing.
 use Prim.Native.Nat.{_/_}
+use mathlib.Core.Path.{_≡_, _∙_}
+use native.Mathlib.Numerals.{towards-suc}
+use native.Mathlib.Omega.{arith}
 use Rattle.form.specs.Bytes.{littleEndian}
-use Rattle.filing.proofs.Stands.{length-le, le-four}
-use Rattle.filing.proofs.Stores.{sets-then}
 use borrow.Author.Needs.{needs}
 use Rattle.filing.proofs.put_four.Statement.{statement}
 use Rattle.filing.proofs.put_four.Tie as tie
@@ -20,12 +21,12 @@ same-length : tie.Need-same-length
 same-length c = search needs
 
 returns : tie.Need-returns
+unfolding littleEndian
 returns c =
     let p2 = c .before .before in
     let p1 = p2 .before .before .before .before in
-    let a = p1 .before .before .before .args in
-    rw (le-four (a .v))
-    (sets-then (a .out .now) (a .at) (littleEndian 2 (a .v)) (littleEndian 2 (a .v / 65536)) (p1 .put-two .ensures) (p2 .put-two2 .ensures) (rw (length-le 2 (a .v))))
+    let e : p1 .before .before .before .args .v / 65536 ≡ p1 .before .before .before .args .v / 256 / 256 = omega arith in
+    p2 .put-two2 .ensures ∙ rw (p1 .put-two .ensures, e) (simp towards-suc)
 
 pub put-four-spec : {M : Type 1} → statement M
 put-four-spec =

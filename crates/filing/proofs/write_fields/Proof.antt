@@ -4,8 +4,8 @@ use mathlib.Core.Path.{sym}
 use lib.ListN.{length, drop}
 use lib.Seq.{getD-drop}
 use Rattle.form.specs.Layout.{layout, numbersOf}
-use Rattle.form.proofs.Fields.{ends-40, Readable, field-readable}
-use Rattle.filing.proofs.Fields.{Encoding, encoding-none, encoding-in, encoding-end, encoding-more, encoding-all}
+use Rattle.form.proofs.Fields.{ends-40, field-in, Readable, field-readable}
+use Rattle.filing.proofs.Fields.{Encoding, encoding-none, encoding-more, encoding-all}
 use borrow.Author.Needs.{needs}
 use native.Mathlib.Omega.{arith}
 use Rattle.filing.proofs.write_fields.Statement.{statement}
@@ -29,7 +29,7 @@ inside : (c : tie.After-field Inv-loop μ-loop)
 inside c =
     let v = c .before .before .loop in
     let i = counted (c .before) in
-    let e = rw (← c .field .ensures) at (encoding-in (v .inv) i) in
+    let e = rw (← c .field .ensures) at (field-in (v .k) (v .i) (layout (c .before .before .before .before .before .before .args .kind)) i (v .inv .left)) in
     (e, omega arith, omega (arith, v .inv .same))
 
 fits : (c : tie.After-field Inv-loop μ-loop) → Readable (c .field .result .width)
@@ -97,13 +97,13 @@ loop-again c =
     (at-put .put-number .ensures)
 
 add-clear-2 : tie.Need-add-clear-2 Inv-loop μ-loop
-add-clear-2 c = omega (arith, encoding-end (c .before .before .loop .inv))
+add-clear-2 c = search needs
 
 sub-clear : tie.Need-sub-clear Inv-loop μ-loop
-sub-clear c = omega (arith, encoding-end (c .before .before .loop .inv))
+sub-clear c = search needs
 
 clear-requires-2 : tie.Need-clear-requires-2 Inv-loop μ-loop
-clear-requires-2 c κs = omega (arith, encoding-end (c .before .before .loop .inv), c .before .before .loop .inv .same)
+clear-requires-2 c κs = search needs
 
 same-length : tie.Need-same-length Inv-loop μ-loop
 same-length c = search needs

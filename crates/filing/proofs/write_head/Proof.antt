@@ -1,5 +1,8 @@
 -- `filing::write_head` meets its contract. Assumes nothing.
-use Rattle.filing.proofs.Parts.{head-stored}
+use mathlib.Core.Path.{_∙_}
+use native.Mathlib.Numerals.{towards-suc}
+use Rattle.form.specs.Bytes.{littleEndian}
+use Rattle.filing.specs.Written.{headOf}
 use borrow.Author.Needs.{needs}
 use Rattle.filing.proofs.write_head.Statement.{statement}
 use Rattle.filing.proofs.write_head.Tie as tie
@@ -41,15 +44,14 @@ same-length : tie.Need-same-length
 same-length c = search needs
 
 returns : tie.Need-returns
+unfolding headOf littleEndian
 returns c =
     let p5 = c .before .before in
     let p4 = p5 .before .before .before .before in
     let p3 = p4 .before .before .before .before in
     let p2 = p3 .before .before .before .before in
     let p1 = p2 .before .before .before .before in
-    let a = p1 .before .before .before .args in
-    head-stored (a .out .now) (a .to) (a .edition) (a .kind) (a .count) (a .b) (a .n)
-    (p1 .put-byte .ensures) (p2 .put-byte2 .ensures) (p3 .put-two .ensures) (p4 .put-two2 .ensures) (p5 .put-two3 .ensures)
+    p5 .put-two3 .ensures ∙ rw (p4 .put-two2 .ensures, p3 .put-two .ensures, p2 .put-byte2 .ensures, p1 .put-byte .ensures) (simp towards-suc)
 
 pub write-head-spec : {M : Type 1} → statement M
 write-head-spec =

@@ -1,5 +1,5 @@
 -- `filing::write_kind` meets its contract. Assumes nothing.
-use Prim.Native.Nat.{ℕ, _+_, _-_, _*_, _/_, _≤_, _<_}
+use Prim.Native.Nat.{ℕ, _+_, _-_, _*_, _/_}
 use mathlib.Core.Path.{_≡_, ap}
 use native.Mathlib.Nat.{zero-add, div-le-self}
 use lib.ListN.{length}
@@ -15,20 +15,16 @@ use Rattle.filing.proofs.write_kind.Statement.{statement}
 use Rattle.filing.proofs.write_kind.Tie as tie
 
 abbrev Inv-loop : tie.InvT-loop
-Inv-loop edition kind rows start n out₀ m blocks b₀ out b = Filling (blockOf edition (filedList kind rows) start n) 512 0 blocks out₀ (512 * start) out (512 * (start + b)) b
+Inv-loop edition kind rows start n out₀ m blocks b₀ out b = Filling (blockOf edition (filedList kind rows) start n) 0 blocks out₀ (512 * start) out (512 * (start + b)) b
 
 abbrev μ-loop : tie.MeasureT-loop
 μ-loop edition kind rows start n out₀ m blocks b₀ out b = blocks - b
 
--- in a turn: the block is one of the list's
-inside : (c : tie.In-loop Inv-loop μ-loop)
+-- in a turn: how many rows the list has
+counted : (c : tie.In-loop Inv-loop μ-loop)
     → let a = c .before .before .before .before .before .args in
-    let m = length (a .rows .now) / c .before .before .numbers .result in
-    (m ≡ rowsIn (a .kind) (length (a .rows .now))) × (12 * c .before .loop .b ≤ m) × (a .start + c .before .loop .b < a .n) × (512 * a .n ≤ length (c .before .loop .out))
-inside c =
-    let a = c .before .before .before .before .before .args in
-    let e = ap (λ (x : ℕ). length (a .rows .now) / x) (c .before .before .numbers .ensures .0) in
-    (e, omega arith, omega (arith, c .before .loop .inv .within), omega (arith, c .before .loop .inv .same))
+    length (a .rows .now) / c .before .before .numbers .result ≡ rowsIn (a .kind) (length (a .rows .now))
+counted c = ap (λ (x : ℕ). length (c .before .before .before .before .before .args .rows .now) / x) (c .before .before .numbers .ensures .0)
 
 numbers-requires : tie.Need-numbers-requires Inv-loop μ-loop
 numbers-requires c κs = search needs
@@ -49,11 +45,11 @@ loop-holds c =
 
 write-block-requires : tie.Need-write-block-requires Inv-loop μ-loop
 write-block-requires c κs =
-    let i = inside (c .before) in
-    ((omega (arith, few-kinds), i .0, i .1), (i .2, search needs, i .3))
+    let e = counted (c .before) in
+    ((omega (arith, few-kinds), e, search needs), (omega arith, search needs, search needs))
 
 add-b : tie.Need-add-b Inv-loop μ-loop
-add-b c = omega (arith, inside (c .before .before .before .before))
+add-b c = let e = counted (c .before .before .before .before) in search needs
 
 loop-less : tie.Need-loop-less Inv-loop μ-loop
 loop-less c = search needs
@@ -64,10 +60,8 @@ loop-again c =
     let turn = at-block .before .before in
     let a = turn .before .before .before .before .before .args in
     let v = turn .before .loop in
-    filling-more (v .inv) (turn .loop-test .taken)
-    (length-block (filedList (a .kind) (a .rows .now)) (a .edition) (a .start) (a .n) (0 + v .b))
-    (rw (zero-add (v .b)) (at-block .write-block .ensures))
-    (omega arith)
+    filling-more (v .inv) (turn .loop-test .taken) (rw (zero-add (v .b)) (at-block .write-block .ensures))
+    (omega (arith, length-block (filedList (a .kind) (a .rows .now)) (a .edition) (a .start) (a .n) (0 + v .b)))
 
 same-length : tie.Need-same-length Inv-loop μ-loop
 same-length c = search needs

@@ -1,6 +1,7 @@
 -- `filing::write_records` meets its contract. Assumes nothing.
-use Prim.Native.Nat.{_-_}
-use mathlib.Core.Path.{refl}
+use Prim.Native.Nat.{_+_, _-_, _*_}
+use mathlib.Core.Path.{_≡_}
+use native.Mathlib.Omega.{arith}
 use Rattle.filing.specs.Lists.{filedList}
 use Rattle.filing.specs.Written.{recordOn}
 use Rattle.filing.proofs.Stores.{Filling, filling-none, filling-more, filling-all}
@@ -10,13 +11,13 @@ use Rattle.filing.proofs.write_records.Statement.{statement}
 use Rattle.filing.proofs.write_records.Tie as tie
 
 abbrev Inv-loop : tie.InvT-loop
-Inv-loop kind rows m place out₀ to at₀ i₀ out at i = Filling (recordOn (filedList kind rows)) 40 place 12 out₀ to out at i
+Inv-loop kind rows m place out₀ to at₀ i₀ out at i = (Filling (recordOn (filedList kind rows)) place 12 out₀ to out at i) × (at ≡ to + 40 * i)
 
 abbrev μ-loop : tie.MeasureT-loop
 μ-loop kind rows m place out₀ to at₀ i₀ out at i = 12 - i
 
 loop-holds : tie.Need-loop-holds Inv-loop μ-loop
-loop-holds c = filling-none
+loop-holds c = (filling-none, omega arith)
 
 add-write-place : tie.Need-add-write-place Inv-loop μ-loop
 add-write-place c = search needs
@@ -39,13 +40,13 @@ loop-again c =
     let turn = at-place .before .before in
     let a = turn .before .before .before .before .args in
     let v = turn .before .loop in
-    filling-more (v .inv) (turn .loop-test .taken) (length-on (filedList (a .kind) (a .rows .now)) _) (at-place .write-place .ensures) refl
+    (filling-more (v .inv .0) (turn .loop-test .taken) (at-place .write-place .ensures) (rw (length-on (filedList (a .kind) (a .rows .now)))), omega arith)
 
 same-length : tie.Need-same-length Inv-loop μ-loop
 same-length c = search needs
 
 returns : tie.Need-returns Inv-loop μ-loop
-returns c = filling-all (c .before .loop .inv) (c .loop-test .left)
+returns c = filling-all (c .before .loop .inv .0) (c .loop-test .left)
 
 pub write-records-spec : {M : Type 1} → statement M
 write-records-spec =

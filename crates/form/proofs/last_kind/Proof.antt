@@ -1,5 +1,5 @@
 -- `form::last_kind` meets its contract. Assumes nothing.
-use mathlib.Core.Path.{sym, refl}
+use mathlib.Core.Path.{sym}
 use Rattle.form.specs.Edition.{lastKind}
 use Rattle.form.proofs.EachKind.{no-edition}
 use Rattle.form.proofs.last_kind.Statement.{statement}

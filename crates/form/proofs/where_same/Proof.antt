@@ -1,7 +1,6 @@
 -- `form::where_same` meets its contract. Assumes nothing.
 use borrow.Author.Tests.{eq-eqb, ne-eqb}
 use borrow.Author.Needs.{needs}
-use native.Mathlib.Omega.{arith}
 use Rattle.form.proofs.where_same.Statement.{statement}
 use Rattle.form.proofs.where_same.Tie as tie
 

@@ -1,5 +1,4 @@
 -- `judge::count_rows` meets its contract. Assumes nothing.
-use native.Mathlib.Omega.{arith}
 use borrow.Author.Needs.{needs}
 use Rattle.judge.proofs.count_rows.Statement.{statement}
 use Rattle.judge.proofs.count_rows.Tie as tie

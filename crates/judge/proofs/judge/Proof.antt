@@ -4,7 +4,6 @@ use denote.Ref.{now}
 use Rattle.form.specs.declared.Verdict.the-variants.{Accepted}
 use Rattle.form.specs.Verdict.{verdictBy, verdictOf}
 use Rattle.form.proofs.Lengths.{clean-length}
-use native.Mathlib.Omega.{arith}
 use borrow.Author.Needs.{needs}
 use Rattle.judge.proofs.judge.Statement.{statement}
 use Rattle.judge.proofs.judge.Tie as tie

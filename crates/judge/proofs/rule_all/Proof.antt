@@ -10,7 +10,6 @@ use Rattle.form.specs.Records.{filed, recordRules}
 use Rattle.form.specs.Verdict.{blockRules, rules}
 use Rattle.form.proofs.Order.{orRule, ruling-append}
 use Rattle.form.proofs.Lengths.{block-lengths}
-use native.Mathlib.Omega.{arith}
 use borrow.Author.Needs.{needs}
 use Rattle.judge.proofs.rule_all.Statement.{statement}
 use Rattle.judge.proofs.rule_all.Tie as tie

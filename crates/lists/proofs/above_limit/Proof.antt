@@ -18,40 +18,36 @@ Inv-loop kind rows j n from i₀ i = (i ≤ n) × (aboveLimit (drop i (layout ki
 abbrev μ-loop : tie.MeasureT-loop
 μ-loop kind rows j n from i₀ i = n - i
 
--- in a turn: the field is in the layout, and its number in the list
-inside : (c : tie.In-loop Inv-loop μ-loop)
-    → let a = c .before .before .before .before .args in
-    let i = c .before .loop .i in
-    (i < numbersOf (a .kind)) × (c .before .before .numbers .result * a .j + i < length (a .rows .now))
-inside c =
-    let a = c .before .before .before .before .args in
-    let e = c .before .before .numbers .ensures .0 in
-    let i = rw e at (c .loop-test .taken) in
-    (i, rw e (omega (arith, row-in (numbersOf (a .kind)) (a .j) (length (a .rows .now)) (c .before .before .before .before .pre))))
+-- the row is in the list
+row : (c : tie.After-numbers Inv-loop μ-loop) → let a = c .before .before .args in c .numbers .result * a .j + c .numbers .result ≤ length (a .rows .now)
+row c =
+    let a = c .before .before .args in
+    rw (c .numbers .ensures .0) (row-in (numbersOf (a .kind)) (a .j) (length (a .rows .now)) (c .before .before .pre))
+
+-- in a turn: the field is in the layout
+counted : (c : tie.In-loop Inv-loop μ-loop) → c .before .loop .i < numbersOf (c .before .before .before .before .args .kind)
+counted c = rw (c .before .before .numbers .ensures .0) at (c .loop-test .taken)
 
 numbers-requires : tie.Need-numbers-requires Inv-loop μ-loop
 numbers-requires c κs = search needs
 
 mul-from : tie.Need-mul-from Inv-loop μ-loop
-mul-from c =
-    let a = c .before .before .args in
-    let e = c .numbers .ensures .0 in
-    rw e (omega (arith, row-in (numbersOf (a .kind)) (a .j) (length (a .rows .now)) (c .before .before .pre)))
+mul-from c = omega (arith, row c)
 
 loop-holds : tie.Need-loop-holds Inv-loop μ-loop
 loop-holds c = (search needs, refl)
 
 field-requires : tie.Need-field-requires Inv-loop μ-loop
-field-requires c κs = omega (arith, inside c)
+field-requires c κs = counted c
 
 add-if1 : tie.Need-add-if1 Inv-loop μ-loop
-add-if1 c = omega (arith, inside (c .before))
+add-if1 c = omega (arith, row (c .before .before .before))
 
 mul-if1 : tie.Need-mul-if1 Inv-loop μ-loop
-mul-if1 c = let i = inside (c .before) in search needs
+mul-if1 c = let i = row (c .before .before .before) in search needs
 
 shared-slice-read-if1 : tie.Need-shared-slice-read-if1 Inv-loop μ-loop
-shared-slice-read-if1 c = inside (c .before .before) .1
+shared-slice-read-if1 c = omega (arith, row (c .before .before .before .before))
 
 returns : tie.Need-returns Inv-loop μ-loop
 returns c =
@@ -60,7 +56,7 @@ returns c =
     let enter = turn .before .before .before .before in
     let a = enter .args in
     let v = turn .before .loop in
-    above-here (a .kind) (a .rows .now) (a .j) (v .i) (inside turn .0) (turn .before .before .numbers .ensures .0) (ap (λ (f : Field). f .limit) (at-field .field .ensures)) (v .inv .1) (c .if1 .taken)
+    above-here (a .kind) (a .rows .now) (a .j) (v .i) (counted turn) (turn .before .before .numbers .ensures .0) (ap (λ (f : Field). f .limit) (at-field .field .ensures)) (v .inv .1) (c .if1 .taken)
 
 add-i : tie.Need-add-i Inv-loop μ-loop
 add-i c = search needs
@@ -75,7 +71,7 @@ loop-again c =
     let a = turn .before .before .before .before .args in
     let v = turn .before .loop in (
       search needs,
-      above-next (a .kind) (a .rows .now) (a .j) (v .i) (inside turn .0) (turn .before .before .numbers .ensures .0) (ap (λ (f : Field). f .limit) (at-field .field .ensures)) (v .inv .1) (c .if1 .left),
+      above-next (a .kind) (a .rows .now) (a .j) (v .i) (counted turn) (turn .before .before .numbers .ensures .0) (ap (λ (f : Field). f .limit) (at-field .field .ensures)) (v .inv .1) (c .if1 .left),
     )
 
 returns-2 : tie.Need-returns-2 Inv-loop μ-loop

@@ -1,15 +1,15 @@
 -- `lists::first_bad_list` meets its contract. Assumes nothing.
-use Prim.Native.Nat.{ℕ, suc, _+_, _-_, _≤_}
-use mathlib.Core.Path.{_≡_, sym, ap, _∙_}
-use mathlib.Core.Bool.{Bool}
+use Prim.Native.Nat.{suc, _+_, _-_, _≤_}
+use mathlib.Core.Path.{_≡_, sym, _∙_}
 use native.Mathlib.Numerals.{add-one}
-use lib.ListN.{length, getD}
+use lib.ListN.{length}
 use Rattle.form.specs.First.{first}
 use Rattle.form.specs.Layout.{kinds}
 use Rattle.form.specs.declared.Spot.the-variants.{Nowhere}
 use Rattle.form.proofs.Search.{first-zero, first-more, first-found}
-use Rattle.form.proofs.EachKind.{kinds-are, few-kinds}
-use Rattle.lists.specs.Rules.{badList, badAt}
+use Rattle.form.proofs.EachKind.{kinds-are}
+use Rattle.lists.proofs.Scan.{KindsAre}
+use Rattle.lists.specs.Rules.{badAt}
 use Rattle.lists.proofs.Numbers.{lengths-each}
 use borrow.Author.Needs.{needs}
 use native.Mathlib.Omega.{arith}
@@ -17,7 +17,7 @@ use Rattle.lists.proofs.first_bad_list.Statement.{statement}
 use Rattle.lists.proofs.first_bad_list.Tie as tie
 
 abbrev Inv-loop : tie.InvT-loop
-Inv-loop lengths m k₀ k = (k ≤ kinds) × (length lengths ≡ kinds) × (first (badAt lengths m) (k + 1) ≡ Nowhere)
+Inv-loop lengths m k₀ k = KindsAre × (k ≤ kinds) × (length lengths ≡ kinds) × (first (badAt lengths m) (k + 1) ≡ Nowhere)
 
 abbrev μ-loop : tie.MeasureT-loop
 μ-loop lengths m k₀ k = kinds - k
@@ -40,44 +40,44 @@ returns c = sym (first-found _ 0 _ (first-zero _) (sym (c .before .bad-lengths .
 loop-holds : tie.Need-loop-holds Inv-loop μ-loop
 loop-holds c =
     let none = sym (c .before .bad-lengths .ensures) ∙ c .if1 .left in
-    (omega arith, lengths-each _ _ none, first-more _ 0 (first-zero _) none)
+    (kinds-are, omega arith, lengths-each _ _ none, first-more _ 0 (first-zero _) none)
 
 add-bad-list : tie.Need-add-bad-list Inv-loop μ-loop
-add-bad-list c = omega (arith, few-kinds)
+add-bad-list c = search needs
 
 length-at-requires : tie.Need-length-at-requires Inv-loop μ-loop
-length-at-requires c κs = omega (arith, kinds-are)
+length-at-requires c κs = search needs
 
 bad-list-requires : tie.Need-bad-list-requires Inv-loop μ-loop
-bad-list-requires c κs = (omega arith, omega (arith, kinds-are))
+bad-list-requires c κs = search needs
 
 cast-t9 : tie.Need-cast-t9 Inv-loop μ-loop
-cast-t9 c = omega (arith, few-kinds)
+cast-t9 c = search needs
 
 add-t10 : tie.Need-add-t10 Inv-loop μ-loop
-add-t10 c = omega (arith, few-kinds)
+add-t10 c = search needs
 
 returns-2 : tie.Need-returns-2 Inv-loop μ-loop
 returns-2 c =
     let v = c .before .before .before .before .loop in
-    sym (first-found _ (v .k + 1) _ (v .inv .2) (said (c .before) ∙ c .if2 .taken) (omega (arith, kinds-are)))
+    sym (first-found _ (v .k + 1) _ (v .inv .3) (said (c .before) ∙ c .if2 .taken) (search needs))
 
 add-k : tie.Need-add-k Inv-loop μ-loop
-add-k c = omega (arith, few-kinds)
+add-k c = search needs
 
 loop-less : tie.Need-loop-less Inv-loop μ-loop
-loop-less c = omega (arith, kinds-are)
+loop-less c = search needs
 
 loop-again : tie.Need-loop-again Inv-loop μ-loop
 loop-again c =
     let v = c .before .before .before .before .loop in
-    (omega (arith, kinds-are), v .inv .1, first-more _ (v .k + 1) (v .inv .2) (said (c .before) ∙ c .if2 .left))
+    (v .inv .0, search needs, v .inv .2, first-more _ (v .k + 1) (v .inv .3) (said (c .before) ∙ c .if2 .left))
 
 returns-3 : tie.Need-returns-3 Inv-loop μ-loop
 returns-3 c =
     let v = c .before .loop in
-    let e : v .k + 1 ≡ suc kinds = omega (arith, kinds-are) in
-    sym (rw e at (v .inv .2))
+    let e : v .k + 1 ≡ suc kinds = search needs in
+    sym (rw e at (v .inv .3))
 
 pub first-bad-list-spec : {M : Type 1} → statement M
 first-bad-list-spec =

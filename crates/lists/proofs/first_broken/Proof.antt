@@ -1,19 +1,18 @@
 -- `lists::first_broken` meets its contract. Assumes nothing.
 use native.Mathlib.Numerals.{add-one}
 use Prim.Native.Nat.{ℕ, _+_, _-_, _*_, _≤_, _<_}
-use mathlib.Core.Path.{_≡_, sym, ap, _∙_}
-use lib.ListN.{length, getD}
+use mathlib.Core.Path.{ap}
+use lib.ListN.{length}
 use Rattle.form.specs.Layout.{kinds}
-use Rattle.form.proofs.EachKind.{kinds-are, few-kinds}
-use Rattle.lists.specs.Rules.{Good}
-use Rattle.lists.proofs.Scan.{Scanning, scan-none, scan-in, scan-few, scan-found, scan-more, scan-all}
+use Rattle.form.proofs.EachKind.{kinds-are}
+use Rattle.lists.proofs.Scan.{KindsAre, Scanning, scan-none, part-in, scan-few, scan-found, scan-more, scan-all}
 use borrow.Author.Needs.{needs}
 use native.Mathlib.Omega.{arith}
 use Rattle.lists.proofs.first_broken.Statement.{statement}
 use Rattle.lists.proofs.first_broken.Tie as tie
 
 abbrev Inv-loop : tie.InvT-loop
-Inv-loop number edition lengths area from₀ start₀ k₀ from start k = Scanning number edition lengths area from start k
+Inv-loop number edition lengths area from₀ start₀ k₀ from start k = KindsAre × Scanning number edition lengths area from start k
 
 abbrev μ-loop : tie.MeasureT-loop
 μ-loop number edition lengths area from₀ start₀ k₀ from start k = kinds - k
@@ -24,20 +23,21 @@ inside : (c : tie.After-length-at Inv-loop μ-loop)
     let a = c .before .before .before .before .before .args in
     (v .k < kinds) × (v .from + c .length-at .result ≤ length (a .area .now))
 inside c =
-    let k : c .before .before .loop .k < kinds = omega (arith, kinds-are, c .before .loop-test .taken) in
-    (k, scan-in (c .before .before .before .before .before .pre) (c .before .before .loop .inv) k (c .length-at .ensures .0))
+    let k : c .before .before .loop .k < kinds = search needs in
+    let enter = c .before .before .before .before .before in
+    (k, part-in (enter .args .area .now) _ (enter .pre) (c .before .before .loop .inv .1 .at) k (c .length-at .ensures .0))
 
 loop-holds : tie.Need-loop-holds Inv-loop μ-loop
-loop-holds c = scan-none _ _ _ _
+loop-holds c = (kinds-are, scan-none _ _ _ _)
 
 length-at-requires : tie.Need-length-at-requires Inv-loop μ-loop
-length-at-requires c κs = let g = c .before .before .before .before .pre in omega (arith, kinds-are, g .each)
+length-at-requires c κs = search needs
 
 add-end : tie.Need-add-end Inv-loop μ-loop
 add-end c = omega (arith, inside c .1)
 
 add-first-in : tie.Need-add-first-in Inv-loop μ-loop
-add-first-in c = omega (arith, few-kinds)
+add-first-in c = search needs
 
 mul-first-in : tie.Need-mul-first-in Inv-loop μ-loop
 mul-first-in c = let i = inside c in search needs
@@ -57,7 +57,7 @@ first-in-requires c κs =
     let i = inside turn in
     let v = turn .before .before .loop in
     let g = turn .before .before .before .before .before .pre in
-    (omega arith, omega (arith, i .0), scan-few g (v .inv) (i .0) (turn .length-at .ensures .0), omega (arith, v .inv .low, few-kinds, i .0))
+    (search needs, search needs, scan-few g (v .inv .1) (i .0) (turn .length-at .ensures .0), search needs)
 
 enum-known-place : tie.Need-enum-known-place Inv-loop μ-loop
 enum-known-place c = search needs
@@ -66,14 +66,14 @@ returns : tie.Need-returns Inv-loop μ-loop
 returns c =
     let at-first = c .before .before .before in
     let turn = at-first .before .before in
-    scan-found (turn .before .before .before .before .before .pre) (turn .before .before .loop .inv) (inside turn .0) (turn .length-at .ensures .0)
+    scan-found (turn .before .before .before .before .before .pre) (turn .before .before .loop .inv .1) (inside turn .0) (turn .length-at .ensures .0)
     (at-first .first-in .ensures) (c .before .place .given .1)
 
 enum-told : tie.Need-enum-told Inv-loop μ-loop
 enum-told c = search needs
 
 add-blocks-of : tie.Need-add-blocks-of Inv-loop μ-loop
-add-blocks-of c = omega (arith, few-kinds)
+add-blocks-of c = search needs
 
 blocks-of-requires : tie.Need-blocks-of-requires Inv-loop μ-loop
 blocks-of-requires c κs =
@@ -81,30 +81,33 @@ blocks-of-requires c κs =
     let i = inside turn in
     let v = turn .before .before .loop in
     let g = turn .before .before .before .before .before .pre in
-    (omega arith, omega (arith, i .0), rw (add-one (v .k), turn .length-at .ensures .0) (g .few (v .k) (i .0)))
+    (search needs, search needs, rw (add-one (v .k), turn .length-at .ensures .0) (g .few (v .k) (i .0)))
 
 mul-start : tie.Need-mul-start Inv-loop μ-loop
-mul-start c = omega (arith, c .blocks-of .ensures .1)
+mul-start c = search needs
 
 add-start : tie.Need-add-start Inv-loop μ-loop
-add-start c = omega (arith, few-kinds, c .blocks-of .ensures .1, c .before .before .before .before .before .before .before .loop .inv .low)
+add-start c = search needs
 
 add-k : tie.Need-add-k Inv-loop μ-loop
-add-k c = omega (arith, few-kinds)
+add-k c = search needs
 
 loop-less : tie.Need-loop-less Inv-loop μ-loop
-loop-less c = omega (arith, kinds-are)
+loop-less c = search needs
 
 loop-again : tie.Need-loop-again Inv-loop μ-loop
 loop-again c =
     let told = c .before in
     let at-first = told .before .before in
     let turn = at-first .before .before in
-    scan-more (turn .before .before .before .before .before .pre) (turn .before .before .loop .inv) (inside turn .0) (turn .length-at .ensures .0)
-    (at-first .first-in .ensures) (told .enum-told .given .1) (ap (λ (x : ℕ). 12 * x) (c .blocks-of .ensures .0))
+    let v = turn .before .before .loop in (
+      v .inv .0,
+      scan-more (turn .before .before .before .before .before .pre) (v .inv .1) (inside turn .0) (turn .length-at .ensures .0)
+          (at-first .first-in .ensures) (told .enum-told .given .1) (ap (λ (x : ℕ). 12 * x) (c .blocks-of .ensures .0)),
+    )
 
 returns-2 : tie.Need-returns-2 Inv-loop μ-loop
-returns-2 c = scan-all (c .before .before .before .before .pre) (c .before .loop .inv) (omega (arith, kinds-are, c .loop-test .left))
+returns-2 c = scan-all (c .before .before .before .before .pre) (c .before .loop .inv .1) (search needs)
 
 pub first-broken-spec : {M : Type 1} → statement M
 first-broken-spec =

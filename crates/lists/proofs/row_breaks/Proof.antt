@@ -1,13 +1,12 @@
 -- `lists::row_breaks` meets its contract. Assumes nothing.
 use mathlib.Core.Path.{_≡_}
-use mathlib.Core.Path.{sym, ap, _∙_}
-use Prim.Native.Nat.{ℕ, _+_, _*_, _≤_}
+use mathlib.Core.Path.{sym, _∙_}
+use Prim.Native.Nat.{_+_, _*_, _≤_}
 use lib.ListN.{length}
-use Rattle.form.specs.Records.{overspent, grown}
-use Rattle.filing.specs.Lists.{rowOf}
 use Rattle.filing.proofs.Parts.{row-in}
-use Rattle.lists.proofs.Numbers.{six, seven, eight, no-conversion, no-rule, fractions-of, densities-of}
+use Rattle.lists.proofs.Numbers.{no-conversion, fractions-of, densities-of}
 use borrow.Author.Needs.{needs}
+use borrow.Author.Tests.{ne-eqb}
 use native.Mathlib.Omega.{arith}
 use Rattle.lists.proofs.row_breaks.Statement.{statement}
 use Rattle.lists.proofs.row_breaks.Tie as tie
@@ -25,9 +24,7 @@ above-limit-requires : tie.Need-above-limit-requires
 above-limit-requires c κs = c .before .before .pre
 
 returns : tie.Need-returns
-returns c =
-    let a = c .before .before .before .args in
-    c .above-limit .ensures ∙ sym (six (a .number) (a .edition) (a .kind) _ (c .before .if1 .taken))
+returns c = rw (c .before .if1 .taken) (c .above-limit .ensures)
 
 returns-2 : tie.Need-returns-2
 returns-2 c =
@@ -47,10 +44,7 @@ returns-3 : tie.Need-returns-3
 returns-3 c =
     let at-numbers = c .before .before in
     let a = at-numbers .before .before .before .before .args in
-    let i = inside at-numbers .0 in
-    let e : c .overspent-at .result ≡ overspent (rowOf 1 (a .rows .now) (a .j)) =
-    c .overspent-at .ensures ∙ rw (at-numbers .numbers .ensures .0, fractions-of (a .rows .now) (a .j)) in
-    e ∙ sym (seven (a .number) (a .edition) (a .kind) _ i (c .before .if3 .taken) ∙ ap (λ (k : ℕ). overspent (rowOf k (a .rows .now) (a .j))) i)
+    rw (c .before .if3 .taken, inside at-numbers .0) (c .overspent-at .ensures ∙ rw (at-numbers .numbers .ensures .0, fractions-of (a .rows .now) (a .j)))
 
 grown-at-requires : tie.Need-grown-at-requires
 grown-at-requires c κs = inside (c .before .before) .1
@@ -59,16 +53,13 @@ returns-4 : tie.Need-returns-4
 returns-4 c =
     let at-numbers = c .before .before .before in
     let a = at-numbers .before .before .before .before .args in
-    let i = inside at-numbers .0 in
-    let e : c .grown-at .result ≡ grown (rowOf 1 (a .rows .now) (a .j)) =
-    c .grown-at .ensures ∙ rw (at-numbers .numbers .ensures .0, densities-of (a .rows .now) (a .j)) in
-    e ∙ sym (eight (a .number) (a .edition) (a .kind) _ i (c .before .if4 .taken) ∙ ap (λ (k : ℕ). grown (rowOf k (a .rows .now) (a .j))) i)
+    rw (c .before .if4 .taken, inside at-numbers .0) (c .grown-at .ensures ∙ rw (at-numbers .numbers .ensures .0, densities-of (a .rows .now) (a .j)))
 
 returns-5 : tie.Need-returns-5
 returns-5 c =
     let one = c .before .before .before .before in
     let a = one .before .before .args in
-    sym (no-rule (a .number) (a .edition) (a .kind) _ (one .if1 .left) (c .before .if3 .left) (c .if4 .left))
+    rw (ne-eqb (a .number) 6 (one .if1 .left), ne-eqb (a .number) 7 (c .before .if3 .left), ne-eqb (a .number) 8 (c .if4 .left))
 
 pub row-breaks-spec : {M : Type 1} → statement M
 row-breaks-spec =

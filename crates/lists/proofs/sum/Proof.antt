@@ -1,9 +1,10 @@
 -- `lists::sum` meets its contract. Assumes nothing.
-use Prim.Native.Nat.{_+_, _-_, _*_, _≤_}
-use mathlib.Core.Path.{_≡_, sym, _∙_}
+use Prim.Native.Nat.{_-_, _*_, _≤_}
+use mathlib.Core.Path.{_≡_, sym, ap, _∙_}
+use lib.Seq.{take-all}
 use lib.ListN.{length, take}
 use Rattle.filing.specs.Lists.{total}
-use Rattle.filing.proofs.Cut.{total-none, total-next, total-all}
+use Rattle.filing.proofs.Cut.{total-none, total-next}
 use borrow.Author.Needs.{needs}
 use native.Mathlib.Omega.{arith}
 use Rattle.lists.proofs.sum.Statement.{statement}
@@ -34,7 +35,7 @@ loop-again : tie.Need-loop-again Inv-loop μ-loop
 loop-again c = (search needs, search needs, cc (total-next (c .before .before .before .before .args .lengths .now) (c .before .before .loop .i) (omega arith)))
 
 returns : tie.Need-returns Inv-loop μ-loop
-returns c = c .before .loop .inv .2 ∙ total-all (c .before .before .before .args .lengths .now) (c .before .loop .i) (omega arith)
+returns c = c .before .loop .inv .2 ∙ ap total (take-all (c .before .loop .i) (c .before .before .before .args .lengths .now) (omega arith))
 
 pub sum-spec : {M : Type 1} → statement M
 sum-spec =

@@ -1,14 +1,16 @@
 -- `records::above_fields` meets its contract. Assumes nothing.
 use Prim.Native.Nat.{_+_, _-_, _≤_, _<_}
-use Rattle.form.specs.Layout.{layout, numbersOf}
-use Rattle.form.proofs.Fields.{ends-40, Readable, field-readable, Limiting, limiting-none, limiting-in, limiting-more, limiting-all}
+use mathlib.Core.Path.{refl, sym, _∙_}
+use mathlib.Core.Bool.{or-false}
+use Rattle.form.specs.Layout.{aboveLimit, rowFrom, layout, numbersOf}
+use Rattle.form.proofs.Fields.{ends-40, Readable, field-readable, limiting, Looking, looking-none, looking-in, looking-more, looking-all}
 use borrow.Author.Needs.{needs}
 use native.Mathlib.Omega.{arith}
 use Rattle.records.proofs.above_fields.Statement.{statement}
 use Rattle.records.proofs.above_fields.Tie as tie
 
 abbrev Inv-loop : tie.InvT-loop
-Inv-loop bytes kind at n above₀ k₀ i₀ above k i = Limiting (layout kind) bytes at above k i
+Inv-loop bytes kind at n above₀ k₀ i₀ above k i = Looking (limiting bytes at) (layout kind) above k i
 
 abbrev μ-loop : tie.MeasureT-loop
 μ-loop bytes kind at n above₀ k₀ i₀ above k i = n - i
@@ -18,7 +20,7 @@ counted : (c : tie.In-loop Inv-loop μ-loop) → c .before .loop .i < numbersOf 
 counted c = rw (c .before .before .numbers .ensures .0) at (c .loop-test .taken)
 
 inside : (c : tie.After-field Inv-loop μ-loop) → c .before .before .loop .k + c .field .result .zeros + c .field .result .width ≤ 40
-inside c = rw (c .field .ensures) (limiting-in (c .before .before .loop .inv) (counted (c .before)))
+inside c = rw (c .field .ensures) (looking-in (c .before .before .loop .inv) (counted (c .before)))
 
 fits : (c : tie.After-field Inv-loop μ-loop) → Readable (c .field .result .width)
 fits c =
@@ -29,7 +31,7 @@ numbers-requires : tie.Need-numbers-requires Inv-loop μ-loop
 numbers-requires c κs = search needs
 
 loop-holds : tie.Need-loop-holds Inv-loop μ-loop
-loop-holds c = limiting-none (ends-40 (c .before .before .args .kind))
+loop-holds c = looking-none (ends-40 (c .before .before .args .kind))
 
 field-requires : tie.Need-field-requires Inv-loop μ-loop
 field-requires c κs = counted c
@@ -53,13 +55,15 @@ loop-less : tie.Need-loop-less Inv-loop μ-loop
 loop-less c = search needs
 
 loop-again : tie.Need-loop-again Inv-loop μ-loop
+unfolding aboveLimit rowFrom
 loop-again c =
     let n = c .before .before in
     let f = n .before .before in
-    limiting-more (f .before .before .loop .inv) (counted (f .before)) (f .field .ensures) (n .number-at .ensures)
+    looking-more (f .before .before .loop .inv) _ (counted (f .before)) (f .field .ensures) (λ l. rw (n .number-at .ensures) refl)
 
 returns : tie.Need-returns Inv-loop μ-loop
-returns c = limiting-all (c .before .loop .inv) (omega arith)
+unfolding aboveLimit
+returns c = sym (or-false _) ∙ looking-all (c .before .loop .inv) (omega arith) refl
 
 pub above-fields-spec : {M : Type 1} → statement M
 above-fields-spec =

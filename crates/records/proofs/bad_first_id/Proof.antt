@@ -1,10 +1,8 @@
 -- `records::bad_first_id` meets its contract. Assumes nothing.
 use Prim.Native.Nat.{ℕ, _*_}
-use mathlib.Core.Path.{_≡_, sym, ap, ap₂, _∙_}
+use mathlib.Core.Path.{_≡_, sym, ap, _∙_}
 use denote.Ref.{now}
-use lib.Dec.{ltb, leb, eqb}
-use Rattle.form.specs.Records.{filed, hasId, badId}
-use Rattle.form.proofs.Tests.{and-of}
+use Rattle.form.specs.Records.{filed, badId}
 use Rattle.form.proofs.Places.{id-none, id-first}
 use native.Mathlib.Omega.{arith}
 use borrow.Author.Needs.{needs}
@@ -63,14 +61,7 @@ has-id-requires : tie.Need-has-id-requires
 has-id-requires c κs = search needs
 
 returns-2 : tie.Need-returns-2
-returns-2 c =
-    let k = c .before .before .before .before .byte-at2 .ensures .0 in
-    let a = c .before .before .before .before .before .before .before .before .args in
-    and-of (ap (λ (n : ℕ). ltb 0 n) (c .before .before .before .before .before .byte-at .ensures .0))
-    (and-of (c .has-id .ensures ∙ ap hasId k)
-    (and-of (ap₂ (λ (m n : ℕ). eqb m n) (c .before .before .before .byte-at3 .ensures .0) k)
-    (ap₂ (λ (m n : ℕ). leb m n) (c .before .before .four-at .ensures) (c .before .four-at2 .ensures))))
-    ∙ sym (id-first (now (a .bytes)) (a .b) (omega arith))
+returns-2 c = let a = c .before .before .before .before .before .before .before .before .args in cc (id-first (now (a .bytes)) (a .b) (omega arith))
 
 pub bad-first-id-spec : {M : Type 1} → statement M
 bad-first-id-spec =

@@ -1,7 +1,6 @@
 -- `records::breaks` meets its contract. Assumes nothing.
 use denote.Ref.{now}
 use borrow.Author.Tests.{ne-eqb}
-use native.Mathlib.Omega.{arith}
 use borrow.Author.Needs.{needs}
 use Rattle.form.specs.Records.{overspent, grown}
 use Rattle.records.proofs.Rows.{of-kind}

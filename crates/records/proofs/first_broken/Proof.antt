@@ -21,21 +21,21 @@ abbrev μ-loop : tie.MeasureT-loop
 loop-holds : tie.Need-loop-holds Inv-loop μ-loop
 loop-holds c = (search needs, first-zero _)
 
-first-row-in-requires : tie.Need-first-row-in-requires Inv-loop μ-loop
-first-row-in-requires c κs = search needs
+first-in-requires : tie.Need-first-in-requires Inv-loop μ-loop
+first-in-requires c κs = search needs
 
 enum-known-spot : tie.Need-enum-known-spot Inv-loop μ-loop
 enum-known-spot c = search needs
 
 place-requires : tie.Need-place-requires Inv-loop μ-loop
-place-requires c κs = (search needs, first-at _ (sym (c .before .before .before .first-row-in .ensures) ∙ c .before .spot .given .1) .0)
+place-requires c κs = (search needs, first-at _ (sym (c .before .before .before .first-in .ensures) ∙ c .before .spot .given .1) .0)
 
 returns : tie.Need-returns Inv-loop μ-loop
 returns c =
     let x = c .before .before in
     let b = x .before .before in
     ap At (c .place .ensures)
-    ∙ sym (part-found _ 12 _ (b .before .before .loop .inv .1) _ _ (sym (b .first-row-in .ensures) ∙ x .spot .given .1) (search needs))
+    ∙ sym (part-found _ 12 _ (b .before .before .loop .inv .1) _ _ (sym (b .first-in .ensures) ∙ x .spot .given .1) (search needs))
 
 enum-told : tie.Need-enum-told Inv-loop μ-loop
 enum-told c = search needs
@@ -49,7 +49,7 @@ loop-less c = search needs
 loop-again : tie.Need-loop-again Inv-loop μ-loop
 loop-again c =
     let b = c .before .before in
-    (search needs, part-none _ 12 _ (b .before .before .loop .inv .1) (sym (b .first-row-in .ensures) ∙ c .enum-told .given .1))
+    (search needs, part-none _ 12 _ (b .before .before .loop .inv .1) (sym (b .first-in .ensures) ∙ c .enum-told .given .1))
 
 returns-2 : tie.Need-returns-2 Inv-loop μ-loop
 returns-2 c =
@@ -64,7 +64,7 @@ first-broken-spec =
     Inv-loop
     μ-loop
     loop-holds
-    first-row-in-requires
+    first-in-requires
     enum-known-spot
     place-requires
     returns

@@ -1,13 +1,10 @@
 -- `records::first_row_in` meets its contract. Assumes nothing.
-use Prim.Native.Nat.{ℕ, _+_, _-_, _*_, _≤_}
-use mathlib.Core.Path.{_≡_, sym, ap, _∙_}
+use Prim.Native.Nat.{_+_, _-_, _*_, _≤_}
+use mathlib.Core.Path.{_≡_, sym, _∙_}
 use denote.Ref.{now}
 use Rattle.form.specs.declared.Spot.the-variants.{Nowhere}
 use Rattle.form.specs.First.{first}
-use Rattle.form.specs.Layout.{layout, rowAt}
-use Rattle.form.specs.Block.{edition, recordAt}
-use Rattle.form.specs.Records.{testNumbered}
-use Rattle.records.specs.Steps.{recordTest}
+use Rattle.records.specs.Steps.{rowTest}
 use Rattle.form.proofs.Search.{first-zero, first-more, first-found, first-rest}
 use Rattle.records.proofs.Rows.{tried, unused, spared}
 use borrow.Author.Needs.{needs}
@@ -16,14 +13,14 @@ use Rattle.records.proofs.first_row_in.Statement.{statement}
 use Rattle.records.proofs.first_row_in.Tie as tie
 
 abbrev Inv-loop : tie.InvT-loop
-Inv-loop bytes number b kind used r₀ r = (r ≤ used) × (first (λ i. recordTest number bytes (12 * b + i)) r ≡ Nowhere)
+Inv-loop bytes number b kind used r₀ r = (r ≤ used) × (first (λ i. rowTest number bytes (12 * b + i)) r ≡ Nowhere)
 
 abbrev μ-loop : tie.MeasureT-loop
 μ-loop bytes number b kind used r₀ r = used - r
 
 -- what `breaks` said in a turn is what the rule says of that record
 said : (c : tie.After-breaks Inv-loop μ-loop)
-    → recordTest (c .before .before .before .before .before .before .before .before .args .number) (now (c .before .before .before .before .before .before .before .before .args .bytes))
+    → rowTest (c .before .before .before .before .before .before .before .before .args .number) (now (c .before .before .before .before .before .before .before .before .args .bytes))
     (12 * c .before .before .before .before .before .before .before .before .args .b + c .before .before .loop .r) ≡ c .breaks .result
 said c =
     let u = c .before .before .before in
@@ -32,7 +29,7 @@ said c =
     let s = now (a .bytes) in
     let r = c .before .before .loop .r in
     tried s (a .b) (a .number) r (omega arith) (omega (arith, u .used-in .ensures))
-    (c .breaks .ensures ∙ ap (λ (x : ℕ). testNumbered (a .number) (edition s 0) x (rowAt (layout x) s (recordAt (a .b) r))) (k .byte-at .ensures .0))
+    (rw (k .byte-at .ensures .0) at (c .breaks .ensures))
 
 mul-byte-at : tie.Need-mul-byte-at Inv-loop μ-loop
 mul-byte-at c = search needs

@@ -1,7 +1,6 @@
 -- `records::has_id` meets its contract. Assumes nothing.
 use mathlib.Core.Path.{refl}
 use Rattle.form.specs.Layout.{kinds}
-use native.Mathlib.Omega.{arith}
 use borrow.Author.Needs.{needs}
 use Rattle.records.proofs.has_id.Statement.{statement}
 use Rattle.records.proofs.has_id.Tie as tie

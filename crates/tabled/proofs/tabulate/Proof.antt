@@ -1,8 +1,7 @@
 -- The numbers of what the sheets answer. Assumes nothing.
-use mathlib.Core.Path.{sym, ap, subst, _∙_}
 use denote.Ref.{now}
 use borrow.Author.Needs.{needs}
-use Rattle.worksheets.specs.Answers.{InForm, said}
+use Rattle.worksheets.proofs.One.{told, in-form}
 use Rattle.tabled.proofs.Numbers.{refused-out, short-out, done-out}
 use Rattle.tabled.proofs.tabulate.Statement.{statement}
 use Rattle.tabled.proofs.tabulate.Tie as tie
@@ -23,18 +22,19 @@ returns c =
     let y = c .before in
     let e = y .before .before .before in
     let a = e .before .before .before .args in
-    short-out (now (a .bytes)) (now (a .room)) _ (ap said (sym (y .before .f .given .1)) ∙ e .figures .ensures .0) (c .if1 .taken)
+    short-out (now (a .bytes)) (now (a .room)) _ (told (now (a .bytes)) (e .figures .ensures) (y .before .f .given .1)) (c .if1 .taken)
 
 put-figures-requires : tie.Need-put-figures-requires
 put-figures-requires c κs =
     let y = c .before .before in
-    (subst InForm (y .before .f .given .1) (y .before .before .before .figures .ensures .1), search needs)
+    let e = y .before .before .before in
+    (in-form (now (e .before .before .before .args .bytes)) (e .figures .ensures) (y .before .f .given .1), search needs)
 
 returns-2 : tie.Need-returns-2
 returns-2 c =
     let e = c .before .before .before in
     let a = e .before .before .before .args in
-    refused-out (now (a .bytes)) (now (a .room)) _ _ (ap said (sym (c .before .number .given .1)) ∙ e .figures .ensures .0)
+    refused-out (now (a .bytes)) (now (a .room)) _ _ (told (now (a .bytes)) (e .figures .ensures) (c .before .number .given .1))
 
 same-length : tie.Need-same-length
 same-length c = search needs
@@ -46,7 +46,7 @@ returns-3 c =
     let y = i .before in
     let e = y .before .before .before in
     let a = e .before .before .before .args in
-    done-out (now (a .bytes)) (now (a .room)) _ _ _ (ap said (sym (y .before .f .given .1)) ∙ e .figures .ensures .0) (i .if1 .left) (p .put-figures .ensures)
+    done-out (now (a .bytes)) (now (a .room)) _ _ _ (told (now (a .bytes)) (e .figures .ensures) (y .before .f .given .1)) (i .if1 .left) (p .put-figures .ensures)
 
 pub tabulate-spec : {M : Type 1} → statement M
 tabulate-spec =

@@ -2,20 +2,21 @@
 use lib.Dec.{lit<}
 use native.Mathlib.Numerals.{bound}
 use borrow.Author.Needs.{needs}
+use native.Mathlib.Omega.{arith}
 use Rattle.totals.proofs.burned.Statement.{statement}
 use Rattle.totals.proofs.burned.Tie as tie
 
-mul-result : tie.Need-mul-result
-mul-result c = record { fits = grw (bound, c .pre .0, c .pre .1) (lit< tt) }
+share-of-requires : tie.Need-share-of-requires
+share-of-requires c κs = grw (bound, c .pre .0, c .pre .1) (lit< tt)
 
-mul-result-2 : tie.Need-mul-result-2
-mul-result-2 c = record { fits = grw (bound, c .pre .0, c .pre .1, c .pre .2) (lit< tt) }
+share-of-requires-2 : tie.Need-share-of-requires-2
+share-of-requires-2 c κs = let p = c .before .pre in rw (c .share-of .ensures) (grw (bound, p .0, p .1, p .2) (lit< tt))
 
-mul-result-3 : tie.Need-mul-result-3
-mul-result-3 c = record { fits = grw (bound, c .pre .0, c .pre .1, c .pre .2, c .pre .3) (lit< tt) }
+carbon-of-requires : tie.Need-carbon-of-requires
+carbon-of-requires c κs = let p = c .before .before .pre in rw (c .share-of2 .ensures, c .before .share-of .ensures) (grw (bound, p .0, p .1, p .2, p .3) (lit< tt))
 
 returns : tie.Need-returns
-returns c = search needs
+returns c = cc
 
 pub burned-spec : {M : Type 1} → statement M
-burned-spec = tie.close (tie.spec mul-result mul-result-2 mul-result-3 returns)
+burned-spec = tie.close (tie.spec share-of-requires share-of-requires-2 carbon-of-requires returns)

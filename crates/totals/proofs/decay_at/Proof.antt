@@ -1,4 +1,6 @@
 -- `totals::decay_at` meets its contract. Assumes nothing.
+use Prim.Native.Nat.{_-_, _*_}
+use mathlib.Core.Path.{_∙_}
 use Rattle.form.specs.Layout.{rowFrom}
 use Rattle.totals.specs.Columns.{decayPart}
 use Rattle.totals.proofs.Limits.{shrunk, ten-years, decays}
@@ -46,7 +48,10 @@ burned-requires c κs = let w = decays _ (c .before .before .before .before .bef
 
 returns : tie.Need-returns
 unfolding decayPart rowFrom
-returns c = cc
+returns c =
+    let l = c .before .before .before in
+    let w = l .lost .ensures .0 ∙ (λ i. l .before .before .before .four-at .ensures i * (l .before .before .two-at .ensures .0 i - l .before .two-at2 .ensures .0 i)) in
+    c .burned .ensures ∙ (λ i. w i * c .before .before .two-at3 .ensures .0 i * 1000 * c .before .two-at4 .ensures .0 i)
 
 pub decay-at-spec : {M : Type 1} → statement M
 decay-at-spec =

@@ -1,7 +1,9 @@
 -- `totals::harvest_at` meets its contract. Assumes nothing.
+use Prim.Native.Nat.{_+_, _*_}
 use Rattle.form.specs.Layout.{rowFrom}
 use Rattle.totals.specs.Columns.{harvestPart}
 use Rattle.totals.proofs.Limits.{four-two}
+use native.Mathlib.Omega.{arith}
 use borrow.Author.Needs.{needs}
 use Rattle.totals.proofs.harvest_at.Statement.{statement}
 use Rattle.totals.proofs.harvest_at.Tie as tie
@@ -33,8 +35,8 @@ add-four-at-2 c = search needs
 four-at-requires-2 : tie.Need-four-at-requires-2
 four-at-requires-2 c κs = search needs
 
-cast-result : tie.Need-cast-result
-cast-result c = search needs
+cast-t9 : tie.Need-cast-t9
+cast-t9 c = search needs
 
 add-four-at-3 : tie.Need-add-four-at-3
 add-four-at-3 c = search needs
@@ -42,21 +44,21 @@ add-four-at-3 c = search needs
 four-at-requires-3 : tie.Need-four-at-requires-3
 four-at-requires-3 c κs = search needs
 
-cast-result-2 : tie.Need-cast-result-2
-cast-result-2 c = search needs
+cast-t6 : tie.Need-cast-t6
+cast-t6 c = search needs
 
-add-result : tie.Need-add-result
-add-result c = search needs
+add-t10 : tie.Need-add-t10
+add-t10 c = search needs
 
-mul-result : tie.Need-mul-result
-mul-result c = search needs
+mul-t11 : tie.Need-mul-t11
+mul-t11 c = search needs
 
-add-result-2 : tie.Need-add-result-2
-add-result-2 c = let h = four-two (c .before .before .before .four-at .result) (c .before .before .two-at .result) (search needs) (search needs) in search needs
+add-t12 : tie.Need-add-t12
+add-t12 c = let h = four-two (c .before .before .before .four-at .result) (c .before .before .two-at .result) (search needs) (search needs) in search needs
 
 returns : tie.Need-returns
 unfolding harvestPart rowFrom
-returns c = cc
+returns c = let d = c in λ i. d .before .before .before .four-at .ensures i * d .before .before .two-at .ensures .0 i + 1000 * (d .before .four-at2 .ensures i + d .four-at3 .ensures i)
 
 pub harvest-at-spec : {M : Type 1} → statement M
 harvest-at-spec =
@@ -71,11 +73,11 @@ harvest-at-spec =
     mul-sold
     add-four-at-2
     four-at-requires-2
-    cast-result
+    cast-t9
     add-four-at-3
     four-at-requires-3
-    cast-result-2
-    add-result
-    mul-result
-    add-result-2
+    cast-t6
+    add-t10
+    mul-t11
+    add-t12
     returns)

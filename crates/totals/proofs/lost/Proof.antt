@@ -8,17 +8,17 @@ use borrow.Author.Needs.{needs}
 use Rattle.totals.proofs.lost.Statement.{statement}
 use Rattle.totals.proofs.lost.Tie as tie
 
-sub-result : tie.Need-sub-result
-sub-result c = search needs
+sub-t5 : tie.Need-sub-t5
+sub-t5 c = search needs
 
-cast-result : tie.Need-cast-result
-cast-result c = search needs
+cast-t6 : tie.Need-cast-t6
+cast-t6 c = search needs
 
-mul-result : tie.Need-mul-result
-mul-result c = let d : c .args .before - c .args .after ≤ 10000 = omega arith in record { fits = grw (bound, c .pre .0, d) (lit< tt) }
+mul-t7 : tie.Need-mul-t7
+mul-t7 c = let d : c .args .before - c .args .after ≤ 10000 = omega arith in record { fits = grw (bound, c .pre .0, d) (lit< tt) }
 
 returns : tie.Need-returns
 returns c = let d : c .args .before - c .args .after ≤ 10000 = omega arith in (refl, grw (bound, c .pre .0, d) (lit≤ tt))
 
 pub lost-spec : {M : Type 1} → statement M
-lost-spec = tie.close (tie.spec sub-result cast-result mul-result returns)
+lost-spec = tie.close (tie.spec sub-t5 cast-t6 mul-t7 returns)

@@ -1,7 +1,10 @@
 -- `totals::parts_at` meets its contract. Assumes nothing.
+use Prim.Native.Nat.{_-_, _*_}
+use mathlib.Core.Path.{_∙_}
 use Rattle.form.specs.Layout.{rowFrom}
 use Rattle.totals.specs.Columns.{clearedPart, onsitePart, offsitePart}
 use Rattle.totals.proofs.Limits.{biomass-two, shrunk, period, onsites, offsites}
+use native.Mathlib.Omega.{arith}
 use borrow.Author.Needs.{needs}
 use Rattle.totals.proofs.parts_at.Statement.{statement}
 use Rattle.totals.proofs.parts_at.Tie as tie
@@ -26,7 +29,7 @@ two-at-requires-2 c κs = search needs
 
 lost-requires : tie.Need-lost-requires
 unfolding rowFrom
-lost-requires c κs = let w = period _ (c .before .before .before .before .pre .1 .within) in let d = shrunk (c .before .before .before .before .pre .1) in search needs
+lost-requires c κs = let h = c .before .before .before .before .pre .1 in let w = period _ (h .within) in let d = shrunk h in search needs
 
 add-two-at-3 : tie.Need-add-two-at-3
 add-two-at-3 c = search needs
@@ -34,11 +37,8 @@ add-two-at-3 c = search needs
 two-at-requires-3 : tie.Need-two-at-requires-3
 two-at-requires-3 c κs = search needs
 
-cast-t11 : tie.Need-cast-t11
-cast-t11 c = search needs
-
-mul-t12 : tie.Need-mul-t12
-mul-t12 c = let h = biomass-two (c .before .lost .result) (c .two-at3 .result) (search needs) (search needs) in search needs
+share-of-requires : tie.Need-share-of-requires
+share-of-requires c κs = biomass-two _ _ (search needs) (search needs)
 
 add-two-at-4 : tie.Need-add-two-at-4
 add-two-at-4 c = search needs
@@ -60,7 +60,7 @@ two-at-requires-6 c κs = search needs
 
 burned-requires : tie.Need-burned-requires
 unfolding rowFrom
-burned-requires c κs = let w = onsites _ (c .before .before .before .before .before .before .before .before .before .pre .1 .within) in search needs
+burned-requires c κs = let w = onsites _ (c .before .before .before .before .before .before .before .before .before .before .pre .1 .within) in search needs
 
 add-two-at-7 : tie.Need-add-two-at-7
 add-two-at-7 c = search needs
@@ -76,14 +76,23 @@ two-at-requires-8 c κs = search needs
 
 burned-requires-2 : tie.Need-burned-requires-2
 unfolding rowFrom
-burned-requires-2 c κs = let w = offsites _ (c .before .before .before .before .before .before .before .before .before .before .before .before .pre .1 .within) in search needs
+burned-requires-2 c κs = let w = offsites _ (c .before .before .before .before .before .before .before .before .before .before .before .before .before .pre .1 .within) in search needs
 
 decay-at-requires : tie.Need-decay-at-requires
 decay-at-requires c κs = search needs
 
 returns : tie.Need-returns
 unfolding clearedPart onsitePart offsitePart rowFrom
-returns c = cc
+returns c =
+    let f = c .before .before .before .before .before .before .before .before .before in
+    let l = f .before in
+    let w = l .lost .ensures .0 ∙ (λ i. l .before .before .before .four-at .ensures i * (l .before .before .two-at .ensures .0 i - l .before .two-at2 .ensures .0 i)) in
+    let n = c .before .before .before .before in
+    let m = c .before in
+    let cleared = n .before .before .before .before .share-of .ensures ∙ (λ i. w i * f .two-at3 .ensures .0 i) in
+    let onsite = n .burned .ensures ∙ (λ i. w i * n .before .before .before .two-at4 .ensures .0 i * n .before .before .two-at5 .ensures .0 i * n .before .two-at6 .ensures .0 i) in
+    let offsite = m .burned2 .ensures ∙ (λ i. w i * f .two-at3 .ensures .0 i * m .before .before .two-at7 .ensures .0 i * m .before .two-at8 .ensures .0 i) in
+    λ i. record { cleared = record { 0 = cleared i }; onsite = record { 0 = onsite i }; offsite = record { 0 = offsite i }; decay = record { 0 = c .decay-at .ensures i } }
 
 pub parts-at-spec : {M : Type 1} → statement M
 parts-at-spec =
@@ -98,8 +107,7 @@ parts-at-spec =
     lost-requires
     add-two-at-3
     two-at-requires-3
-    cast-t11
-    mul-t12
+    share-of-requires
     add-two-at-4
     two-at-requires-4
     add-two-at-5

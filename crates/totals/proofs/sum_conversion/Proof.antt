@@ -1,11 +1,12 @@
 -- `totals::sum_conversion` meets its contract. Assumes nothing.
-use Rattle.totals.proofs.Accepted.{Stands, conversion-row, lengths, sound, room, turn}
-use Rattle.totals.proofs.Sums.{sum-all}
+use Rattle.totals.proofs.Accepted.{Stands, conversion-row, sound, room, turn, whole}
+use Rattle.form.proofs.EachKind.{one-kind}
 use Rattle.totals.specs.Columns.{sumOf, clearedPart, onsitePart, offsitePart, decayPart}
 use Prim.Native.Nat.{ℕ, _-_, _≤_}
-use mathlib.Core.Path.{_≡_, subst, _∙_}
+use mathlib.Core.Path.{_≡_, subst}
 use mathlib.Core.List.{List}
 use denote.Ref.{now}
+use Rattle.wide.proofs.Laws.{is-as}
 use lib.ListN.{take}
 use Rattle.form.specs.Verdict.{rows}
 use Rattle.totals.specs.Sums.{Sound, Summed}
@@ -46,8 +47,7 @@ parts-at-requires c κs =
 add-row-requires : tie.Need-add-row-requires Inv-loop μ-loop
 add-row-requires c κs =
     let s = c .before .before .before .before .before .before .before in
-    let w = row (c .before) in
-    room (now (s .args .bytes)) (s .args .c) (s .pre) (c .before .before .before .loop .t) (c .before .before .before .loop .i) (omega arith) (c .before .before .before .loop .inv .1)
+    room (now (s .args .bytes)) (s .args .c) (s .pre) (c .before .before .before .loop .t) (c .before .before .before .loop .i) (c .before .before .before .loop .inv .1)
 
 add-i : tie.Need-add-i Inv-loop μ-loop
 add-i c = search needs
@@ -59,16 +59,16 @@ loop-again : tie.Need-loop-again Inv-loop μ-loop
 loop-again c = (search needs, turn (row (c .before .before)) (c .before .parts-at .ensures) (c .before .before .before .before .loop .inv .1) (c .add-row .ensures))
 
 all : (c : tie.After-loop Inv-loop μ-loop) (f : List ℕ → ℕ) → sumOf f (take (c .before .loop .i) (rows 1 (now (c .before .before .before .before .before .args .bytes)))) ≡ sumOf f (rows 1 (now (c .before .before .before .before .before .args .bytes)))
-all c f = let s = c .before .before .before .before .before in let l = lengths (now (s .args .bytes)) (s .args .c) (s .pre) in sum-all f (rows 1 (now (s .args .bytes))) (c .before .loop .i) (omega arith)
+all c f = let s = c .before .before .before .before .before in whole (now (s .args .bytes)) (s .args .c) (s .pre) f 0 (c .before .loop .i) one-kind (search needs)
 
 returns : tie.Need-returns Inv-loop μ-loop
 returns c =
     let e = c .before .loop .inv .1 in
     record {
-      cleared = e .cleared ∙ all c clearedPart;
-      onsite = e .onsite ∙ all c onsitePart;
-      offsite = e .offsite ∙ all c offsitePart;
-      decay = e .decay ∙ all c decayPart;
+      cleared = is-as (e .cleared) (all c clearedPart);
+      onsite = is-as (e .onsite) (all c onsitePart);
+      offsite = is-as (e .offsite) (all c offsitePart);
+      decay = is-as (e .decay) (all c decayPart);
     }
 
 pub sum-conversion-spec : {M : Type 1} → statement M

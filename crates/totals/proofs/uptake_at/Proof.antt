@@ -1,7 +1,10 @@
 -- `totals::uptake_at` meets its contract. Assumes nothing.
+use Prim.Native.Nat.{_*_}
+use mathlib.Core.Path.{_∙_}
 use Rattle.form.specs.Layout.{rowFrom}
 use Rattle.totals.specs.Columns.{uptakePart}
 use Rattle.totals.proofs.Limits.{four-two, four-two-two}
+use native.Mathlib.Omega.{arith}
 use borrow.Author.Needs.{needs}
 use Rattle.totals.proofs.uptake_at.Statement.{statement}
 use Rattle.totals.proofs.uptake_at.Tie as tie
@@ -12,8 +15,8 @@ add-four-at c = search needs
 four-at-requires : tie.Need-four-at-requires
 four-at-requires c κs = search needs
 
-cast-result : tie.Need-cast-result
-cast-result c = search needs
+cast-t6 : tie.Need-cast-t6
+cast-t6 c = search needs
 
 add-two-at : tie.Need-add-two-at
 add-two-at c = search needs
@@ -21,11 +24,11 @@ add-two-at c = search needs
 two-at-requires : tie.Need-two-at-requires
 two-at-requires c κs = search needs
 
-cast-result-2 : tie.Need-cast-result-2
-cast-result-2 c = search needs
+cast-t9 : tie.Need-cast-t9
+cast-t9 c = search needs
 
-mul-result : tie.Need-mul-result
-mul-result c = let h = four-two (c .before .four-at .result) (c .two-at .result) (search needs) (search needs) in search needs
+mul-t10 : tie.Need-mul-t10
+mul-t10 c = let h = four-two (c .before .four-at .result) (c .two-at .result) (search needs) (search needs) in search needs
 
 add-two-at-2 : tie.Need-add-two-at-2
 add-two-at-2 c = search needs
@@ -33,15 +36,12 @@ add-two-at-2 c = search needs
 two-at-requires-2 : tie.Need-two-at-requires-2
 two-at-requires-2 c κs = search needs
 
-cast-result-3 : tie.Need-cast-result-3
-cast-result-3 c = search needs
-
-mul-result-2 : tie.Need-mul-result-2
-mul-result-2 c = let h = four-two-two (c .before .before .four-at .result) (c .before .two-at .result) (c .two-at2 .result) (search needs) (search needs) (search needs) in search needs
+carbon-of-requires : tie.Need-carbon-of-requires
+carbon-of-requires c κs = four-two-two _ _ _ (search needs) (search needs) (search needs)
 
 returns : tie.Need-returns
 unfolding uptakePart rowFrom
-returns c = cc
+returns c = c .carbon-of .ensures ∙ (λ i. c .before .before .before .four-at .ensures i * c .before .before .two-at .ensures .0 i * c .before .two-at2 .ensures .0 i)
 
 pub uptake-at-spec : {M : Type 1} → statement M
 uptake-at-spec =
@@ -49,13 +49,12 @@ uptake-at-spec =
     (tie.spec
     add-four-at
     four-at-requires
-    cast-result
+    cast-t6
     add-two-at
     two-at-requires
-    cast-result-2
-    mul-result
+    cast-t9
+    mul-t10
     add-two-at-2
     two-at-requires-2
-    cast-result-3
-    mul-result-2
+    carbon-of-requires
     returns)

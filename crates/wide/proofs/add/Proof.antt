@@ -20,11 +20,11 @@ add-t8 c = omega (arith, high-sum _ _ (c .before .before .before .before .before
 
 returns : tie.Need-returns
 unfolding value
-returns c = search needs
+returns c = record { number = search needs; word = search needs }
 
 returns-2 : tie.Need-returns-2
 unfolding value
-returns-2 c = search needs
+returns-2 c = record { number = search needs; word = search needs }
 
 pub add-spec : {M : Type 1} → statement M
 add-spec = tie.close (tie.spec wrapping-add-u64-requires add-t6 add-t7 add-t8 returns returns-2)

@@ -50,7 +50,7 @@ rem-t7 : tie.Need-rem-t7
 rem-t7 c = search needs
 
 returns : tie.Need-returns
-returns c = let s = c .before .before .before .before in divide-value (s .args .x) (s .args .d) _ _ (s .pre) refl refl
+returns c = let s = c .before .before .before .before in divide-value (s .args .x) (s .args .d) _ _ (s .pre) refl refl (omega (arith, one s, two s))
 
 pub divide-spec : {M : Type 1} → statement M
 divide-spec =

@@ -6,7 +6,7 @@ use Rattle.wide.proofs.of.Tie as tie
 
 returns : tie.Need-returns
 unfolding value
-returns c = search needs
+returns c = record { number = search needs; word = search needs }
 
 pub of-spec : {M : Type 1} → statement M
 of-spec = tie.close (tie.spec returns)

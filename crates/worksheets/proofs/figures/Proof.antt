@@ -1,7 +1,9 @@
 -- `worksheets::figures` meets its contract. Assumes nothing.
 use mathlib.Core.Path.{sym, ap, _∙_}
 use denote.Ref.{now}
-use Rattle.worksheets.specs.Answers.{worked, outcomeBy}
+use Rattle.form.specs.declared.Verdict.{Verdict}
+use Rattle.worksheets.specs.Answers.{outcomeBy, answered}
+use Rattle.worksheets.specs.declared.sheets.Answer.the-variants.{Figures}
 use borrow.Author.Needs.{needs}
 use Rattle.worksheets.proofs.figures.Statement.{statement}
 use Rattle.worksheets.proofs.figures.Tie as tie
@@ -22,12 +24,12 @@ returns : tie.Need-returns
 returns c =
     let e = c .before .before .before .before in
     let s = now (e .before .before .args .bytes) in
-    (ap worked (c .figures-judged .ensures .values) ∙ sym (ap (outcomeBy s) (sym (e .judge .ensures) ∙ c .before .before .counts .given .1)), c .figures-judged .ensures .plain)
+    ap Figures (c .figures-judged .ensures) ∙ sym (ap (λ (v : Verdict). answered (outcomeBy s v)) (sym (e .judge .ensures) ∙ c .before .before .counts .given .1))
 
 returns-2 : tie.Need-returns-2
 returns-2 c =
     let e = c .before .before .before in
-    (sym (ap (outcomeBy (now (e .before .before .args .bytes))) (sym (e .judge .ensures) ∙ c .before .number .given .1)), tt)
+    sym (ap (λ (v : Verdict). answered (outcomeBy (now (e .before .before .args .bytes)) v)) (sym (e .judge .ensures) ∙ c .before .number .given .1))
 
 pub figures-spec : {M : Type 1} → statement M
 figures-spec =

@@ -4,6 +4,7 @@ use denote.Ref.{now}
 use Rattle.totals.proofs.Accepted.{columns-small}
 use Rattle.worksheets.specs.Sheets.{Ratios}
 use Rattle.worksheets.proofs.Accepted.{ratios, figures-are}
+use native.Mathlib.Omega.{arith}
 use borrow.Author.Needs.{needs}
 use Rattle.worksheets.proofs.work_out.Statement.{statement}
 use Rattle.worksheets.proofs.work_out.Tie as tie
@@ -40,12 +41,12 @@ work-gases-requires : tie.Need-work-gases-requires
 work-gases-requires c κs =
     let s = c .before .before .before .before .before .before .before in
     let w = columns-small (now (s .args .bytes)) (s .args .c) (s .pre) in
-    (search needs, within-limits (c .before .before .before .before .before))
+    (omega (arith, w .3, c .before .before .before .before .sum-conversion .ensures .onsite .number), within-limits (c .before .before .before .before .before))
 
 returns : tie.Need-returns
 returns c =
     figures-are (now (c .before .before .before .before .before .before .before .before .args .bytes)) _ (c .before .before .before .before .before .sum-conversion .ensures) (c .before .before .before .before .before .before .read-parameters .ensures)
-    (c .before .before .before .before .sum-uptake .ensures) (c .before .before .before .sum-harvest .ensures)
+    (c .before .before .before .before .sum-uptake .ensures .number) (c .before .before .before .sum-harvest .ensures .number)
     (c .before .before .work-stocks .ensures) (c .before .work-conversion .ensures) (c .work-gases .ensures)
 
 pub work-out-spec : {M : Type 1} → statement M

@@ -4,7 +4,7 @@ use denote.Ref.{now}
 use native.Mathlib.Omega.{arith}
 use borrow.Author.Needs.{needs}
 use Rattle.tabled.specs.Figures.{figuresAfter}
-use Rattle.tabled.proofs.Numbers.{place-small}
+use Rattle.door.proofs.Codes.{figures-small}
 use Rattle.door.specs.Door.{codeOf}
 use Rattle.door.proofs.figures.niloferq_figures.Statement.{statement}
 use Rattle.door.proofs.figures.niloferq_figures.Tie as tie
@@ -22,7 +22,7 @@ refusal-requires : tie.Need-refusal-requires
 refusal-requires c κs =
     let t = c .before .before .before .before .before in
     let a = t .before .before .before .before .args in
-    place-small (now (a .bytes)) (now (a .room)) _ _ (sym (t .tabulate .ensures .0) ∙ c .before .number .given .1)
+    figures-small (now (a .bytes)) (now (a .room)) (sym (t .tabulate .ensures .0) ∙ c .before .number .given .1)
 
 same-length : tie.Need-same-length
 same-length c = search needs

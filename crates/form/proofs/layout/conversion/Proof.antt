@@ -9,8 +9,6 @@ use Rattle.form.specs.First.{any}
 use Rattle.form.specs.Layout.{Field, id, area, density, fraction, conversion, fieldAt}
 use Rattle.form.proofs.Tests.{taken, left}
 use Rattle.form.proofs.Fields.{same, mistold, told}
-use borrow.Author.Needs.{needs}
-use native.Mathlib.Omega.{arith}
 use Rattle.form.proofs.layout.conversion.Statement.{statement}
 use Rattle.form.proofs.layout.conversion.Tie as tie
 

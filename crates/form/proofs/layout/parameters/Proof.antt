@@ -9,8 +9,6 @@ use Rattle.form.specs.First.{any}
 use Rattle.form.specs.Layout.{Field, field, fraction, parameters, fieldAt}
 use Rattle.form.proofs.Tests.{taken, left}
 use Rattle.form.proofs.Fields.{same, mistold, told}
-use borrow.Author.Needs.{needs}
-use native.Mathlib.Omega.{arith}
 use Rattle.form.proofs.layout.parameters.Statement.{statement}
 use Rattle.form.proofs.layout.parameters.Tie as tie
 

@@ -1,6 +1,5 @@
 -- `form::layout::stock` meets its contract. Assumes nothing.
 use mathlib.Core.Path.{_≡_}
-use borrow.Author.Needs.{needs}
 use native.Mathlib.Omega.{arith}
 use Rattle.form.proofs.layout.stock.Statement.{statement}
 use Rattle.form.proofs.layout.stock.Tie as tie

@@ -9,7 +9,7 @@ use denote.Ref.{now}
 use borrow.Author.Needs.{needs}
 use Rattle.worksheets.specs.Sheets.{Sheets}
 use Rattle.worksheets.specs.Answers.{figuresSaid}
-use Rattle.listed.specs.Listed.{listed, Lists, figureCount}
+use Rattle.listed.specs.Listed.{listed, valuesOf, figureCount}
 use Rattle.listed.proofs.Laws.{lists-at, counted}
 use Rattle.report.specs.Lines.{namesOf, ended}
 use Rattle.report.proofs.Filled.{Left, none-written, all-written, letter-written, value-written, value-there, letter-fits, value-fits, as-left}
@@ -20,7 +20,7 @@ use Rattle.report.proofs.text.put_lines.Lts as lts
 
 abbrev Inv-loop : tie.InvT-loop
 Inv-loop names out₀ values k₀ i₀ at₀ out k i at =
-    (k ≤ length names) × (length out ≡ length out₀) × ((v : Sheets) → names ≡ namesOf v → Lists values (listed v) → Left (listed v) names out₀ k i at out)
+    (k ≤ length names) × (length out ≡ length out₀) × ((v : Sheets) → names ≡ namesOf v → values ≡ valuesOf (listed v) → Left (listed v) names out₀ k i at out)
 
 abbrev μ-loop : tie.MeasureT-loop
 μ-loop names out₀ values k₀ i₀ at₀ out k i at = length names - k
@@ -81,7 +81,7 @@ loop-again c =
     let l = p .before .before .before .before in
     let kept = p .put-byte .kept .1 .0 in (
       search needs,
-      ⊎-elim (λ w. omega (arith, ap length (w .6), w .3 .kept .1 .0, kept)) (λ w. omega (arith, ap length (w .1), kept)) (c .if1 .came),
+      ⊎-elim (λ w. omega (arith, ap length (w .6), w .3 .kept .1 .1 .0, kept)) (λ w. omega (arith, ap length (w .1), kept)) (c .if1 .came),
       λ v e h. (
           let x = l .loop .inv .2 v e h in
           ⊎-elim

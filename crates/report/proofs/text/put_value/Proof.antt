@@ -12,13 +12,13 @@ use Rattle.report.proofs.text.put_value.Tie as tie
 write-signed-requires : tie.Need-write-signed-requires
 write-signed-requires c κs =
     let s = c .before .before in
-    (s .pre .0, omega (arith, s .pre .1, length-append (marked (amount (s .args .z))) (10 ∷ [])))
+    (s .pre .0, omega (arith, s .pre .1, length-append (marked (amount (s .args .z))) (s .args .end ∷ [])))
 
 put-byte-requires : tie.Need-put-byte-requires
 put-byte-requires c κs =
     let w = c .before .before .before in
     let s = w .before .before .before in
-    omega (arith, s .pre .1, length-append (marked (amount (s .args .z))) (10 ∷ []), w .write-signed .ensures .place, w .write-signed .kept .1 .0)
+    omega (arith, s .pre .1, length-append (marked (amount (s .args .z))) (s .args .end ∷ []), w .write-signed .ensures .place, w .write-signed .kept .1 .0)
 
 same-length : tie.Need-same-length
 same-length c = search needs

@@ -1,8 +1,9 @@
 -- The text of what the sheets answer. Assumes nothing.
 use native.Mathlib.Omega.{arith}
-use mathlib.Core.Path.{sym, ap, subst, _∙_}
+use mathlib.Core.Path.{ap}
 use lib.ListN.{length}
-use Rattle.worksheets.specs.Answers.{InForm, said}
+use denote.Ref.{now}
+use Rattle.worksheets.proofs.One.{told, in-form}
 use Rattle.report.specs.Lines.{textOf}
 use Rattle.report.proofs.Room.{as-text}
 use borrow.Author.Needs.{needs}
@@ -19,8 +20,8 @@ put-figures-requires : tie.Need-put-figures-requires
 put-figures-requires c κs =
     let y = c .before in
     let e = y .before .before .before in
-    let t = ap textOf (ap said (sym (y .before .f .given .1)) ∙ e .figures .ensures .0) in
-    (subst InForm (y .before .f .given .1) (e .figures .ensures .1), omega (arith, ap length t))
+    let s = now (e .before .before .before .args .bytes) in
+    (in-form s (e .figures .ensures) (y .before .f .given .1), omega (arith, ap length (ap textOf (told s (e .figures .ensures) (y .before .f .given .1)))))
 
 enum-known-number : tie.Need-enum-known-number
 enum-known-number c = search needs
@@ -28,8 +29,8 @@ enum-known-number c = search needs
 put-refused-requires : tie.Need-put-refused-requires
 put-refused-requires c κs =
     let y = c .before in
-    let t = ap textOf (ap said (sym (y .before .number .given .1)) ∙ y .before .before .before .figures .ensures .0) in
-    omega (arith, ap length t)
+    let e = y .before .before .before in
+    omega (arith, ap length (ap textOf (told (now (e .before .before .before .args .bytes)) (e .figures .ensures) (y .before .number .given .1))))
 
 same-length : tie.Need-same-length
 same-length c = search needs
@@ -39,7 +40,7 @@ returns c =
     let d = c .before .before in
     let y = d .before .before in
     let e = y .before .before .before in
-    as-text (ap said (sym (y .before .f .given .1)) ∙ e .figures .ensures .0) (d .put-figures .ensures)
+    as-text (told (now (e .before .before .before .args .bytes)) (e .figures .ensures) (y .before .f .given .1)) (d .put-figures .ensures)
 
 same-length-2 : tie.Need-same-length-2
 same-length-2 c = search needs
@@ -49,7 +50,7 @@ returns-2 c =
     let d = c .before .before in
     let y = d .before .before in
     let e = y .before .before .before in
-    as-text (ap said (sym (y .before .number .given .1)) ∙ e .figures .ensures .0) (d .put-refused .ensures)
+    as-text (told (now (e .before .before .before .args .bytes)) (e .figures .ensures) (y .before .number .given .1)) (d .put-refused .ensures)
 
 pub write-lines-spec : {M : Type 1} → statement M
 write-lines-spec =

@@ -4,8 +4,9 @@ use Prim.Native.Nat.{ℕ, _+_, _*_, _/_, _%_, _^_, _<_}
 use native.Mathlib.Omega.{arith}
 use native.Mathlib.Nat.{mod-lt}
 use borrow.Author.Needs.{needs}
-use Rattle.wide.specs.Numbers.{value}
-use Rattle.wide.proofs.Laws.{factors, product-small, digits-product, quotient-thrice, rest-thrice}
+use Rattle.wide.specs.Numbers.{value, Is}
+use Rattle.wide.specs.declared.Wide.{Wide}
+use Rattle.wide.proofs.Laws.{is-as, factors, product-small, digits-product, quotient-thrice, rest-thrice}
 use Rattle.wide.proofs.rounding.divide_by.Statement.{statement}
 use Rattle.wide.proofs.rounding.divide_by.Tie as tie
 
@@ -27,14 +28,17 @@ together x a b c q₁ r₁ q₂ r₂ q₃ r₃ h ha hb hc e f g =
       whole = omega (arith, mod-lt x h, product-small a b c ha hb hc);
     }
 
+numbers : {w : Wide} {m n r : ℕ} → Is w m × (r ≡ n) → (value w ≡ m) × (r ≡ n)
+numbers h = (h .0 .number, h .1)
+
 all : (c : tie.After-divide3) → let s = c .before .before .before .args in
     Together (value (s .x)) (s .a) (s .b) (s .c) (value (c .divide3 .result .quotient)) (c .before .before .divide .result .rest) (c .before .divide2 .result .rest) (c .divide3 .result .rest)
 all c =
     let s = c .before .before .before in
     together (value (s .args .x)) (s .args .a) (s .args .b) (s .args .c) _ _ _ _ _ _ (s .pre) (omega arith) (omega arith) (omega arith)
-    (c .before .before .divide .ensures)
-    (c .before .divide2 .ensures)
-    (c .divide3 .ensures)
+    (numbers (c .before .before .divide .ensures))
+    (numbers (c .before .divide2 .ensures))
+    (numbers (c .divide3 .ensures))
 
 divide-requires : tie.Need-divide-requires
 divide-requires c κs = factors (c .args .a) (c .args .b) (c .args .c) (c .pre) .0
@@ -57,17 +61,17 @@ of-requires c κs = search needs
 times-requires : tie.Need-times-requires
 times-requires c κs =
     let a = c .before .before .before .before .before .before .before .args .a in
-    omega (arith, all (c .before .before .before .before), ap (λ (n : ℕ). n * a) (c .before .of .ensures))
+    omega (arith, all (c .before .before .before .before), ap (λ (n : ℕ). n * a) (c .before .of .ensures .number))
 
 add-word-requires : tie.Need-add-word-requires
 add-word-requires c κs =
     let a = c .before .before .before .before .before .before .before .before .args .a in
-    omega (arith, all (c .before .before .before .before .before), ap (λ (n : ℕ). n * a) (c .before .before .of .ensures))
+    omega (arith, all (c .before .before .before .before .before), ap (λ (n : ℕ). n * a) (c .before .before .of .ensures .number))
 
 returns : tie.Need-returns
 returns c =
     let t = all (c .before .before .before .before .before .before) in
-    (t .quotient, cc (t .rest))
+    (record { number = t .quotient; word = c .before .before .before .before .before .before .divide3 .ensures .0 .word }, is-as (c .add-word .ensures) (cc (t .rest)))
 
 pub divide-by-spec : {M : Type 1} → statement M
 divide-by-spec =

@@ -1,7 +1,7 @@
 -- One division, or none where the divisor is the larger. Assumes nothing.
 use mathlib.Core.Path.{_∙_}
 use Rattle.wide.specs.Numbers.{value}
-use Rattle.wide.proofs.Laws.{value-low, value-high, divided}
+use Rattle.wide.proofs.Laws.{is-as, value-low, value-high, divided}
 use native.Mathlib.Omega.{arith}
 use borrow.Author.Needs.{needs}
 use Rattle.wide.proofs.rounding.divide_word.Statement.{statement}
@@ -32,7 +32,7 @@ returns-2 : tie.Need-returns-2
 returns-2 c =
     let a = c .before .before .before .before .args in
     let e = divided (a .x) (value (a .d)) 0 (a .x) (omega (arith, value-high (a .d) (c .before .before .if1 .left))) (omega arith) in
-    (c .before .of3 .ensures ∙ e .0, c .of4 .ensures ∙ e .1)
+    (is-as (c .before .of3 .ensures) (e .0), is-as (c .of4 .ensures) (e .1))
 
 pub divide-word-spec : {M : Type 1} → statement M
 divide-word-spec =

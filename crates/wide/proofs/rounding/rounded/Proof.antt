@@ -6,7 +6,7 @@ use native.Mathlib.Nat.{mod-lt, div-le-self}
 use borrow.Author.Needs.{needs}
 use Rattle.wide.specs.Numbers.{value}
 use Rattle.wide.specs.Rounding.{settled}
-use Rattle.wide.proofs.Laws.{value-low, digits-product, product-small}
+use Rattle.wide.proofs.Laws.{is-as, value-low, digits-product, product-small}
 use Rattle.wide.proofs.rounding.rounded.Statement.{statement}
 use Rattle.wide.proofs.rounding.rounded.Tie as tie
 
@@ -14,7 +14,7 @@ settled-same : {q q′ r r′ d d′ : ℕ} → q ≡ q′ → r ≡ r′ → d 
 settled-same e f g = cc
 
 divisor : (c : tie.After-times) → let a = c .before .before .args in value (c .times .result) ≡ a .a * a .b * a .c
-divisor c = c .times .ensures ∙ ap (λ (n : ℕ). n * c .before .before .args .c) (c .before .of .ensures)
+divisor c = c .times .ensures .number ∙ ap (λ (n : ℕ). n * c .before .before .args .c) (c .before .of .ensures .number)
 
 small : (s : tie.Start) → let a = s .args in a .a * a .b * a .c < 2 ^ 96
 small s = product-small (s .args .a) (s .args .b) (s .args .c) (omega arith) (omega arith) (omega arith)
@@ -30,7 +30,7 @@ of-requires : tie.Need-of-requires
 of-requires c κs = search needs
 
 times-requires : tie.Need-times-requires
-times-requires c κs = rw (c .of .ensures) (omega (arith, small (c .before)))
+times-requires c κs = rw (c .of .ensures .number) (omega (arith, small (c .before)))
 
 divide-word-requires : tie.Need-divide-word-requires
 divide-word-requires c κs = let s = c .before .before .before .before in omega (arith, s .pre, divisor (c .before .before))
@@ -40,7 +40,7 @@ settle-requires c κs =
     let t = c .before .before .before in
     let s = t .before .before in
     let w = c .divide-word .ensures in
-    room (s .args .x .lo) (value (t .times .result)) (omega (arith, s .pre, divisor t)) (omega (arith, small s, divisor t)) (omega arith) _ _ (w .0) (w .1)
+    room (s .args .x .lo) (value (t .times .result)) (omega (arith, s .pre, divisor t)) (omega (arith, small s, divisor t)) (omega arith) _ _ (w .0 .number) (w .1 .number)
 
 returns : tie.Need-returns
 returns c =
@@ -48,7 +48,7 @@ returns c =
     let w = c .before .divide-word .ensures in
     let x = t .before .before .args .x in
     let l = value-low x (c .before .before .if1 .taken) in
-    c .settle .ensures ∙ settled-same (cc (w .0, l, divisor t)) (cc (w .1, l, divisor t)) (divisor t)
+    is-as (c .settle .ensures) (settled-same (cc (w .0 .number, l, divisor t)) (cc (w .1 .number, l, divisor t)) (divisor t))
 
 divide-by-requires : tie.Need-divide-by-requires
 divide-by-requires c κs = search needs
@@ -57,12 +57,12 @@ settle-requires-2 : tie.Need-settle-requires-2
 settle-requires-2 c κs =
     let s = c .before .before .before .before .before in
     let by = c .divide-by .ensures in
-    room (value (s .args .x)) _ (s .pre .0) (small s) (s .pre .1) _ _ (by .0) (by .1)
+    room (value (s .args .x)) _ (s .pre .0) (small s) (s .pre .1) _ _ (by .0 .number) (by .1 .number)
 
 returns-2 : tie.Need-returns-2
 returns-2 c =
     let by = c .before .divide-by .ensures in
-    c .settle2 .ensures ∙ settled-same (by .0) (by .1) (divisor (c .before .before .before .before))
+    is-as (c .settle2 .ensures) (settled-same (by .0 .number) (by .1 .number) (divisor (c .before .before .before .before)))
 
 pub rounded-spec : {M : Type 1} → statement M
 rounded-spec =

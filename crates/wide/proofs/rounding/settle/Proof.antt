@@ -6,6 +6,7 @@ use borrow.Author.Needs.{needs}
 use lib.Dec.{ltb}
 use Rattle.wide.specs.Numbers.{value}
 use Rattle.wide.specs.Rounding.{settled}
+use Rattle.wide.proofs.Laws.{is-itself}
 use Rattle.wide.proofs.rounding.settle.Statement.{statement}
 use Rattle.wide.proofs.rounding.settle.Tie as tie
 
@@ -26,7 +27,7 @@ add-word-requires c κs = search needs
 
 returns : tie.Need-returns
 unfolding settled
-returns c = rw (← (tested (c .before)), c .if1 .taken)
+returns c = rw (← (tested (c .before)), c .if1 .taken) (is-itself (search needs))
 
 returns-2 : tie.Need-returns-2
 unfolding settled

@@ -33,10 +33,10 @@ with-sign-requires-2 : tie.Need-with-sign-requires-2
 with-sign-requires-2 c κs = search needs
 
 returns : tie.Need-returns
-returns c = holds-as (c .with-sign .ensures) (ap (sized true) (c .before .sub .ensures) ∙ minus-below _ _ (below (c .before .before)))
+returns c = holds-as (c .with-sign .ensures) (ap (sized true) (c .before .sub .ensures .number) ∙ minus-below _ _ (below (c .before .before)))
 
 returns-2 : tie.Need-returns-2
-returns-2 c = holds-as (c .with-sign2 .ensures) (ap (sized false) (c .before .sub2 .ensures) ∙ minus-above _ _ (above (c .before .before)))
+returns-2 c = holds-as (c .with-sign2 .ensures) (ap (sized false) (c .before .sub2 .ensures .number) ∙ minus-above _ _ (above (c .before .before)))
 
 pub difference-spec : {M : Type 1} → statement M
 difference-spec =

@@ -21,7 +21,7 @@ returns : tie.Need-returns
 returns c =
     let s = c .before .before .before .args in
     rw (c .before .before .if1 .taken)
-    (holds-as (c .with-sign .ensures) (ap (sized false) (c .before .add .ensures) ∙ minus-sized (value (s .a)) (value (s .s .size))))
+    (holds-as (c .with-sign .ensures) (ap (sized false) (c .before .add .ensures .number) ∙ minus-sized (value (s .a)) (value (s .s .size))))
 
 returns-2 : tie.Need-returns-2
 returns-2 c = rw (c .before .if1 .left) (c .difference .ensures)

@@ -16,7 +16,7 @@ returns : tie.Need-returns
 returns c =
     let start = c .before .before in
     let s = start .args .s in
-    holds-as (c .with-sign .ensures) (ap (sized (s .below)) (c .before .rounded .ensures) ∙ sized-nearest (s .below) _ _ (start .pre .0))
+    holds-as (c .with-sign .ensures) (ap (sized (s .below)) (c .before .rounded .ensures .number) ∙ sized-nearest (s .below) _ _ (start .pre .0))
 
 pub rounded-signed-spec : {M : Type 1} → statement M
 rounded-signed-spec = tie.close (tie.spec rounded-requires with-sign-requires returns)

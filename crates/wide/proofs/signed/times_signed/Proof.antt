@@ -15,7 +15,7 @@ with-sign-requires c κs = search needs
 returns : tie.Need-returns
 returns c =
     let s = c .before .before .args .s in
-    holds-as (c .with-sign .ensures) (ap (sized (s .below)) (c .before .times .ensures) ∙ sized-times (s .below) _ _)
+    holds-as (c .with-sign .ensures) (ap (sized (s .below)) (c .before .times .ensures .number) ∙ sized-times (s .below) _ _)
 
 pub times-signed-spec : {M : Type 1} → statement M
 times-signed-spec = tie.close (tie.spec times-requires with-sign-requires returns)

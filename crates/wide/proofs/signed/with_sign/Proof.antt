@@ -16,12 +16,14 @@ returns : tie.Need-returns
 returns c = record {
   number = sized-zero (c .before .before .args .below) _ (eqb-true _ _ (sym (c .before .is-zero .ensures) ∙ c .if1 .taken));
   form = λ e. let z : _≡_ {A = ℕ} 0 1 = cc in omega arith;
+  word = search needs;
 }
 
 returns-2 : tie.Need-returns-2
 returns-2 c = record {
   number = refl;
   form = λ e. omega (arith, eqb-false (value (c .before .before .args .size)) 0 (sym (c .before .is-zero .ensures) ∙ c .if1 .left));
+  word = search needs;
 }
 
 pub with-sign-spec : {M : Type 1} → statement M

@@ -22,7 +22,7 @@ gas-of-nitrogen-requires-2 c κs = let s = c .before .before .before .before in 
 
 returns : tie.Need-returns
 returns c =
-    gases-are _ _ _ _ (c .before .before .before .before .nitrogen-in .ensures)
+    gases-are _ _ _ (c .before .before .before .before .nitrogen-in .ensures .number)
     (c .before .before .before .gas-of-carbon .ensures)
     (c .before .before .gas-of-carbon2 .ensures)
     (c .before .gas-of-nitrogen .ensures)

@@ -1,8 +1,10 @@
 -- `worksheets::sheets::work_stocks` meets its contract. Assumes nothing.
 use Prim.Native.Nat.{_^_, _<_}
-use Rattle.wide.specs.Numbers.{value}
+use Rattle.wide.specs.Numbers.{value, Is}
+use Rattle.wide.proofs.Laws.{is-itself}
 use Rattle.worksheets.proofs.Sizes.{thousand, size-M, size-O, size-P}
 use Rattle.worksheets.proofs.Columns.{stocks-are}
+use native.Mathlib.Omega.{arith}
 use borrow.Author.Needs.{needs}
 use Rattle.worksheets.proofs.sheets.work_stocks.Statement.{statement}
 use Rattle.worksheets.proofs.sheets.work_stocks.Tie as tie
@@ -28,8 +30,14 @@ net-co2-requires c κs = let s = c .before .before .before in size-P _ (c .befor
 emission-requires : tie.Need-emission-requires
 emission-requires c κs = search needs
 
+given : (s : tie.Start) → let a = s .args in Is (a .e .0) (value (a .e .0)) × Is (a .k .0) (value (a .k .0)) × Is (a .l .0) (value (a .l .0))
+given s = (is-itself (omega arith), is-itself (omega arith), is-itself (omega arith))
+
 returns : tie.Need-returns
-returns c = stocks-are _ _ (c .before .before .before .before .net-wood .ensures) (c .before .before .before .carbon-in .ensures) (c .before .before .net-carbon .ensures) (c .before .net-co2 .ensures) (c .emission .ensures)
+returns c =
+    let g = given (c .before .before .before .before .before) in
+    stocks-are _ _ (g .0) (g .1) (g .2)
+    (c .before .before .before .before .net-wood .ensures) (c .before .before .before .carbon-in .ensures) (c .before .before .net-carbon .ensures) (c .before .net-co2 .ensures) (c .emission .ensures)
 
 pub work-stocks-spec : {M : Type 1} → statement M
 work-stocks-spec =

@@ -1,6 +1,7 @@
 -- `worksheets::units::gas_of_carbon` meets its contract. Assumes nothing.
 use Prim.Native.Nat.{ℕ}
-use mathlib.Core.Path.{ap, _∙_}
+use mathlib.Core.Path.{ap}
+use Rattle.wide.proofs.Laws.{is-as}
 use Rattle.wide.specs.Rounding.{nearest}
 use borrow.Author.Needs.{needs}
 use Rattle.worksheets.proofs.units.gas_of_carbon.Statement.{statement}
@@ -13,7 +14,7 @@ rounded-requires : tie.Need-rounded-requires
 rounded-requires c κs = search needs
 
 returns : tie.Need-returns
-returns c = c .rounded .ensures ∙ ap (λ (n : ℕ). nearest n 3000000000000) (c .before .share .ensures .0)
+returns c = is-as (c .rounded .ensures) (ap (λ (n : ℕ). nearest n 3000000000000) (c .before .share .ensures .0 .number))
 
 pub gas-of-carbon-spec : {M : Type 1} → statement M
 gas-of-carbon-spec = tie.close (tie.spec share-requires rounded-requires returns)

@@ -3,6 +3,7 @@ use Prim.Native.Nat.{ℕ, _*_, _^_, _<_}
 use mathlib.Core.Path.{ap, _∙_}
 use native.Mathlib.Nat.{mul-comm}
 use Rattle.wide.specs.Numbers.{value}
+use Rattle.wide.proofs.Laws.{is-as}
 use Rattle.worksheets.proofs.Sizes.{thousand}
 use borrow.Author.Needs.{needs}
 use native.Mathlib.Omega.{arith}
@@ -23,7 +24,7 @@ returns c =
     let s = c .before .before in
     let x : value (c .before .times .result) < 2 ^ 100 = omega (arith, thousand 90 _ _ (s .pre .0) (s .pre .1)) in
     let h = thousand 100 _ _ x (s .pre .2) in
-    (c .times2 .ensures ∙ ap (λ (n : ℕ). n * s .args .ratio) (c .before .times .ensures ∙ mul-comm (value (s .args .mass)) (s .args .parts)), omega arith)
+    (is-as (c .times2 .ensures) (ap (λ (n : ℕ). n * s .args .ratio) (c .before .times .ensures .number ∙ mul-comm (value (s .args .mass)) (s .args .parts))), omega arith)
 
 pub share-spec : {M : Type 1} → statement M
 share-spec = tie.close (tie.spec times-requires times-requires-2 returns)

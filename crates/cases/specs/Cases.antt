@@ -17,7 +17,7 @@ use Rattle.lists.specs.Examples.{dayLengths, dayArea}
 use Rattle.rows.specs.Writing.{written}
 use Rattle.wide.specs.Rounding.{settled}
 use Rattle.totals.specs.Columns.{sumOf, uptakePart, harvestPart, clearedPart, onsitePart, offsitePart, decayPart}
-use Rattle.worksheets.specs.Sheets.{Sheet51, Sheet52, Sheet53, stocksOf, conversionOf, gasesOf}
+use Rattle.worksheets.specs.Sheets.{standard, parameterNumbers, Sheet51, Sheet52, Sheet53, stocksOf, conversionOf, gasesOf}
 use Rattle.worksheets.specs.Answers.{Outcome, worked, refusal, outcomeOf}
 use Rattle.doubles.specs.Subtotals.{onsiteDouble, offsiteDouble, decayDouble, addRows, answerOf}
 use Rattle.doubles.specs.declared.Answer.{Answer}
@@ -74,9 +74,9 @@ zeros = 0 ∷ 0 ∷ 0 ∷ []
 abbrev lone : ℕ → List ℕ
 lone check = 4 ∷ 1 ∷ 0 ∷ 0 ∷ 1 ∷ 0 ∷ 1 ∷ 0 ∷ replicate 500 0 ++ (check ∷ 0 ∷ 0 ∷ 0 ∷ [])
 
--- "N 500, CH4 12, CO 60, N/C 10, N2O 7, NOx 121"
+-- "Parameters: the defaults."
 abbrev defaults : List ℕ
-defaults = 500 ∷ 12 ∷ 60 ∷ 10 ∷ 7 ∷ 121 ∷ []
+defaults = parameterNumbers standard
 
 -- a conversion row with nothing decayed: id, area, densities, then on-site and off-site fractions with what is oxidised and carbon
 abbrev row : ℕ → ℕ → ℕ → ℕ → ℕ → List ℕ

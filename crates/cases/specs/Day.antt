@@ -14,15 +14,20 @@ use Rattle.form.specs.declared.Verdict.the-variants.{Accepted, Refused}
 use Rattle.filing.specs.Lists.{cut, total, filedList, behind, filedFrom}
 use Rattle.filing.specs.Written.{recordFrom, inTurn, headOf, sealed, recordOn, usedFrom, bodyOf, blockOf, bytesOf}
 use Rattle.lists.specs.Rules.{badList, badLengths, listRules}
-use Rattle.lists.specs.Examples.{dayLengths, dayArea}
+use Rattle.lists.specs.Examples.{parametersDay, dayLengths, dayArea}
 use Rattle.rows.specs.Reading.{readAnswer, roomAfter}
 use Rattle.rows.specs.Writing.{writeAnswer, bytesAfter}
+use Rattle.worksheets.specs.Sheets.{standard, parameterNumbers}
 use Rattle.rows.specs.declared.Written.{Written}
 use Rattle.rows.specs.declared.Written.the-variants as write
 
 -- its bytes, as examples/day.return has them
 abbrev pub day : List ℕ
 day = (1 ∷ 1 ∷ 0 ∷ 0 ∷ 4 ∷ 0 ∷ 1 ∷ 0 ∷ 7 ∷ 0 ∷ 0 ∷ 0 ∷ 200 ∷ 0 ∷ 0 ∷ 0 ∷ 232 ∷ 3 ∷ 100 ∷ 0 ∷ 144 ∷ 1 ∷ 132 ∷ 3 ∷ 244 ∷ 1 ∷ 200 ∷ 0 ∷ 132 ∷ 3 ∷ 244 ∷ 1 ∷ 44 ∷ 1 ∷ 0 ∷ 0 ∷ 232 ∷ 3 ∷ 100 ∷ 0 ∷ 44 ∷ 1 ∷ 244 ∷ 1 ∷ []) ++ (replicate 464 0 ++ ((251 ∷ 250 ∷ 0 ∷ 0 ∷ 2 ∷ 1 ∷ 1 ∷ 0 ∷ 4 ∷ 0 ∷ 1 ∷ 0 ∷ 1 ∷ 0 ∷ 0 ∷ 0 ∷ 0 ∷ 0 ∷ 168 ∷ 2 ∷ 232 ∷ 3 ∷ 0 ∷ 0 ∷ 244 ∷ 1 ∷ []) ++ (replicate 486 0 ++ ((219 ∷ 45 ∷ 0 ∷ 0 ∷ 3 ∷ 1 ∷ 2 ∷ 0 ∷ 4 ∷ 0 ∷ 1 ∷ 0 ∷ 1 ∷ 0 ∷ 0 ∷ 0 ∷ 244 ∷ 1 ∷ 0 ∷ 0 ∷ 182 ∷ 3 ∷ 0 ∷ 0 ∷ 44 ∷ 1 ∷ []) ++ (replicate 486 0 ++ ((159 ∷ 28 ∷ 0 ∷ 0 ∷ 4 ∷ 1 ∷ 3 ∷ 0 ∷ 4 ∷ 0 ∷ 1 ∷ 0 ∷ 0 ∷ 0 ∷ 0 ∷ 0 ∷ 244 ∷ 1 ∷ 12 ∷ 0 ∷ 60 ∷ 0 ∷ 10 ∷ 0 ∷ 7 ∷ 0 ∷ 121 ∷ []) ++ (replicate 485 0 ++ ((124 ∷ 29 ∷ 0 ∷ 0 ∷ [])))))))))
+
+-- "Parameters: the defaults."
+pub day-parameters : parametersDay ≡ parameterNumbers standard
+day-parameters = refl
 
 -- the answer of a write, opened for computing
 unfoldable answered : List ℕ → List ℕ → List ℕ → Written

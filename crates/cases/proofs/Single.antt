@@ -1,0 +1,65 @@
+-- Single cases of the table, as the promises take them to shut a wrong answer out. Assumes nothing.
+--     day-answered, lone-answered, many-answered    cases (a), (b) and (f)
+--     each-differs              every figure of (a) is another than that of (b)
+--     first-row, first-block    what the first row and the first block of (f) alone would give
+use Prim.Native.Nat.{ℕ, _*_, _^_, _<_}
+use mathlib.Core.Path.{_≡_, refl, ap}
+use mathlib.Core.Bool.{Bool}
+use mathlib.Core.List.{List, []}
+use borrow.Author.Tests.{eqb-false}
+use lib.Dec.{eqb}
+use lib.IntN.{ℤ, pos, natAbs}
+use lib.ListN.{getD, take}
+use Rattle.form.specs.First.{first}
+use Rattle.form.specs.Bytes.{number, littleEndian}
+use Rattle.form.specs.Layout.{rowFrom}
+use Rattle.form.specs.Block.{weighed}
+use Rattle.form.specs.Records.{rowsBelow}
+use Rattle.form.specs.Verdict.{rows}
+use Rattle.form.specs.declared.Spot.the-variants.{Nowhere}
+use Rattle.form.proofs.Search.{first-none}
+use Rattle.filing.specs.Lists.{filedList, behind, filedFrom}
+use Rattle.filing.specs.Written.{recordFrom, inTurn, headOf, sealed, recordOn, usedFrom, bodyOf, blockOf, bytesOf}
+use Rattle.totals.specs.Columns.{sumOf, onsitePart}
+use Rattle.worksheets.specs.Answers.{Outcome, worked, refusal, outcomeOf}
+use Rattle.listed.specs.Listed.{listed51, listed52, listed53, listed, figureCount}
+use Rattle.listed.proofs.Laws.{figureAt}
+use Rattle.cases.specs.Cases.{Complete, Case, refused, largest, table, all-answered}
+
+-- case number i of the table, and what its sheets are answered
+abbrev pub nth : ℕ → Case
+nth i = getD table i (refused [] 0 0)
+
+abbrev sheetsAt : ℕ → List Complete → Outcome
+sheetsAt i l = getD l i (record { sheets = refusal 0 0; doubles = [] }) .sheets
+
+pub day-answered : outcomeOf (nth 0 .bytes) ≡ nth 0 .answer .sheets
+day-answered = ap (sheetsAt 0) all-answered
+
+pub lone-answered : outcomeOf (nth 1 .bytes) ≡ nth 1 .answer .sheets
+lone-answered = ap (sheetsAt 1) all-answered
+
+pub many-answered : outcomeOf (nth 5 .bytes) ≡ nth 5 .answer .sheets
+many-answered = ap (sheetsAt 5) all-answered
+
+abbrev figureIn : ℕ → Outcome → ℤ
+figureIn i (worked v) = figureAt (listed v) i .value
+figureIn i (refusal n p) = pos 0
+
+abbrev agrees : ℕ → Bool
+agrees i = eqb (natAbs (figureIn i (nth 0 .answer .sheets))) (natAbs (figureIn i (nth 1 .answer .sheets)))
+
+none-agrees : first agrees figureCount ≡ Nowhere
+unfolding first listed51 listed52 listed53 listed
+none-agrees = refl
+
+pub each-differs : (i : ℕ) → i < figureCount → figureIn i (nth 0 .answer .sheets) ≡ figureIn i (nth 1 .answer .sheets) → ⊥
+each-differs i l e = eqb-false _ _ (first-none agrees none-agrees i l) (ap natAbs e)
+
+pub first-row : onsitePart (getD (rows 1 (nth 5 .bytes)) 0 []) ≡ 10 ^ 19
+unfolding largest filedList behind filedFrom littleEndian recordFrom inTurn headOf sealed weighed recordOn usedFrom bodyOf blockOf bytesOf rowsBelow rowFrom number onsitePart
+first-row = refl
+
+pub first-block : sumOf onsitePart (take 12 (rows 1 (nth 5 .bytes))) ≡ 12 * 10 ^ 19
+unfolding largest filedList behind filedFrom littleEndian recordFrom inTurn headOf sealed weighed recordOn usedFrom bodyOf blockOf bytesOf rowsBelow rowFrom number sumOf onsitePart
+first-block = refl
