@@ -114,10 +114,10 @@ static int refused(uint32_t answer) {
 
 /* Asks the library for the counts, the exact totals and the doubles. The answer is the program's status. */
 static int gather(const uint8_t *bytes, size_t length, struct figures *f) {
-    uint32_t counts[NILOFERQ_KINDS];
-    uint32_t answer = niloferq_judge(bytes, length, counts, NILOFERQ_KINDS);
+    uint32_t counts[NILOFERQ_COUNTS];
+    uint32_t answer = niloferq_judge(bytes, length, counts, NILOFERQ_COUNTS);
     if (answer) return refused(answer);
-    f->n = counts[0];
+    f->n = counts[1]; /* kind 1 is conversion */
     uint64_t numbers[NILOFERQ_FIGURES_ROOM]; /* three for each figure: sign, upper and lower word */
     answer = niloferq_figures(bytes, length, numbers, NILOFERQ_FIGURES_ROOM);
     if (answer) return refused(answer);

@@ -57,33 +57,53 @@ static void put(uint8_t *at, uint32_t value, int width) {
     for (int i = 0; i < width; i++) at[i] = (uint8_t)(value >> 8 * i);
 }
 
-static void make(struct bytes *r, row *rows, uint32_t n) {
-    static const int widths[FIELDS] = {4, 4, 2, 2, 2, 2, 2, 2, 2, 2, 4, 2, 2, 2, 2};
-    static const uint32_t defaults[NILOFERQ_PARAMETERS_NUMBERS] = {500, 12, 60, 10, 7, 121};
-    uint32_t blocks = (n + 11) / 12 + 1;
+static void put_record(uint8_t *at, const uint32_t *numbers, const int *widths, int count) {
+    for (int k = 0; k < count; at += widths[k++]) put(at, numbers[k], widths[k]);
+}
+
+/* A block's front; its records are put next, and its check last. */
+static void put_front(uint8_t *block, uint32_t kind, uint32_t count, uint32_t place, uint32_t blocks, uint32_t edition) {
+    put(block, kind, 1);
+    put(block + 1, count, 1);
+    put(block + 2, place, 2);
+    put(block + 4, blocks, 2);
+    put(block + 6, edition, 2);
+}
+
+static void put_check(uint8_t *block) {
+    uint32_t check = 0;
+    for (uint32_t i = 0; i < 508; i++) check += (i + 1) * block[i];
+    put(block + 508, check, 4);
+}
+
+/* n conversion rows, the default parameters, and so many of the largest rows of abandoned land, which no subtotal takes. */
+static void make(struct bytes *r, row *rows, uint32_t n, uint32_t edition, uint32_t land) {
+    static const int conversion[FIELDS] = {4, 4, 2, 2, 2, 2, 2, 2, 2, 2, 4, 2, 2, 2, 2}, parameters[7] = {4, 2, 2, 2, 2, 2, 2};
+    static const int abandoned[NILOFERQ_ABANDONED_NUMBERS] = {4, 4, 2, 2, 4, 2, 2};
+    static const uint32_t defaults[7] = {0, 500, 12, 60, 10, 7, 121}; /* the zero is no number of the row */
+    uint32_t largest[NILOFERQ_ABANDONED_NUMBERS] = {0, 10000000, 10000, 1000, 10000000, 10000, 1000};
+    uint32_t first = (n + 11) / 12, blocks = first + 1 + (land + 11) / 12; /* the parameters are block number first */
     memset(r->b, 0, sizeof r->b);
     r->length = 512 * blocks;
     for (uint32_t b = 0; b < blocks; b++) {
         uint8_t *block = r->b + 512 * b;
-        bool last = b + 1 == blocks;
-        uint32_t count = last ? 1 : n - 12 * b < 12 ? n - 12 * b : 12;
-        put(block, last ? 4 : 1, 1);
-        put(block + 1, count, 1);
-        put(block + 2, b, 2);
-        put(block + 4, blocks, 2);
-        put(block + 6, 1, 2);
+        uint32_t kind = b < first ? 1 : b == first ? 4 : 5;
+        uint32_t before = 12 * (kind == 1 ? b : kind == 4 ? 0 : b - first - 1); /* rows of its kind in the blocks before it */
+        uint32_t left = (kind == 1 ? n : kind == 4 ? 1 : land) - before, count = left < 12 ? left : 12;
+        put_front(block, kind, count, b, blocks, edition);
         for (uint32_t i = 0; i < count; i++) {
             uint8_t *at = block + 8 + 40 * i;
-            if (last)
-                for (int k = 0; k < NILOFERQ_PARAMETERS_NUMBERS; k++) put(at + 4 + 2 * k, defaults[k], 2);
-            else
-                for (int k = 0; k < FIELDS; at += widths[k++]) put(at, rows[12 * b + i][k], widths[k]);
+            largest[0] = before + i;
+            if (kind == 1) put_record(at, rows[before + i], conversion, FIELDS);
+            else if (kind == 4) put_record(at, defaults, parameters, 7);
+            else put_record(at, largest, abandoned, NILOFERQ_ABANDONED_NUMBERS);
         }
-        uint32_t check = 0;
-        for (uint32_t i = 0; i < 508; i++) check += (i + 1) * block[i];
-        put(block + 508, check, 4);
+        put_check(block);
     }
 }
+
+/* From none to all rows of abandoned land, by turns; edition 1 has none. */
+static uint32_t land_in(uint32_t edition, unsigned long which) { return edition == 1 ? 0 : (uint32_t)(which % (NILOFERQ_MOST_ROWS + 1)); }
 
 /* A row's part of a subtotal, by the rules of worksheet 5-2, without the library. */
 static whole part(const uint32_t *r, int code) {
@@ -118,10 +138,10 @@ static bool contains_totals(const char *text, const whole exact[3]) {
 }
 
 /* Passes the comparison, with the totals that the rows give; the picture has them and is closed. */
-static void must_pass(row *rows, uint32_t n, const char *what, unsigned long which, bool picture) {
+static void must_pass(row *rows, uint32_t n, uint32_t edition, const char *what, unsigned long which, bool picture) {
     static struct bytes r;
     static struct figures f;
-    make(&r, rows, n);
+    make(&r, rows, n, edition, land_in(edition, which));
     if (gather(r.b, r.length, &f) != 0) {
         must(false, what, which);
         return;
@@ -200,14 +220,15 @@ static void good_returns(void) {
     unsigned long limits = 0, random = 0;
     static const int fractions[4][3] = {{1000, 0, 0}, {0, 1000, 0}, {0, 0, 1000}, {334, 333, 333}};
     for (uint32_t n = 0; n <= ROWS; n++)
-        for (int kind = 0; kind < 6; kind++, limits++) {
+        for (int kind = 0; kind < 6; kind++) {
             for (uint32_t i = 0; i < n; i++) {
                 uint32_t big[FIELDS] = {i, 1000000, 10000, 0, 0, 1000, 1000, 0, 1000, 1000, 1000000, 10000, 0, 0, 1000};
                 for (int k = 0; k < 3 && kind < 4; k++) big[k == 2 ? 13 : 4 + 3 * k] = (uint32_t)fractions[kind][k];
                 for (int k = 1; k < FIELDS && kind >= 4; k++) big[k] = kind == 5 && k != 3 && k != 12; /* all zero, or the least parts */
                 memcpy(rows[i], big, sizeof big);
             }
-            must_pass(rows, n, "a return at the limits passes", limits, true);
+            for (uint32_t edition = 1; edition <= NILOFERQ_EDITIONS; edition++, limits++)
+                must_pass(rows, n, edition, "a return at the limits passes", limits, true);
         }
     for (; random < 6000; random++) {
         uint32_t n = from_to(0, ROWS), id = 0;
@@ -219,9 +240,9 @@ static void good_returns(void) {
                 sharp[3] += 2 * from_to(0, 9);
                 memcpy(rows[i], sharp, sizeof sharp);
             }
-        must_pass(rows, n, "a random good return passes", random, random % 10 == 0);
+        must_pass(rows, n, 1 + (uint32_t)(random / 30 % 2), "a random good return passes", random, random % 10 == 0);
     }
-    printf("2. good returns: %lu at the limits and %lu random ones pass\n", limits, random);
+    printf("2. good returns: %lu at the limits and %lu random ones pass, in both editions\n", limits, random);
 }
 
 /* Around each distance where the comparison turns: the last that may pass does, the next doesn't, on both sides. */
@@ -293,8 +314,9 @@ static void missing_row(void) {
         if (gone * UINT64_C(100000000000000) < total) continue; /* decay moves in steps of 1,000 */
         memcpy(fewer, rows, sizeof rows);
         memmove(fewer[small], fewer[small + 1 < ROWS ? small + 1 : small], (n - 1 - small) * sizeof(row));
-        make(&full, rows, n);
-        make(&less, fewer, n - 1);
+        uint32_t edition = 1 + (uint32_t)(k / 12 % 2), land = land_in(edition, k);
+        make(&full, rows, n, edition, land);
+        make(&less, fewer, n - 1, edition, land);
         cases++;
         of_each[code]++;
         other_bytes = less.b, other_length = less.length;
@@ -347,7 +369,7 @@ static void broken_doubles(void) {
     for (unsigned long k = 0; k < 1000; k++) {
         uint32_t n = from_to(0, ROWS);
         for (uint32_t i = 0; i < n; i++) random_row(rows[i], i);
-        make(&r, rows, n);
+        make(&r, rows, n, 1, 0);
         must(gather(r.b, r.length, &f) == 0, "a random return is good", k);
         for (int c = 0; c < 3; c++) {
             whole exact = f.exact[c], allowed = (n + 2) * exact >> 53;
@@ -403,7 +425,7 @@ static void messages(char *day) {
     unlink(pipe);
     must(run(day, picture_path, "more") == 2 && strncmp(caught, "usage: ", 7) == 0, "too many words", 0);
     must(run("--check", NULL, NULL) == 2 && strncmp(caught, "usage: ", 7) == 0, "too few words", 0);
-    make(&r, rows, 0);
+    make(&r, rows, 0, 1, 0);
     spill(return_path, &r);
     must(run(return_path, return_path, NULL) == 2 && strstr(caught, "the return itself"), "the return is not written over", 0);
     r.b[508] ^= 1;

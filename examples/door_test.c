@@ -1,5 +1,5 @@
-/* Tries what the header says: areas of length 0, NULL among their pointers; each function on the worked day; reading into rooms of every
- * length; and writing rows with a fault of each kind. */
+/* Tries what the header says: areas of length 0, NULL among their pointers; each function on the worked day and on the day with abandoned
+ * land; reading into rooms of every length; writing in both editions, rows with a fault of each kind among them. */
 #include "niloferq.h"
 #include <stdio.h>
 #include <string.h>
@@ -14,11 +14,84 @@ static void must(int holds, const char *what) {
     }
 }
 
+/* Elements and bytes behind what is lent, which must keep their values. */
+enum { SPARE = 3 };
+static const uint32_t UNTOUCHED = 0xdeadbeef;
+
+/* Kinds are numbered as in the paper. A shape is what a read counts: the edition, and how many rows of each kind. */
+enum { EDITION, CONVERSION, STOCK, HARVEST, PARAMETERS, ABANDONED };
+typedef uint32_t shape[NILOFERQ_COUNTS];
+static const shape DAY = {1, 1, 1, 1, 1, 0}, DAY_IN_2 = {2, 1, 1, 1, 1, 0}, ONE_EACH = {2, 1, 1, 1, 1, 1};
+static const shape FULL_1 = {1, NILOFERQ_MOST_ROWS, NILOFERQ_MOST_ROWS, NILOFERQ_MOST_ROWS, 1, 0};
+static const shape FULL_2 = {2, NILOFERQ_MOST_ROWS, NILOFERQ_MOST_ROWS, NILOFERQ_MOST_ROWS, 1, NILOFERQ_MOST_ROWS};
+static const shape THIRTEEN_1 = {1, 13, 13, 13, 1, 0}, THIRTEEN_2 = {2, 13, 13, 13, 1, 13};
+
+/* A line for each kind: the numbers in a row, the most rows, and the worked day's row; of abandoned land the day has none. */
+static const struct {
+    uint32_t numbers, most;
+    uint32_t row[NILOFERQ_CONVERSION_NUMBERS];
+} KINDS[NILOFERQ_COUNTS] = {
+    [CONVERSION] = {NILOFERQ_CONVERSION_NUMBERS, NILOFERQ_MOST_ROWS, {7, 200, 1000, 100, 400, 900, 500, 200, 900, 500, 300, 1000, 100, 300, 500}},
+    [STOCK] = {NILOFERQ_STOCK_NUMBERS, NILOFERQ_MOST_ROWS, {1, 0, 680, 1000, 500}},
+    [HARVEST] = {NILOFERQ_HARVEST_NUMBERS, NILOFERQ_MOST_ROWS, {1, 500, 950, 300, 0}},
+    [PARAMETERS] = {NILOFERQ_PARAMETERS_NUMBERS, 1, {500, 12, 60, 10, 7, 121}},
+    [ABANDONED] = {NILOFERQ_ABANDONED_NUMBERS, NILOFERQ_MOST_ROWS, {3, 300, 250, 500, 420, 75, 450}},
+};
+
+/* The most that each field of abandoned land may be, behind the id. */
+static const uint32_t LAND_LIMITS[NILOFERQ_ABANDONED_NUMBERS] = {UINT32_MAX, 10000000, 10000, 1000, 10000000, 10000, 1000};
+
+/* Rows as they lie in lent memory, with room for a row too many. */
+struct rows {
+    shape counts;
+    uint32_t area[NILOFERQ_ROWS_ROOM + NILOFERQ_CONVERSION_NUMBERS];
+    size_t area_len;
+    uint32_t lengths[NILOFERQ_KINDS + 1];
+    size_t lengths_len;
+};
+
+/* The rows above, of each kind so many; copies have rising ids, but for parameters, which have none. */
+static void fill_rows(struct rows *r, const shape counts) {
+    memset(r, 0, sizeof *r);
+    memcpy(r->counts, counts, sizeof r->counts);
+    r->lengths_len = NILOFERQ_KINDS;
+    for (int kind = 1; kind <= NILOFERQ_KINDS; kind++) {
+        for (uint32_t i = 0; i < counts[kind]; i++) {
+            uint32_t *row = r->area + r->area_len;
+            memcpy(row, KINDS[kind].row, 4 * KINDS[kind].numbers);
+            if (kind != PARAMETERS) row[0] += i;
+            r->area_len += KINDS[kind].numbers;
+        }
+        r->lengths[kind - 1] = KINDS[kind].numbers * counts[kind];
+    }
+}
+
+/* A kind's row in the area, by the lengths. */
+static uint32_t *row_of(struct rows *r, int kind, uint32_t row) {
+    uint32_t *at = r->area + KINDS[kind].numbers * row;
+    for (int before = 1; before < kind; before++) at += r->lengths[before - 1];
+    return at;
+}
+
+/* A return of these rows, to be tried further; the answer is its number of bytes. */
+static size_t written(const struct rows *r, uint8_t bytes[NILOFERQ_RETURN_ROOM]) {
+    uint32_t size = 0;
+    must(niloferq_write(r->counts[EDITION], r->area, r->area_len, r->lengths, r->lengths_len, bytes, NILOFERQ_RETURN_ROOM, &size, 1) == 0,
+         "write: a good return");
+    return size;
+}
+
+static size_t written_as(const shape counts, uint8_t bytes[NILOFERQ_RETURN_ROOM]) {
+    static struct rows r;
+    fill_rows(&r, counts);
+    return written(&r, bytes);
+}
+
 static void empty_areas(const uint8_t *day, size_t length) {
-    uint32_t counts[6] = {7, 7, 7, 7, 7, 7};
+    uint32_t counts[NILOFERQ_COUNTS] = {7, 7, 7, 7, 7, 7};
     uint8_t room[16];
     memset(room, 0xee, sizeof room);
-    must(niloferq_judge(NULL, 0, counts, 6) == 1000 && counts[0] == 7 && counts[5] == 7, "judge: no bytes, NULL");
+    must(niloferq_judge(NULL, 0, counts, NILOFERQ_COUNTS) == 1000 && counts[0] == 7 && counts[5] == 7, "judge: no bytes, NULL");
     must(niloferq_judge(NULL, 0, NULL, 0) == 1000, "judge: no bytes and no room, NULL both");
     must(niloferq_judge(day, length, NULL, 0) == 9000, "judge: a good return and no room, NULL");
     must(niloferq_lines(NULL, 0, room, sizeof room) == 12 && memcmp(room, "refused 1 0\n\xee\xee\xee\xee", 16) == 0, "lines: no bytes, NULL");
@@ -32,136 +105,156 @@ static void empty_areas(const uint8_t *day, size_t length) {
     must(niloferq_figures(day, length, NULL, 0) == 9000, "figures: a good return and no room, NULL");
 }
 
-static void day_figures(const uint8_t *day, size_t length) {
+/* The figures of the day with so much taken up by abandoned land. */
+static void must_figure(const uint8_t *bytes, size_t length, uint64_t uptake, uint64_t uptake_co2, const char *what) {
     enum { ROOM = NILOFERQ_FIGURES_ROOM };
-    static const uint64_t due[NILOFERQ_FIGURES] = {340000000, 775000, 36000000, 41500000, 20750000000, 13250000000, 48583, 48583,
-        32400000000000, 16200000000000, 48600000000000, 40500000000000, 326700, 518, 4536, 4, 129};
+    const uint64_t due[NILOFERQ_FIGURES] = {340000000, 775000, 36000000, 41500000, 20750000000, 13250000000, 48583, 48583,
+        32400000000000, 16200000000000, 48600000000000, 40500000000000, 326700, 518, 4536, 4, 129, uptake, uptake_co2};
     uint64_t room[ROOM + 2];
     for (int i = 0; i < ROOM + 2; i++) room[i] = 7;
-    must(niloferq_figures(day, length, room, ROOM - 1) == 9000 && room[0] == 7 && room[ROOM - 2] == 7, "figures: room too short by one");
-    must(niloferq_figures(day, length, room, ROOM + 2) == 0 && room[ROOM] == 7 && room[ROOM + 1] == 7, "the day's figures");
+    must(niloferq_figures(bytes, length, room, ROOM - 1) == 9000 && room[0] == 7 && room[ROOM - 2] == 7, "figures: room too short by one");
+    must(niloferq_figures(bytes, length, room, ROOM + 2) == 0 && room[ROOM] == 7 && room[ROOM + 1] == 7, "figures: accepted");
     for (int i = 0; i < NILOFERQ_FIGURES; i++) /* only the report is below zero */
-        must(room[3 * i] == (i == 7) && room[3 * i + 1] == 0 && room[3 * i + 2] == due[i], "a figure's sign and words");
+        must(room[3 * i] == (i == 7) && room[3 * i + 1] == 0 && room[3 * i + 2] == due[i], what);
 }
 
-static void day_itself(const uint8_t *day, size_t length) {
-    static const char first[] = "E 340000000\nK 775000\nL 36000000\n", last[] = "n2o 4\nnox 129\n";
+/* The day's lines begin alike in both editions, whatever land is abandoned; they end with nox and these. */
+static void must_print(const uint8_t *bytes, size_t length, const char *last) {
+    static const char first[] = "E 340000000\nK 775000\nL 36000000\n";
+    char text[NILOFERQ_LINES_ROOM + 1];
+    memset(text, 0xee, sizeof text);
+    size_t n = niloferq_lines(bytes, length, (uint8_t *)text, NILOFERQ_LINES_ROOM), end = strlen(last);
+    int whole = n > sizeof first + end && n <= NILOFERQ_LINES_ROOM && (uint8_t)text[n] == 0xee;
+    must(whole, "the day's text");
+    if (!whole) return;
+    must(memcmp(text, first, sizeof first - 1) == 0 && memcmp(text + n - end, last, end) == 0, "its first and last lines");
+    must(niloferq_lines(bytes, length, (uint8_t *)text, n - 1) == 0, "lines: room too short by one");
+}
+
+/* The three doubles of the day, which abandoned land does not move. */
+static void must_double(const uint8_t *bytes, size_t length) {
     static const double due[3] = {32400000000000.0, 16200000000000.0, 40500000000000.0};
-    uint32_t counts[NILOFERQ_KINDS] = {0};
-    uint8_t text[NILOFERQ_LINES_ROOM];
-    must(niloferq_judge(day, length, counts, NILOFERQ_KINDS) == 0, "the day is accepted");
-    for (int kind = 0; kind < NILOFERQ_KINDS; kind++) must(counts[kind] == 1, "the day's counts");
-    size_t n = niloferq_lines(day, length, text, sizeof text);
-    must(n > sizeof first + sizeof last, "the day's text");
-    must(memcmp(text, first, sizeof first - 1) == 0 && memcmp(text + n - (sizeof last - 1), last, sizeof last - 1) == 0, "its first and last lines");
     for (uint32_t code = 0; code < 3; code++) {
         uint8_t bits[8];
         double found = 0;
-        must(niloferq_subtotal(day, length, code, bits, 8) == 0, "the day's subtotal");
+        must(niloferq_subtotal(bytes, length, code, bits, 8) == 0, "the day's subtotal");
         memcpy(&found, bits, 8); /* x86-64 keeps the lowest byte first, as the room does */
         must(found == due[code], "its value");
     }
 }
 
-/* Elements and bytes behind what is lent, which must keep their values. */
-enum { SPARE = 3 };
-static const uint32_t UNTOUCHED = 0xdeadbeef;
-
-/* A line for each kind: the numbers in a row, the most rows, and the worked day's row. */
-static const struct {
-    uint32_t numbers, most;
-    uint32_t day[NILOFERQ_CONVERSION_NUMBERS];
-} KINDS[NILOFERQ_KINDS] = {
-    {NILOFERQ_CONVERSION_NUMBERS, NILOFERQ_MOST_ROWS, {7, 200, 1000, 100, 400, 900, 500, 200, 900, 500, 300, 1000, 100, 300, 500}},
-    {NILOFERQ_STOCK_NUMBERS, NILOFERQ_MOST_ROWS, {1, 0, 680, 1000, 500}},
-    {NILOFERQ_HARVEST_NUMBERS, NILOFERQ_MOST_ROWS, {1, 500, 950, 300, 0}},
-    {NILOFERQ_PARAMETERS_NUMBERS, 1, {500, 12, 60, 10, 7, 121}},
-};
-enum { CONVERSION, STOCK, HARVEST, PARAMETERS };
-
-/* Rows as they lie in lent memory, with room for a row too many. */
-struct rows {
-    uint32_t area[NILOFERQ_ROWS_ROOM + NILOFERQ_CONVERSION_NUMBERS];
-    size_t area_len;
-    uint32_t lengths[NILOFERQ_KINDS + 1];
-    size_t lengths_len;
-};
-
-/* The day's rows, of each kind so many; copies have rising ids, but for parameters, which have none. */
-static void fill_rows(struct rows *r, const uint32_t counts[NILOFERQ_KINDS]) {
-    memset(r, 0, sizeof *r);
-    r->lengths_len = NILOFERQ_KINDS;
-    for (int kind = 0; kind < NILOFERQ_KINDS; kind++) {
-        for (uint32_t i = 0; i < counts[kind]; i++) {
-            uint32_t *row = r->area + r->area_len;
-            memcpy(row, KINDS[kind].day, 4 * KINDS[kind].numbers);
-            if (kind != PARAMETERS) row[0] += i;
-            r->area_len += KINDS[kind].numbers;
-        }
-        r->lengths[kind] = KINDS[kind].numbers * counts[kind];
+/* Accepted with this edition and these counts, in rooms of every length. */
+static void must_judge(const uint8_t *bytes, size_t length, const shape due, const char *what) {
+    uint32_t counts[NILOFERQ_COUNTS + SPARE];
+    for (size_t n = 0; n <= NILOFERQ_COUNTS + SPARE; n++) {
+        int enough = n >= NILOFERQ_COUNTS, good = 1;
+        for (int i = 0; i < NILOFERQ_COUNTS + SPARE; i++) counts[i] = UNTOUCHED;
+        must(niloferq_judge(bytes, length, counts, n) == (enough ? 0 : 9000), what);
+        for (int i = 0; i < NILOFERQ_COUNTS + SPARE; i++) good &= counts[i] == (enough && i < NILOFERQ_COUNTS ? due[i] : UNTOUCHED);
+        must(good, "judge: the edition and the counts, or the room as it was");
     }
 }
 
-/* A kind's row in the area, by the lengths. */
-static uint32_t *row_of(struct rows *r, int kind, uint32_t row) {
-    uint32_t *at = r->area + KINDS[kind].numbers * row;
-    while (kind > 0) at += r->lengths[--kind];
-    return at;
+static void day_itself(const uint8_t *day, size_t length) {
+    must_judge(day, length, DAY, "the day is accepted");
+    must_figure(day, length, 0, 0, "the day's figures, with no abandoned land");
+    must_print(day, length, "n2o 4\nnox 129\nuptake 0\nuptake_co2 0\n");
+    must_double(day, length);
 }
 
-static const uint32_t ONE_EACH[NILOFERQ_KINDS] = {1, 1, 1, 1};
-static const uint32_t FULL[NILOFERQ_KINDS] = {NILOFERQ_MOST_ROWS, NILOFERQ_MOST_ROWS, NILOFERQ_MOST_ROWS, 1};
+/* The day with abandoned land, by hand. A row takes up 300 x 250 x 500 + 420 x 75 x 450 = 37,500,000 + 14,175,000 = 51,675,000 of
+ * 10^-7 kt C, and 11 x 51,675,000 / 30,000 = 18,947.5 t CO2, rounded 18,948. Two rows take up 103,350,000, which is 37,895 t, not twice
+ * 18,948. The largest row takes up 2 x 10^7 x 10^4 x 10^3 = 2 x 10^14, and 32 of them 6.4 x 10^15, which is 2,346,666,666,666.7 t. */
+static void abandoned_land(void) {
+    static struct rows r;
+    static uint8_t bytes[NILOFERQ_RETURN_ROOM];
+    shape counts = {2, 1, 1, 1, 1, 1};
+    size_t length = written_as(counts, bytes);
+    must_judge(bytes, length, counts, "the day with a row of abandoned land is accepted");
+    must_figure(bytes, length, 51675000, 18948, "its figures");
+    must_print(bytes, length, "n2o 4\nnox 129\nuptake 51675000\nuptake_co2 18948\n");
+    must_double(bytes, length);
+    counts[ABANDONED] = 2;
+    length = written_as(counts, bytes);
+    must_figure(bytes, length, 103350000, 37895, "figures: two rows are rounded once");
+    counts[ABANDONED] = NILOFERQ_MOST_ROWS;
+    fill_rows(&r, counts);
+    for (uint32_t i = 0; i < NILOFERQ_MOST_ROWS; i++)
+        for (int field = 1; field < NILOFERQ_ABANDONED_NUMBERS; field++) row_of(&r, ABANDONED, i)[field] = LAND_LIMITS[field];
+    length = written(&r, bytes);
+    must_judge(bytes, length, counts, "the largest rows of abandoned land are accepted");
+    must_figure(bytes, length, 6400000000000000, 2346666666667, "figures: the largest uptake");
+    must_print(bytes, length, "n2o 4\nnox 129\nuptake 6400000000000000\nuptake_co2 2346666666667\n");
+}
 
 /* The answer due of a good return's rooms: the counts' first, then the lowest kind whose rows end behind the area. */
 static uint32_t due_of(const struct rows *r, size_t rows_len, size_t counts_len) {
     size_t end = 0;
-    if (counts_len < NILOFERQ_KINDS) return 9000;
-    for (uint32_t kind = 0; kind < NILOFERQ_KINDS; kind++)
-        if ((end += r->lengths[kind]) > rows_len) return 9001 + kind;
+    if (counts_len < NILOFERQ_COUNTS) return 9000;
+    for (uint32_t kind = 1; kind <= NILOFERQ_KINDS; kind++)
+        if ((end += r->lengths[kind - 1]) > rows_len) return 9000 + kind;
     return 0;
 }
 
 /* Reads a return of these rows into rooms of these lengths. */
 static void read_into(const uint8_t *bytes, size_t length, const struct rows *r, size_t rows_len, size_t counts_len, const char *what) {
-    static uint32_t rows[NILOFERQ_ROWS_ROOM + SPARE], counts[NILOFERQ_KINDS + SPARE];
+    static uint32_t rows[NILOFERQ_ROWS_ROOM + SPARE], counts[NILOFERQ_COUNTS + SPARE];
     int good = 1, rows_due = 0, counts_due = 0;
     for (int i = 0; i < NILOFERQ_ROWS_ROOM + SPARE; i++) rows[i] = UNTOUCHED;
-    for (int i = 0; i < NILOFERQ_KINDS + SPARE; i++) counts[i] = UNTOUCHED;
+    for (int i = 0; i < NILOFERQ_COUNTS + SPARE; i++) counts[i] = UNTOUCHED;
     must(niloferq_read(bytes, length - 1, rows, rows_len, counts, counts_len) == 1000, "read: the bytes come before the rooms");
     uint32_t due = due_of(r, rows_len, counts_len);
     must(niloferq_read(bytes, length, rows, rows_len, counts, counts_len) == due, what);
-    if (due == 0) rows_due = (int)r->area_len, counts_due = NILOFERQ_KINDS;
+    if (due == 0) rows_due = (int)r->area_len, counts_due = NILOFERQ_COUNTS;
     for (int i = 0; i < NILOFERQ_ROWS_ROOM + SPARE; i++) good &= rows[i] == (i < rows_due ? r->area[i] : UNTOUCHED);
-    for (int i = 0; i < NILOFERQ_KINDS + SPARE; i++) good &= counts[i] == (i < counts_due ? r->lengths[i] / KINDS[i].numbers : UNTOUCHED);
-    must(good, due == 0 ? "read: rows and counts, and the elements behind them" : "read: a refusal changes nothing");
+    for (int i = 0; i < NILOFERQ_COUNTS + SPARE; i++) good &= counts[i] == (i < counts_due ? r->counts[i] : UNTOUCHED);
+    must(good, due == 0 ? "read: rows, edition and counts, and the elements behind them" : "read: a refusal changes nothing");
+}
+
+/* Reads a return of these rows into rooms of every length. */
+static void read_every_length(const uint8_t *bytes, size_t length, const struct rows *r, const char *what) {
+    for (size_t counts_len = 0; counts_len <= NILOFERQ_COUNTS + SPARE; counts_len++)
+        for (size_t rows_len = 0; rows_len <= r->area_len + SPARE; rows_len++) read_into(bytes, length, r, rows_len, counts_len, what);
+}
+
+/* Reads a full return up to each kind's last row, and up to the element before. */
+static void read_full(const shape counts, size_t size) {
+    static struct rows r;
+    static uint8_t full[NILOFERQ_RETURN_ROOM];
+    fill_rows(&r, counts);
+    must(written(&r, full) == size, "write: a full return, to be read");
+    read_into(full, size, &r, NILOFERQ_ROWS_ROOM + SPARE, NILOFERQ_COUNTS, "read: a full return");
+    for (size_t end = 0, kind = 1; kind <= NILOFERQ_KINDS; kind++) {
+        end += r.lengths[kind - 1];
+        read_into(full, size, &r, end - 1, NILOFERQ_COUNTS, "read: a full return, up to a kind's last row but for one element");
+        read_into(full, size, &r, end, NILOFERQ_COUNTS, "read: a full return, up to a kind's last row");
+    }
 }
 
 static void reading(const uint8_t *day, size_t length) {
     static struct rows r;
-    static uint8_t full[NILOFERQ_RETURN_ROOM];
-    uint32_t size, counts[NILOFERQ_KINDS] = {UNTOUCHED};
-    fill_rows(&r, ONE_EACH);
-    for (size_t counts_len = 0; counts_len <= NILOFERQ_KINDS + SPARE; counts_len++)
-        for (size_t rows_len = 0; rows_len <= r.area_len + SPARE; rows_len++)
-            read_into(day, length, &r, rows_len, counts_len, "read: the day into rooms of every length");
+    static uint8_t bytes[NILOFERQ_RETURN_ROOM];
+    uint32_t counts[NILOFERQ_COUNTS] = {UNTOUCHED};
+    fill_rows(&r, DAY);
+    read_every_length(day, length, &r, "read: the day into rooms of every length");
     /* by hand: the day's rows end at 15, 20, 25 and 31 */
-    must(due_of(&r, 31, 4) == 0 && due_of(&r, 30, 4) == 9004 && due_of(&r, 25, 4) == 9004 && due_of(&r, 24, 4) == 9003, "the places due");
-    must(due_of(&r, 19, 4) == 9002 && due_of(&r, 15, 4) == 9002 && due_of(&r, 14, 4) == 9001 && due_of(&r, 14, 3) == 9000, "the places due");
+    must(due_of(&r, 31, 6) == 0 && due_of(&r, 30, 6) == 9004 && due_of(&r, 25, 6) == 9004 && due_of(&r, 24, 6) == 9003, "the places due");
+    must(due_of(&r, 19, 6) == 9002 && due_of(&r, 15, 6) == 9002 && due_of(&r, 14, 6) == 9001 && due_of(&r, 14, 5) == 9000, "the places due");
+    fill_rows(&r, ONE_EACH);
+    read_every_length(bytes, written(&r, bytes), &r, "read: the day with abandoned land into rooms of every length");
+    /* by hand: its abandoned land ends at 38 */
+    must(due_of(&r, 38, 6) == 0 && due_of(&r, 37, 6) == 9005 && due_of(&r, 31, 6) == 9005 && due_of(&r, 30, 6) == 9004, "the places due");
+    fill_rows(&r, DAY_IN_2);
+    read_every_length(bytes, written(&r, bytes), &r, "read: the day in edition 2 into rooms of every length");
 
-    fill_rows(&r, FULL);
+    fill_rows(&r, FULL_2);
     must(r.area_len == NILOFERQ_ROWS_ROOM, "the room for the rows of a full return");
-    uint32_t answer = niloferq_write(r.area, r.area_len, r.lengths, NILOFERQ_KINDS, full, sizeof full, &size, 1);
-    must(answer == 0 && size == sizeof full, "write: a full return, to be read");
-    read_into(full, sizeof full, &r, NILOFERQ_ROWS_ROOM + SPARE, NILOFERQ_KINDS, "read: a full return");
-    for (size_t end = 0, kind = 0; kind < NILOFERQ_KINDS; kind++) {
-        end += r.lengths[kind];
-        read_into(full, sizeof full, &r, end - 1, NILOFERQ_KINDS, "read: a full return, up to a kind's last row but for one element");
-        read_into(full, sizeof full, &r, end, NILOFERQ_KINDS, "read: a full return, up to a kind's last row");
-    }
+    read_full(FULL_2, NILOFERQ_RETURN_ROOM);
+    read_full(FULL_1, 5120);
 
     must(niloferq_read(NULL, 0, NULL, 0, NULL, 0) == 1000, "read: NULL everywhere");
     must(niloferq_read(day, length, NULL, 0, NULL, 0) == 9000, "read: a good return and no rooms, NULL");
-    must(niloferq_read(day, length, NULL, 0, counts, NILOFERQ_KINDS) == 9001 && counts[0] == UNTOUCHED, "read: only the counts' room");
+    must(niloferq_read(day, length, NULL, 0, counts, NILOFERQ_COUNTS) == 9001 && counts[0] == UNTOUCHED, "read: only the counts' room");
 }
 
 static uint8_t room[NILOFERQ_RETURN_ROOM + SPARE];
@@ -174,7 +267,8 @@ static uint32_t write_rows(const struct rows *r, size_t room_len, size_t size_le
     lent = *r;
     memset(room, 0xee, sizeof room);
     for (int i = 0; i < 1 + SPARE; i++) sizes[i] = UNTOUCHED;
-    uint32_t answer = niloferq_write(lent.area, lent.area_len, lent.lengths, lent.lengths_len, room, room_len, sizes, size_len);
+    uint32_t answer =
+        niloferq_write(lent.counts[EDITION], lent.area, lent.area_len, lent.lengths, lent.lengths_len, room, room_len, sizes, size_len);
     must(memcmp(lent.area, r->area, sizeof r->area) == 0, "write: the rows are only read");
     must(memcmp(lent.lengths, r->lengths, sizeof r->lengths) == 0, "write: the lengths are only read");
     for (size_t i = due; i < sizeof room; i++) good &= room[i] == 0xee;
@@ -195,69 +289,143 @@ static void must_refuse(const struct rows *r, size_t room_len, size_t size_len, 
     must(write_rows(r, room_len, 0, 0) == answer, what);
 }
 
+/* Writes rows of this shape into just enough room, and reads them back with the edition. */
+static void must_write_back(const shape counts, size_t size, const char *what) {
+    static struct rows r;
+    fill_rows(&r, counts);
+    must_write(&r, size, 1, size, what);
+    must_judge(room, size, counts, "and it is accepted");
+    read_into(room, size, &r, r.area_len, NILOFERQ_COUNTS, "and read back");
+    must_refuse(&r, size - 1, 1, 9000, "write: room too short by one");
+    must_refuse(&r, size, 0, 9000, "write: no room for the size");
+}
+
 static void writing(const uint8_t *day, size_t length) {
     static struct rows r;
-    fill_rows(&r, ONE_EACH);
+    static const shape alone = {1, 0, 0, 0, 1, 0}, alone_in_2 = {2, 0, 0, 0, 1, 0}, land_alone = {2, 0, 0, 0, 1, 13};
+    fill_rows(&r, DAY);
     must_write(&r, length, 1, length, "write: the day");
     must(memcmp(room, day, length) == 0, "its bytes");
     must_write(&r, length + SPARE, 1 + SPARE, length, "write: the day, longer rooms");
-    fill_rows(&r, FULL);
-    must_write(&r, NILOFERQ_RETURN_ROOM, 1, NILOFERQ_RETURN_ROOM, "write: a full return");
-    uint32_t counts[NILOFERQ_KINDS];
-    must(niloferq_judge(room, NILOFERQ_RETURN_ROOM, counts, NILOFERQ_KINDS) == 0, "and it is accepted");
-    must(memcmp(counts, FULL, sizeof counts) == 0, "with its counts");
-    static const uint32_t alone[NILOFERQ_KINDS] = {0, 0, 0, 1};
-    fill_rows(&r, alone);
-    must_write(&r, 512, 1, 512, "write: the parameters alone");
+    must_write_back(DAY, length, "write: the day in edition 1");
+    must_write_back(DAY_IN_2, length, "write: the day in edition 2");
+    must_write_back(ONE_EACH, length + 512, "write: the day with a row of abandoned land");
+    must_write_back(FULL_1, 5120, "write: a full return of edition 1");
+    must_write_back(FULL_2, NILOFERQ_RETURN_ROOM, "write: a full return of edition 2");
+    must_write_back(alone, 512, "write: the parameters alone");
+    must_write_back(alone_in_2, 512, "write: the parameters alone in edition 2");
+    must_write_back(land_alone, 3 * 512, "write: the parameters and two blocks of abandoned land");
 
-    fill_rows(&r, ONE_EACH);
-    must_refuse(&r, length - 1, 1, 9000, "write: room too short by one");
-    must_refuse(&r, length, 0, 9000, "write: no room for the size");
+    fill_rows(&r, DAY);
     must_refuse(&r, 0, 0, 9000, "write: no room at all");
-    must(niloferq_write(r.area, r.area_len, r.lengths, NILOFERQ_KINDS, NULL, 0, NULL, 0) == 9000, "write: no rooms, NULL");
+    must(niloferq_write(1, r.area, r.area_len, r.lengths, NILOFERQ_KINDS, NULL, 0, NULL, 0) == 9000, "write: no rooms, NULL");
     memset(r.lengths, 0, sizeof r.lengths);
-    must(niloferq_write(NULL, 0, r.lengths, NILOFERQ_KINDS, NULL, 0, NULL, 0) == 10004, "write: no rows, NULL");
-    must(niloferq_write(NULL, 0, NULL, 0, NULL, 0, NULL, 0) == 10000, "write: NULL everywhere");
+    must(niloferq_write(1, NULL, 0, r.lengths, NILOFERQ_KINDS, NULL, 0, NULL, 0) == 10004, "write: no rows, NULL");
+    must(niloferq_write(1, NULL, 0, NULL, 0, NULL, 0, NULL, 0) == 10000, "write: NULL everywhere");
+}
+
+/* Writing in an edition that is not there, and abandoned land in edition 1. */
+static void editions(void) {
+    static struct rows r;
+    static const uint32_t unknown[] = {0, 3, 65535, 65536, 65537, 65538, 16777217, 4294967295}; /* 65537 and 65538 are 1 and 2 in two bytes */
+    static const shape mixed = {1, 1, 1, 1, 1, 1}, too_many = {1, 1, 1, 1, 1, NILOFERQ_MOST_ROWS + 1}, none = {1, 1, 1, 1, 0, 1};
+    for (size_t i = 0; i < sizeof unknown / sizeof *unknown; i++) {
+        fill_rows(&r, i % 2 ? DAY : ONE_EACH);
+        r.counts[EDITION] = unknown[i];
+        must_refuse(&r, sizeof room, 1, 10000, "write: an unknown edition");
+        r.lengths[0]--, r.area_len--;
+        must_refuse(&r, sizeof room, 1, 10000, "write: an unknown edition comes before a kind's length");
+    }
+    fill_rows(&r, mixed);
+    must_refuse(&r, sizeof room, 1, 10005, "write: abandoned land in edition 1");
+    row_of(&r, CONVERSION, 0)[1] = 1000001; /* a limit as well: 10 comes first */
+    must_refuse(&r, sizeof room, 1, 10005, "write: abandoned land in edition 1 comes before a limit");
+    r.lengths[ABANDONED - 1]--, r.area_len--;
+    must_refuse(&r, sizeof room, 1, 10005, "write: part of a row of abandoned land in edition 1");
+    fill_rows(&r, too_many);
+    must_refuse(&r, sizeof room, 1, 10005, "write: too many rows of abandoned land in edition 1");
+    fill_rows(&r, none);
+    must_refuse(&r, sizeof room, 1, 10004, "write: the parameters' place is lower than that of abandoned land");
+}
+
+/* Puts an edition into a block, and the check that is then due. */
+static void put_edition(uint8_t *block, uint32_t edition) {
+    uint32_t check = 0;
+    block[6] = (uint8_t)edition, block[7] = (uint8_t)(edition >> 8);
+    for (uint32_t i = 0; i < 508; i++) check += (i + 1) * block[i];
+    for (int i = 0; i < 4; i++) block[508 + i] = (uint8_t)(check >> 8 * i);
+}
+
+static uint32_t judged(const uint8_t *bytes, size_t length) {
+    uint32_t counts[NILOFERQ_COUNTS];
+    return niloferq_judge(bytes, length, counts, NILOFERQ_COUNTS);
+}
+
+/* The day's bytes in both editions, and number 3 for editions that are unknown, mixed, or have no such kind. */
+static void editions_in_bytes(const uint8_t *day, size_t length) {
+    static uint8_t bytes[NILOFERQ_RETURN_ROOM], by_hand[NILOFERQ_RETURN_ROOM];
+    static const uint32_t unknown[] = {0, 3, 257, 258, 65535};
+    memcpy(by_hand, day, length);
+    for (size_t at = 0; at < length; at += 512) put_edition(by_hand + at, 2);
+    must(written_as(DAY_IN_2, bytes) == length && memcmp(bytes, by_hand, length) == 0, "write: the day in edition 2 has another edition and checks");
+    length = written_as(ONE_EACH, bytes);
+    must(length == 5 * 512 && bytes[3 * 512] == PARAMETERS && bytes[4 * 512] == ABANDONED, "abandoned land stands after the parameters");
+    /* by hand: 3, 300, 250, 500, 420, 75, 450, four bytes for an id or an area, two for anything else, then zeros */
+    static const uint8_t record[40] = {3, 0, 0, 0, 0x2c, 1, 0, 0, 250, 0, 0xf4, 1, 0xa4, 1, 0, 0, 75, 0, 0xc2, 1};
+    must(memcmp(bytes + 4 * 512 + 8, record, sizeof record) == 0, "the bytes of a row of abandoned land");
+    for (uint32_t block = 0; block < 5; block++) {
+        put_edition(bytes + 512 * block, 1); /* unlike block 0's, so with block 0 itself it is block 1 that is unlike */
+        must(judged(bytes, length) == (block ? 3000 + block : 3001), "judge: an edition unlike block 0's");
+        put_edition(bytes + 512 * block, 2);
+    }
+    must(judged(bytes, length) == 0, "judge: edition 2 everywhere");
+    for (uint32_t block = 0; block < 5; block++) put_edition(bytes + 512 * block, 1);
+    must(judged(bytes, length) == 3004, "judge: abandoned land in edition 1");
+    for (size_t i = 0; i < sizeof unknown / sizeof *unknown; i++) {
+        for (uint32_t block = 0; block < 5; block++) put_edition(bytes + 512 * block, unknown[i]);
+        must(judged(bytes, length) == 3000, "judge: an unknown edition");
+    }
 }
 
 /* Number 10 at place 0. */
-static void adding_up(void) {
+static void adding_up(const shape counts) {
     static struct rows r;
-    fill_rows(&r, ONE_EACH);
+    fill_rows(&r, counts);
     row_of(&r, CONVERSION, 0)[1] = 1000001; /* a limit as well: 10 comes first */
     for (r.lengths_len = 0; r.lengths_len <= NILOFERQ_KINDS + 1; r.lengths_len++)
         if (r.lengths_len != NILOFERQ_KINDS) must_refuse(&r, sizeof room, 1, 10000, "write: not a length for each kind");
     r.lengths_len = NILOFERQ_KINDS - 1;
-    r.lengths[HARVEST] += r.lengths[PARAMETERS];
-    must_refuse(&r, sizeof room, 1, 10000, "write: three lengths that add up");
+    r.lengths[PARAMETERS - 1] += r.lengths[ABANDONED - 1];
+    must_refuse(&r, sizeof room, 1, 10000, "write: four lengths that add up");
 
     for (int kind = 0; kind < NILOFERQ_KINDS; kind++) {
-        fill_rows(&r, ONE_EACH);
+        fill_rows(&r, counts);
         r.lengths[kind]--;
         must_refuse(&r, sizeof room, 1, 10000, "write: a length less by one");
         r.lengths[kind] += 2;
         must_refuse(&r, sizeof room, 1, 10000, "write: a length more by one");
-        r.lengths[kind] += KINDS[kind].numbers - 1;
+        r.lengths[kind] += KINDS[kind + 1].numbers - 1;
         must_refuse(&r, sizeof room, 1, 10000, "write: a length more by a row");
         r.lengths[kind] = 0;
-        must_refuse(&r, sizeof room, 1, 10000, "write: a length of zero too little");
+        if (counts[kind + 1]) must_refuse(&r, sizeof room, 1, 10000, "write: a length of zero too little");
         for (int other = 0; other < NILOFERQ_KINDS; other++) {
             if (other == kind) continue;
-            uint32_t moved = KINDS[kind].numbers + KINDS[other].numbers; /* more than the other has: it goes below zero */
-            fill_rows(&r, ONE_EACH);
+            uint32_t moved = KINDS[kind + 1].numbers + KINDS[other + 1].numbers; /* more than the other has: it goes below zero */
+            fill_rows(&r, counts);
             r.lengths[kind] += moved;
             r.lengths[other] -= moved;
             must_refuse(&r, sizeof room, 1, 10000, "write: a sum that is right only in 32 bits");
-            fill_rows(&r, ONE_EACH);
+            fill_rows(&r, counts);
             r.lengths[kind] += 0x80000000;
             r.lengths[other] += 0x80000000;
             must_refuse(&r, sizeof room, 1, 10000, "write: two halves of 2^32 more");
         }
+        fill_rows(&r, counts);
+        for (int other = 0; other < NILOFERQ_KINDS; other++)
+            if (other != kind) r.lengths[other] += 0x40000000;
+        must_refuse(&r, sizeof room, 1, 10000, "write: four quarters of 2^32 more");
     }
-    fill_rows(&r, ONE_EACH);
-    for (int kind = 0; kind < NILOFERQ_KINDS; kind++) r.lengths[kind] += 0x40000000;
-    must_refuse(&r, sizeof room, 1, 10000, "write: four quarters of 2^32 more");
-    fill_rows(&r, ONE_EACH);
+    fill_rows(&r, counts);
     r.area_len++;
     must_refuse(&r, sizeof room, 1, 10000, "write: an area longer than its lengths");
     r.area_len -= 2;
@@ -266,25 +434,26 @@ static void adding_up(void) {
     must_refuse(&r, sizeof room, 1, 10000, "write: no area");
 }
 
-/* Number 10 at a kind. */
-static void lengths_of_kinds(void) {
+/* Number 10 at a kind that the edition has. */
+static void lengths_of_kinds(const shape good) {
     static struct rows r;
-    for (int kind = 0; kind < NILOFERQ_KINDS; kind++) {
-        uint32_t counts[NILOFERQ_KINDS] = {1, 1, 1, 1};
+    for (uint32_t kind = 1; kind <= NILOFERQ_KINDS && good[kind]; kind++) {
+        shape counts;
+        memcpy(counts, good, sizeof counts);
         fill_rows(&r, counts);
         row_of(&r, CONVERSION, 0)[1] = 1000001; /* a limit as well: 10 comes first */
-        r.lengths[kind]--, r.area_len--;
-        must_refuse(&r, sizeof room, 1, 10001 + (uint32_t)kind, "write: a row less one element");
-        r.lengths[kind] += 2, r.area_len += 2;
-        must_refuse(&r, sizeof room, 1, 10001 + (uint32_t)kind, "write: a row and one element");
+        r.lengths[kind - 1]--, r.area_len--;
+        must_refuse(&r, sizeof room, 1, 10000 + kind, "write: a row less one element");
+        r.lengths[kind - 1] += 2, r.area_len += 2;
+        must_refuse(&r, sizeof room, 1, 10000 + kind, "write: a row and one element");
         counts[kind] = KINDS[kind].most + 1;
         fill_rows(&r, counts);
-        must_refuse(&r, sizeof room, 1, 10001 + (uint32_t)kind, "write: a row too many");
+        must_refuse(&r, sizeof room, 1, 10000 + kind, "write: a row too many");
         counts[PARAMETERS] = 0;
         fill_rows(&r, counts);
-        must_refuse(&r, sizeof room, 1, 10001 + (uint32_t)kind, "write: no parameters, and the lowest kind at fault");
+        must_refuse(&r, sizeof room, 1, 10000 + (kind < PARAMETERS ? kind : PARAMETERS), "write: no parameters, and the lowest kind at fault");
     }
-    static const uint32_t none[NILOFERQ_KINDS] = {0, 0, 0, 0}, two[NILOFERQ_KINDS] = {0, 0, 0, 2};
+    const shape none = {good[EDITION]}, two = {good[EDITION], 0, 0, 0, 2, 0};
     fill_rows(&r, none);
     must_refuse(&r, sizeof room, 1, 10004, "write: no rows at all");
     fill_rows(&r, two);
@@ -292,9 +461,8 @@ static void lengths_of_kinds(void) {
 }
 
 /* Numbers 5 to 8. 13 rows of a kind take two blocks, so stock begins at place 24, harvest at 48, the parameters at 72. */
-static void rules(void) {
+static void rules(const shape thirteen) {
     static struct rows r;
-    static const uint32_t thirteen[NILOFERQ_KINDS] = {13, 13, 13, 1};
     fill_rows(&r, thirteen);
     row_of(&r, STOCK, 12)[0] = row_of(&r, STOCK, 11)[0];
     row_of(&r, CONVERSION, 12)[1] = 1000001; /* 5 comes before 6 */
@@ -317,6 +485,26 @@ static void rules(void) {
     must_refuse(&r, sizeof room, 1, 8011, "write: after above before");
 }
 
+/* Numbers 5 and 6 of abandoned land, which begins a block behind the parameters, at place 84. */
+static void abandoned_rules(const shape thirteen) {
+    static struct rows r;
+    fill_rows(&r, thirteen);
+    row_of(&r, ABANDONED, 0)[0] = row_of(&r, ABANDONED, 1)[0];
+    row_of(&r, CONVERSION, 0)[1] = 1000001; /* 5 comes before 6 */
+    must_refuse(&r, sizeof room, 1, 5084 + 1, "write: an id of abandoned land not above the one before");
+    for (int field = 1; field < NILOFERQ_ABANDONED_NUMBERS; field++) {
+        fill_rows(&r, thirteen);
+        row_of(&r, ABANDONED, 12)[field] = LAND_LIMITS[field];
+        must_write(&r, sizeof room, 1, 9 * 512, "write: a field of abandoned land at its limit");
+        row_of(&r, ABANDONED, 12)[field] = LAND_LIMITS[field] + 1;
+        must_refuse(&r, sizeof room, 1, 6084 + 12, "write: a field of abandoned land above its limit");
+        row_of(&r, ABANDONED, 12)[field] = LAND_LIMITS[field] < 65536 ? 65536 : UINT32_MAX; /* two bytes would be 0 */
+        must_refuse(&r, sizeof room, 1, 6084 + 12, "write: a field of abandoned land far above its limit");
+        row_of(&r, CONVERSION, 0)[4] = 501; /* 6 comes before 7 */
+        must_refuse(&r, sizeof room, 1, 6084 + 12, "write: a limit of abandoned land comes before the fractions");
+    }
+}
+
 /* The default parameters are the worked day's, and nothing behind them changes. */
 static void defaults(void) {
     uint32_t room[NILOFERQ_PARAMETERS_NUMBERS + 1];
@@ -325,7 +513,7 @@ static void defaults(void) {
         for (int i = 0; i <= NILOFERQ_PARAMETERS_NUMBERS; i++) room[i] = UNTOUCHED;
         must(niloferq_defaults(room, n) == (enough ? 0 : 9000), "defaults: the answer");
         for (int i = 0; i <= NILOFERQ_PARAMETERS_NUMBERS; i++)
-            good &= room[i] == (enough && i < NILOFERQ_PARAMETERS_NUMBERS ? KINDS[PARAMETERS].day[i] : UNTOUCHED);
+            good &= room[i] == (enough && i < NILOFERQ_PARAMETERS_NUMBERS ? KINDS[PARAMETERS].row[i] : UNTOUCHED);
         must(good, "defaults: the six numbers, or the room as it was");
     }
     must(niloferq_defaults(NULL, 0) == 9000, "defaults: no room at all");
@@ -342,12 +530,18 @@ int main(int count, char **words) {
     fclose(file);
     empty_areas(day, length);
     day_itself(day, length);
+    abandoned_land();
     reading(day, length);
     writing(day, length);
-    adding_up();
-    lengths_of_kinds();
-    rules();
-    day_figures(day, length);
+    editions();
+    editions_in_bytes(day, length);
+    adding_up(DAY);
+    adding_up(ONE_EACH);
+    lengths_of_kinds(DAY);
+    lengths_of_kinds(ONE_EACH);
+    rules(THIRTEEN_1);
+    rules(THIRTEEN_2);
+    abandoned_rules(THIRTEEN_2);
     defaults();
     printf("door: %u tried, %u wrong\n", tried, wrong);
     return wrong != 0;

@@ -1,4 +1,4 @@
-/* Judges a return: judge FILE. Prints the row counts, or the refusal's number and place. */
+/* Judges a return: judge FILE. Prints the edition and the row counts, or the refusal's number and place. */
 #include "niloferq.h"
 #include <errno.h>
 #include <stdio.h>
@@ -23,12 +23,13 @@ int main(int count, char **words) {
         return 2;
     }
     fclose(file);
-    uint32_t counts[NILOFERQ_KINDS];
-    uint32_t answer = niloferq_judge(bytes, length, counts, NILOFERQ_KINDS);
+    uint32_t counts[NILOFERQ_COUNTS];
+    uint32_t answer = niloferq_judge(bytes, length, counts, NILOFERQ_COUNTS);
     if (answer != 0) {
         printf("refused %u %u\n", answer / 1000, answer % 1000);
         return 1;
     }
-    printf("accepted: conversion %u, stock %u, harvest %u, parameters %u\n", counts[0], counts[1], counts[2], counts[3]);
+    printf("accepted: edition %u, conversion %u, stock %u, harvest %u, parameters %u, abandoned %u\n", counts[0], counts[1], counts[2],
+           counts[3], counts[4], counts[5]);
     return 0;
 }

@@ -16,10 +16,14 @@ static const struct field stock[] = {{0, 4, 4294967295u}, {0, 1, 1}, {1, 2, 1000
 static const struct field harvest[] = {{0, 4, 4294967295u}, {0, 4, 10000000}, {0, 2, 10000}, {2, 4, 10000000}, {0, 4, 10000000}};
 static const struct field parameters[] = {{4, 2, 1000}, {0, 2, 1000}, {0, 2, 1000}, {0, 2, 1000}, {0, 2, 1000}, {0, 2, 1000}};
 
+static const struct field abandoned[] = {
+    {0, 4, 4294967295u}, {0, 4, 10000000}, {0, 2, 10000}, {0, 2, 1000}, {0, 4, 10000000}, {0, 2, 10000}, {0, 2, 1000},
+};
+
 static const struct {
     const struct field *fields;
     uint32_t count;
-} kinds[5] = {{0, 0}, {conversion, 15}, {stock, 5}, {harvest, 5}, {parameters, 6}};
+} kinds[6] = {{0, 0}, {conversion, 15}, {stock, 5}, {harvest, 5}, {parameters, 6}, {abandoned, 7}};
 
 static uint32_t two(const uint8_t *p) { return p[0] | (uint32_t)p[1] << 8; }
 static uint32_t four(const uint8_t *p) { return two(p) | two(p + 2) << 16; }
@@ -54,11 +58,21 @@ static int above(const uint8_t *p, uint32_t kind) {
     return 0;
 }
 
+/* Where a return may end, in each edition. */
+static int bad_end(const uint8_t *bytes, uint32_t n, uint32_t b) {
+    uint32_t kind = bytes[512 * b], last = b + 1 == n, seen = 0;
+    if (two(bytes + 6) == 1) return (kind == 4) != last;
+    if (kind == 4) return !last && bytes[512 * (b + 1)] < 5;
+    if (kind < 4) return last;
+    for (uint32_t a = 0; a < b; a++) seen |= bytes[512 * a] == 4;
+    return !seen;
+}
+
 static int bad_block(const uint8_t *bytes, uint32_t n, uint32_t b) {
     const uint8_t *p = bytes + 512 * b;
     uint32_t kind = p[0], count = p[1], before = 0;
     if (b > 0 && kind < p[-512]) return 1;
-    if ((kind == 4) != (b + 1 == n)) return 1;
+    if (bad_end(bytes, n, b)) return 1;
     for (uint32_t a = 0; a < b; a++) before += bytes[512 * a] == kind;
     if (before >= 3 || count < 1 || count > 12 || (kind == 4 && count != 1)) return 1;
     if (b + 1 < n && p[512] == kind && count != 12) return 1;
@@ -86,9 +100,9 @@ static int broken(const uint8_t *bytes, uint32_t n, uint32_t rule, uint32_t b, u
     }
 }
 
-/* 0 and the counts, or 1,000 times the number plus the place. */
-uint32_t plain_judge(const uint8_t *bytes, size_t length, uint32_t counts[4]) {
-    if (length == 0 || length > 5120 || length % 512 != 0) return 1000;
+/* 0 with the edition and the counts, or 1,000 times the number plus the place. */
+uint32_t plain_judge(const uint8_t *bytes, size_t length, uint32_t counts[6]) {
+    if (length == 0 || length > 6656 || length % 512 != 0) return 1000;
     uint32_t n = (uint32_t)(length / 512);
     for (uint32_t b = 0; b < n; b++) {
         const uint8_t *p = bytes + 512 * b;
@@ -98,7 +112,9 @@ uint32_t plain_judge(const uint8_t *bytes, size_t length, uint32_t counts[4]) {
     }
     for (uint32_t b = 0; b < n; b++) {
         const uint8_t *p = bytes + 512 * b;
-        if (p[0] < 1 || p[0] > 4 || two(p + 2) != b || two(p + 4) != n || two(p + 6) != 1) return 3000 + b;
+        uint32_t edition = two(p + 6);
+        if (edition < 1 || edition > 2 || edition != two(bytes + 6)) return 3000 + b;
+        if (p[0] < 1 || p[0] > 3 + edition || two(p + 2) != b || two(p + 4) != n) return 3000 + b;
     }
     for (uint32_t b = 0; b < n; b++)
         if (bad_block(bytes, n, b)) return 4000 + b;
@@ -106,18 +122,19 @@ uint32_t plain_judge(const uint8_t *bytes, size_t length, uint32_t counts[4]) {
         for (uint32_t b = 0; b < n; b++)
             for (uint32_t r = 0; r < bytes[512 * b + 1]; r++)
                 if (broken(bytes, n, rule, b, r)) return 1000 * rule + 12 * b + r;
-    memset(counts, 0, 4 * sizeof *counts);
-    for (uint32_t b = 0; b < n; b++) counts[bytes[512 * b] - 1] += bytes[512 * b + 1];
+    memset(counts, 0, 6 * sizeof *counts);
+    counts[0] = two(bytes + 6);
+    for (uint32_t b = 0; b < n; b++) counts[bytes[512 * b]] += bytes[512 * b + 1];
     return 0;
 }
 
 uint32_t plain_subtotal(const uint8_t *bytes, size_t length, uint32_t code, double *room) {
-    uint32_t counts[4];
+    uint32_t counts[6];
     uint32_t answer = plain_judge(bytes, length, counts);
     if (answer) return answer;
     if (code > 2) return 11000;
     double sum = 0;
-    for (uint32_t i = 0; i < counts[0]; i++) {
+    for (uint32_t i = 0; i < counts[1]; i++) {
         const uint8_t *p = bytes + 512 * (i / 12) + 8 + 40 * (i % 12);
         if (code == 2) {
             sum += (double)four(p + 24) * (two(p + 28) - two(p + 30)) * two(p + 32) * 1000 * two(p + 34);
@@ -131,7 +148,7 @@ uint32_t plain_subtotal(const uint8_t *bytes, size_t length, uint32_t code, doub
 }
 
 /* Rows of all kinds, kind after kind, as the blocks have them. The room is long enough for any return. */
-uint32_t plain_read(const uint8_t *bytes, size_t length, uint32_t *rows, uint32_t counts[4]) {
+uint32_t plain_read(const uint8_t *bytes, size_t length, uint32_t *rows, uint32_t counts[6]) {
     uint32_t answer = plain_judge(bytes, length, counts);
     if (answer) return answer;
     for (uint32_t b = 0; 512 * b < length; b++) {

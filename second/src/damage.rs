@@ -1,11 +1,12 @@
-//! Damage to the bytes of a return: numbers 1 to 4 of the paper.
+//! Damage to the bytes of a return, in either edition: numbers 1 to 4.
 //!
 //! Several can be laid over each other, from the highest number down: the
 //! repair of checks after 3 or 4 would undo an earlier damage of number 2.
 
 use crate::make::{parts, renumber, repair_check, repair_checks, zero_areas};
-use crate::make::{Part, BLOCK, CHECK_AT};
+use crate::make::{Part, BLOCK, CHECK_AT, FIRST_FULL, MOST_BLOCKS};
 use crate::rng::Rng;
+use std::ops::Range;
 
 pub fn block_count(bytes: &[u8]) -> usize {
     bytes.len() / BLOCK
@@ -17,6 +18,20 @@ pub fn block(bytes: &mut [u8], b: usize) -> &mut [u8] {
 
 fn kind(bytes: &[u8], b: usize) -> u8 {
     bytes[BLOCK * b]
+}
+
+/// The edition that block 0 says.
+fn edition(bytes: &[u8]) -> u16 {
+    u16::from_le_bytes([bytes[6], bytes[7]])
+}
+
+/// The first block of parameters, if an earlier damage has left one.
+fn parameters_at(bytes: &[u8]) -> Option<usize> {
+    (0..block_count(bytes)).find(|&b| kind(bytes, b) == 4)
+}
+
+fn has_abandoned(bytes: &[u8]) -> bool {
+    (0..block_count(bytes)).any(|b| kind(bytes, b) == 5)
 }
 
 /// Used records: an earlier damage may have left a count above 12.
@@ -32,7 +47,7 @@ pub fn break_length(rng: &mut Rng, bytes: &mut Vec<u8>) -> String {
         2 => bytes.clear(),
         _ => {
             // Everything else is as it should be, header numbers included.
-            let blocks = 11 + rng.below(6);
+            let blocks = MOST_BLOCKS + 1 + rng.below(6);
             let first = bytes[..BLOCK].to_vec();
             while block_count(bytes) < blocks {
                 bytes.splice(..0, first.iter().copied());
@@ -88,12 +103,17 @@ pub fn break_check(rng: &mut Rng, bytes: &mut [u8]) -> String {
     format!("2: {how} in block {b}")
 }
 
-/// Breaks number 3 at one block.
+/// Breaks number 3, at one block or by the editions of several.
 pub fn break_header(rng: &mut Rng, bytes: &mut [u8]) -> String {
+    if let Some(how) = rng.one_in(3).then(|| break_edition(rng, bytes)).flatten() {
+        return format!("3: {how}");
+    }
     let b = rng.below(block_count(bytes));
+    let second = edition(bytes) == 2;
     let block = block(bytes, b);
-    let at = rng.pick(&[0, 0, 2, 3, 4, 5, 6, 7]);
+    let at = rng.pick(&[0, 0, 2, 3, 4, 5]);
     block[at] = match at {
+        0 if second => rng.pick(&[0, 6, 7, 128, 255]),
         0 => rng.pick(&[0, 5, 6, 128, 255]),
         _ => match rng.below(3) {
             0 => block[at].wrapping_add(1),
@@ -102,6 +122,44 @@ pub fn break_header(rng: &mut Rng, bytes: &mut [u8]) -> String {
         },
     };
     format!("3: offset {at} of block {b} set to {}", block[at])
+}
+
+/// An edition that there isn't. Some look like 1 or 2 to a reader of one byte,
+/// or of the bytes in the other order.
+fn unknown_edition(rng: &mut Rng) -> u16 {
+    let any = rng.from_to(3, 65_535) as u16;
+    let likely = [0, 3, 4, 255, 256, 257, 258, 512, 32_769, 32_770, 65_535];
+    if rng.one_in(12) {
+        any
+    } else {
+        rng.pick(&likely)
+    }
+}
+
+/// Breaks number 3 by editions alone; nothing where the way that was drawn needs
+/// what this return doesn't have.
+fn break_edition(rng: &mut Rng, bytes: &mut [u8]) -> Option<String> {
+    let blocks = block_count(bytes);
+    let b = rng.below(blocks);
+    let other = if edition(bytes) == 1 { 2 } else { 1 };
+    let (which, new) = match rng.below(5) {
+        0 => (b..b + 1, unknown_edition(rng)),
+        1 => (0..blocks, unknown_edition(rng)),
+        // "an edition unlike block 0's", in one block or from one on
+        2 if blocks > 1 => (b..b + 1, other),
+        3 if blocks > 1 => (b.max(1)..blocks, other),
+        // "a kind above 4 in edition 1"
+        4 if has_abandoned(bytes) => (0..blocks, 1),
+        _ => return None,
+    };
+    set_edition(bytes, which.clone(), new);
+    Some(format!("edition {new} in blocks {which:?}"))
+}
+
+fn set_edition(bytes: &mut [u8], which: Range<usize>, edition: u16) {
+    for b in which {
+        block(bytes, b)[6..8].copy_from_slice(&edition.to_le_bytes());
+    }
 }
 
 /// A non-zero byte where zero is due, in a block whose count is good.
@@ -121,8 +179,7 @@ pub fn break_zero(rng: &mut Rng, bytes: &mut [u8]) -> String {
 /// Breaks number 4 in one of its ways; a way that this return has no room for
 /// becomes a non-zero byte where zero is due.
 pub fn break_layout(rng: &mut Rng, bytes: &mut Vec<u8>) -> String {
-    let blocks = block_count(bytes);
-    let done = match rng.below(10) {
+    let done = match rng.below(12) {
         0 => swap_blocks(rng, bytes),
         1 => double_block(rng, bytes),
         2 => drop_parameters(rng, bytes),
@@ -131,18 +188,20 @@ pub fn break_layout(rng: &mut Rng, bytes: &mut Vec<u8>) -> String {
         5 => overfull_third(rng, bytes),
         6 => empty_block(rng, bytes),
         7 => {
-            let b = rng.below(blocks);
+            let b = rng.below(block_count(bytes));
             let old = block(bytes, b)[1];
             let one_more = old.wrapping_add(1);
             let new = rng.pick(&[0, 13, 14, 128, 255, old.wrapping_sub(1), one_more]);
             block(bytes, b)[1] = new;
             Some(format!("count {old} to {new} in block {b}"))
         }
-        8 => {
+        8 => parameters_at(bytes).map(|p| {
             // Empty records may follow the only parameter record.
-            block(bytes, blocks - 1)[1] = rng.pick(&[0, 2, 3, 12, 13, 255]);
-            Some("parameter count".to_string())
-        }
+            block(bytes, p)[1] = rng.pick(&[0, 2, 3, 12, 13, 255]);
+            "parameter count".to_string()
+        }),
+        9 => parameters_later(rng, bytes),
+        10 => crowd_first_edition(rng, bytes),
         _ => None,
     };
     match done {
@@ -173,7 +232,7 @@ fn insert_copy(bytes: &mut Vec<u8>, from: usize, to: usize) {
 }
 
 fn double_block(rng: &mut Rng, bytes: &mut Vec<u8>) -> Option<String> {
-    let room = 10usize
+    let room = MOST_BLOCKS
         .checked_sub(block_count(bytes))
         .filter(|&room| room > 0)?;
     let b = rng.below(block_count(bytes));
@@ -194,24 +253,53 @@ fn double_block(rng: &mut Rng, bytes: &mut Vec<u8>) -> Option<String> {
     Some(format!("block {b} {times} more times"))
 }
 
+/// The parameters away: alone, with all that is behind them, or with the block
+/// before them too.
 fn drop_parameters(rng: &mut Rng, bytes: &mut Vec<u8>) -> Option<String> {
-    let blocks = block_count(bytes);
-    if blocks < 2 {
+    let (p, blocks) = (parameters_at(bytes)?, block_count(bytes));
+    let dropped = match rng.below(3) {
+        0 => p..p + 1,
+        1 => p..blocks,
+        _ => p.saturating_sub(1)..blocks,
+    };
+    if dropped.len() == blocks {
         return None;
     }
-    let dropped = 1 + rng.below((blocks - 1).min(2));
-    bytes.truncate(BLOCK * (blocks - dropped));
-    Some(format!("last {dropped} blocks dropped"))
+    bytes.drain(BLOCK * dropped.start..BLOCK * dropped.end);
+    Some(format!("blocks {dropped:?} dropped"))
 }
 
+/// A block that must not follow the parameters, just behind them or at the end.
 fn after_parameters(rng: &mut Rng, bytes: &mut Vec<u8>) -> Option<String> {
-    let blocks = block_count(bytes);
-    if blocks >= 10 {
+    let (p, blocks) = (parameters_at(bytes)?, block_count(bytes));
+    if blocks >= MOST_BLOCKS {
         return None;
     }
-    let from = rng.below(blocks);
-    insert_copy(bytes, from, blocks);
-    Some(format!("block {from} again after the parameters"))
+    let (from, to) = (rng.below(p + 1), rng.pick(&[p + 1, blocks]));
+    insert_copy(bytes, from, to);
+    Some(format!("block {from} again after the parameters, at {to}"))
+}
+
+/// The parameters behind some or all blocks of abandoned land.
+fn parameters_later(rng: &mut Rng, bytes: &mut [u8]) -> Option<String> {
+    let (p, blocks) = (parameters_at(bytes)?, block_count(bytes));
+    let by = blocks.checked_sub(p + 1).filter(|&behind| behind > 0)?;
+    let by = 1 + rng.below(by);
+    bytes[BLOCK * p..BLOCK * (p + by + 1)].rotate_left(BLOCK);
+    Some(format!("the parameters {by} blocks later"))
+}
+
+/// More blocks than edition 1 can have, by blocks that come again.
+fn crowd_first_edition(rng: &mut Rng, bytes: &mut Vec<u8>) -> Option<String> {
+    let blocks = FIRST_FULL + 1 + rng.below(MOST_BLOCKS - FIRST_FULL);
+    if edition(bytes) != 1 || block_count(bytes) >= blocks {
+        return None;
+    }
+    while block_count(bytes) < blocks {
+        let b = rng.below(block_count(bytes));
+        insert_copy(bytes, b, b);
+    }
+    Some(format!("{blocks} blocks in edition 1"))
 }
 
 /// "count is not 12 though the next block has its kind", and nothing else: the
@@ -257,16 +345,21 @@ fn overfull_third(rng: &mut Rng, bytes: &mut [u8]) -> Option<String> {
 /// A block of count 0 where its kind would stand.
 fn empty_block(rng: &mut Rng, bytes: &mut Vec<u8>) -> Option<String> {
     let blocks = block_count(bytes);
-    if blocks >= 10 {
+    if blocks >= MOST_BLOCKS {
         return None;
     }
-    let new = rng.pick(&[1, 2, 3]);
+    let second = edition(bytes) == 2;
+    let new = if second {
+        rng.pick(&[1, 2, 3, 5])
+    } else {
+        rng.pick(&[1, 2, 3])
+    };
     let place = (0..blocks)
         .find(|&b| kind(bytes, b) >= new)
         .unwrap_or(blocks);
     let mut empty = [0; BLOCK];
     empty[0] = new;
-    empty[6] = 1;
+    empty[6..8].copy_from_slice(&bytes[6..8]);
     bytes.splice(BLOCK * place..BLOCK * place, empty);
     Some(format!("empty block of kind {new} at {place}"))
 }
@@ -289,14 +382,22 @@ pub fn break_number(rng: &mut Rng, bytes: &mut Vec<u8>, number: u32) -> String {
 /// 0 all random, 1 right headers, 2 good kinds and counts, 3 zeros where due,
 /// 4 fields near their limits, 5 the same with rising ids.
 pub fn random_blocks(rng: &mut Rng, depth: usize) -> Vec<u8> {
-    let blocks = 1 + rng.below(10);
+    let edition = rng.pick(&[1, 2]);
+    // Good kinds of edition 1 fill ten blocks at most.
+    let most = if edition == 1 && depth >= 2 {
+        FIRST_FULL
+    } else {
+        MOST_BLOCKS
+    };
+    let blocks = 1 + rng.below(most);
     let mut bytes = vec![0; BLOCK * blocks];
     rng.fill(&mut bytes);
     if depth >= 1 {
         for (b, block) in bytes.chunks_mut(BLOCK).enumerate() {
-            let kind = 1 + rng.below(4) as u8;
+            let kind = 1 + rng.below(3 + usize::from(edition)) as u8;
             let count = rng.below(14) as u8;
-            block[..8].copy_from_slice(&[kind, count, b as u8, 0, blocks as u8, 0, 1, 0]);
+            let header = [kind, count, b as u8, 0, blocks as u8, 0, edition, 0];
+            block[..8].copy_from_slice(&header);
         }
     }
     if depth >= 2 {
@@ -321,16 +422,20 @@ pub fn random_blocks(rng: &mut Rng, depth: usize) -> Vec<u8> {
 fn shape(rng: &mut Rng, bytes: &mut [u8]) {
     let blocks = block_count(bytes);
     let mut kinds: Vec<u8> = [1, 1, 1, 2, 2, 2, 3, 3, 3].to_vec();
+    if edition(bytes) == 2 {
+        kinds.extend([5, 5, 5]);
+    }
     while kinds.len() > blocks - 1 {
         kinds.remove(rng.below(kinds.len()));
     }
-    kinds.push(4);
+    let p = kinds.iter().filter(|&&kind| kind < 4).count();
+    kinds.insert(p, 4);
     for b in 0..blocks {
         let nth = kinds[..=b].iter().filter(|&&kind| kind == kinds[b]).count();
         let most = if nth == 3 { 8 } else { 12 };
         let count = match kinds[b] {
             4 => 1,
-            kind if kinds[b + 1] == kind => 12,
+            kind if kinds.get(b + 1) == Some(&kind) => 12,
             _ => 1 + rng.below(most),
         };
         bytes[BLOCK * b] = kinds[b];

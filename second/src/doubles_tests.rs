@@ -18,7 +18,7 @@ fn demand_3_holds() {
         let figures = Worksheets::of(checked);
         let exact = [figures.onsite, figures.offsite, figures.decay];
         for (double, exact) in Subtotals::of(checked).in_order().into_iter().zip(exact) {
-            assert!(holds(double, exact, checked.counts[0]), "{}", case.how);
+            assert!(holds(double, exact, checked.counts.rows[0]), "{}", case.how);
         }
     }
     assert!(accepted > 5_000, "{accepted}");
@@ -46,6 +46,20 @@ fn the_order_shows_in_the_bits() {
     let due = [on_site, off_site, decay].map(|[a, b, c]| 0.0 + a + b + c);
     let found = subtotals(&rows.to_bytes()).expect("good rows").in_order();
     assert_eq!(found.map(f64::to_bits), due.map(f64::to_bits));
+}
+
+/// The edition and abandoned land change no double.
+#[test]
+fn editions_have_the_same_doubles() {
+    let mut rng = Rng::new(83);
+    for count in [1, 13, 32] {
+        let mut rows = Rows::good(&mut rng, [count; 3]);
+        let first = subtotals(&rows.to_bytes()).expect("good rows").in_order();
+        rows.edition = 2;
+        rows.abandoned = Rows::good_in(&mut rng, 2, [0, 0, 0, count]).abandoned;
+        let second = subtotals(&rows.to_bytes()).expect("good rows").in_order();
+        assert_eq!(first.map(f64::to_bits), second.map(f64::to_bits));
+    }
 }
 
 #[test]

@@ -2,6 +2,7 @@
 //! answers, the report of differences and the verdict at the end.
 
 use crate::rng::Rng;
+use crate::sentences;
 use crate::sweep::Case;
 use std::process::ExitCode;
 use std::time::Instant;
@@ -11,6 +12,8 @@ const SEED: u64 = 20_260_101;
 const SHOWN: usize = 5;
 /// Refusal numbers go up to 11.
 const NUMBERS: usize = 12;
+/// Editions 1 and 2, and all others as 0.
+const EDITIONS: usize = 3;
 /// Of fewer inputs than this, named for a quick try, no shares are asked.
 const ENOUGH_FOR_SHARES: usize = 10_000;
 
@@ -20,14 +23,16 @@ pub struct Plan<'a> {
     /// The inputs of a run whose number wasn't named, and the fewest of them.
     pub inputs: usize,
     pub least: usize,
-    /// The answers (0 for acceptance) due on at least 1 % of the inputs each.
+    /// The answers (0 for acceptance) due on at least 1 % of the inputs each, and
+    /// in each edition on a fifth of that.
     pub often: &'a [u32],
 }
 
 /// What came of one input.
 pub struct Outcome {
-    /// The answer due, by its refusal number; 0 for acceptance.
-    pub number: u32,
+    /// The answer due: 0 for acceptance, or 1,000 times the refusal number plus
+    /// the place.
+    pub answer: u32,
     pub difference: Option<String>,
 }
 
@@ -36,6 +41,12 @@ pub trait Input {
     fn how(&self) -> &str;
     /// What is written beside the report, to look at.
     fn dump(&self) -> Vec<u8>;
+    /// The edition that it says.
+    fn edition(&self) -> u32;
+    /// The request's own sentences, each of which has to be met.
+    const SENTENCES: &'static [&'static str];
+    /// Which of them it meets, when this answer is due.
+    fn sentences(&self, answer: u32) -> Vec<usize>;
 }
 
 impl Input for Case {
@@ -45,6 +56,16 @@ impl Input for Case {
 
     fn dump(&self) -> Vec<u8> {
         self.bytes.clone()
+    }
+
+    fn edition(&self) -> u32 {
+        sentences::edition(&self.bytes)
+    }
+
+    const SENTENCES: &'static [&'static str] = &sentences::OF_RETURNS;
+
+    fn sentences(&self, answer: u32) -> Vec<usize> {
+        sentences::of_return(&self.bytes, answer)
     }
 }
 
@@ -99,6 +120,74 @@ impl Arguments {
     }
 }
 
+/// How often each answer was due, in each edition, and each sentence met.
+struct Given {
+    answers: [[usize; EDITIONS]; NUMBERS],
+    sentences: Vec<usize>,
+}
+
+impl Given {
+    fn new<I: Input>() -> Self {
+        Given {
+            answers: [[0; EDITIONS]; NUMBERS],
+            sentences: vec![0; I::SENTENCES.len()],
+        }
+    }
+
+    fn note<I: Input>(&mut self, input: &I, answer: u32) {
+        let edition = input.edition() as usize;
+        let edition = if edition < EDITIONS { edition } else { 0 };
+        self.answers[(answer / 1000) as usize][edition] += 1;
+        for met in input.sentences(answer) {
+            self.sentences[met] += 1;
+        }
+    }
+
+    fn print<I: Input>(&self, often: &[u32]) {
+        let all: usize = self.answers.as_flattened().iter().sum();
+        for (number, editions) in self.answers.iter().enumerate() {
+            let count: usize = editions.iter().sum();
+            let share = 100.0 * count as f64 / all.max(1) as f64;
+            let [_, first, second] = editions;
+            let name = match number {
+                0 => "accepted".to_string(),
+                number if count > 0 || often.contains(&(number as u32)) => {
+                    format!("refused {number}")
+                }
+                _ => continue,
+            };
+            println!("{name}: {count} ({share:.1} %), edition 1: {first}, edition 2: {second}");
+        }
+        for (sentence, times) in I::SENTENCES.iter().zip(&self.sentences) {
+            println!("{sentence}: {times}");
+        }
+    }
+
+    /// Whether every answer came often enough, in each edition too, and every
+    /// sentence was met.
+    fn suffices<I: Input>(&self, often: &[u32], made: usize) -> bool {
+        let mut good = true;
+        for &number in often {
+            let editions = self.answers[number as usize];
+            if 100 * editions.iter().sum::<usize>() < made {
+                eprintln!("answer {number} has fewer than 1 % of the inputs");
+                good = false;
+            }
+            if editions[1..].iter().any(|times| 500 * times < made) {
+                eprintln!("answer {number} has fewer than 0.2 % in an edition: {editions:?}");
+                good = false;
+            }
+        }
+        for (sentence, &times) in I::SENTENCES.iter().zip(&self.sentences) {
+            if times == 0 {
+                eprintln!("no input for: {sentence}");
+                good = false;
+            }
+        }
+        good
+    }
+}
+
 /// Goes over the inputs and says whether all is well.
 pub fn run<I: Input>(
     plan: &Plan,
@@ -107,7 +196,7 @@ pub fn run<I: Input>(
     mut try_one: impl FnMut(&I, &mut Rng) -> Outcome,
 ) -> bool {
     let seed = arguments.seed;
-    let mut given = [0usize; NUMBERS];
+    let mut given = Given::new::<I>();
     let mut made = 0;
     let mut differences = 0;
     let start = Instant::now();
@@ -119,7 +208,7 @@ pub fn run<I: Input>(
         let input = make(index, &mut rng);
         let outcome = try_one(&input, &mut rng);
         made += 1;
-        given[outcome.number as usize] += 1;
+        given.note(&input, outcome.answer);
         if let Some(difference) = outcome.difference {
             differences += 1;
             if differences <= SHOWN {
@@ -128,13 +217,7 @@ pub fn run<I: Input>(
         }
     }
 
-    let share = |count: usize| 100.0 * count as f64 / made.max(1) as f64;
-    println!("accepted: {} ({:.1} %)", given[0], share(given[0]));
-    for (number, &count) in given.iter().enumerate().skip(1) {
-        if count > 0 || plan.often.contains(&(number as u32)) {
-            println!("refused {number}: {count} ({:.1} %)", share(count));
-        }
-    }
+    given.print::<I>(plan.often);
     println!(
         "compare {}: {made} inputs, {differences} differences",
         plan.name
@@ -145,18 +228,7 @@ pub fn run<I: Input>(
         eprintln!("too few inputs: {made}, at least {} are due", plan.least);
         good = false;
     }
-    let often = if arguments.shares_due(made) {
-        plan.often
-    } else {
-        &[]
-    };
-    for &number in often {
-        if 100 * given[number as usize] < made {
-            eprintln!("answer {number} has fewer than 1 % of the inputs");
-            good = false;
-        }
-    }
-    good
+    good & (!arguments.shares_due(made) || given.suffices::<I>(plan.often, made))
 }
 
 fn show(name: &str, (seed, index): (u64, usize), input: &impl Input, difference: &str) {

@@ -1,14 +1,14 @@
 //! Good returns made for the sake of their figures: on a half and beside it,
 //! at the limits, and with doubles that round badly.
 
-use crate::make::{Rows, AFTER, BEFORE, MOST_ROWS, SUMMED};
+use crate::make::{Rows, AFTER, BEFORE, MOST_ROWS, SUMMED, WITH_IDS};
 use crate::rng::Rng;
 use crate::sweep::Case;
 use crate::worst;
 
 /// A random return of this kind.
 pub fn case(rng: &mut Rng) -> Case {
-    let (how, rows) = match rng.below(8) {
+    let (how, mut rows) = match rng.below(10) {
         0 | 1 => ("Q near a half", q_near_half(rng)),
         2 => ("co2 near a half", co2_near_half(rng)),
         3 | 4 => ("a gas near a half", gas_near_half(rng)),
@@ -17,12 +17,55 @@ pub fn case(rng: &mut Rng) -> Case {
             let (rows, which) = (1 + rng.below(MOST_ROWS), worst::Which::any(rng));
             worst::steep(rng, rows, which)
         }),
+        7 => (
+            "all rows",
+            Rows::good_in(rng, 2, [MOST_ROWS; WITH_IDS.len()]),
+        ),
+        8 => ("uptake near a half", uptake_near_half(rng)),
         _ => ("all rows", Rows::good(rng, [MOST_ROWS; 3])),
     };
-    Case {
-        how: format!("{how}, {:?} rows", [1, 2, 3].map(|kind| rows.len(kind))),
-        bytes: rows.to_bytes(),
+    if rows.edition == 1 && rng.one_in(2) {
+        add_abandoned(rng, &mut rows);
     }
+    let how = format!("{how}, edition {}, {:?} rows", rows.edition, rows.counts());
+    let bytes = rows.to_bytes();
+    Case { how, bytes }
+}
+
+/// The same rows in edition 2, with some of abandoned land.
+fn add_abandoned(rng: &mut Rng, rows: &mut Rows) {
+    let count = rng.pick(&[0, 1, 2, 12, 13, 32]);
+    rows.edition = 2;
+    rows.abandoned = Rows::good_in(rng, 2, [0, 0, 0, count]).abandoned;
+}
+
+/// Uptake on a half or beside it. The last row is one for single units, of land
+/// abandoned up to twenty years or longer.
+fn uptake_near_half(rng: &mut Rng) -> Rows {
+    let below = 30_000;
+    let mut counts = [0; WITH_IDS.len()].map(|_| rng.below(3));
+    counts[3] = 1 + rng.pick(&[0, 0, 1, 2, 12, 31]);
+    let mut rows = Rows::good_in(rng, 2, counts);
+    if rng.one_in(2) {
+        // Small values, near zero.
+        let small = |row: &mut [u32; 7]| row[1..].iter_mut().for_each(|v| *v %= 10);
+        rows.abandoned.iter_mut().for_each(small);
+    }
+    let last = rows.abandoned.len() - 1;
+    rows.abandoned[last][1..].fill(0);
+    let (due, step) = solve(11, beside_half(rng, below), below);
+    let missing = (due + step - uptake(&rows) % step) % step;
+    let missing = missing + step * u128::from(rng.from_to(0, 99));
+    let age = rng.pick(&[1, 4]);
+    rows.abandoned[last][age..age + 3].copy_from_slice(&[missing as u32, 1, 1]);
+    rows
+}
+
+/// Uptake of worksheet 5-4, from the rows.
+fn uptake(rows: &Rows) -> u128 {
+    let product = |age: &[u32]| -> u128 { age.iter().map(|&f| u128::from(f)).product() };
+    let row = |row: &[u32; 7]| product(&row[1..4]) + product(&row[4..]);
+    rows.abandoned.iter().map(row).sum()
 }
 
 /// A row's carbon by share: 0 on-site, 1 off-site, 2 decay.
@@ -205,6 +248,9 @@ fn q_near_half(rng: &mut Rng) -> Rows {
 fn large(rng: &mut Rng) -> Rows {
     let count = rng.pick(&[1, 2, 3, 12, 31, 32, 32, 32]);
     let mut rows = Rows::good(rng, [count; 3]);
+    if rng.one_in(2) {
+        rows = Rows::good_in(rng, 2, [count; WITH_IDS.len()]);
+    }
     let share = rng.below(4);
     for row in &mut rows.conversion {
         let id = row[0];
@@ -224,6 +270,12 @@ fn large(rng: &mut Rng) -> Rows {
     }
     for row in &mut rows.harvest {
         row[1..].copy_from_slice(&[10_000_000, 10_000, 10_000_000, 10_000_000]);
+    }
+    for row in &mut rows.abandoned {
+        let age = [10_000_000, 10_000, 1_000];
+        row[1..].copy_from_slice([age; 2].as_flattened());
+        let at = 1 + rng.below(6);
+        row[at] -= rng.pick(&[0, 0, 1]);
     }
     // All of one sign, or the largest of both.
     match rng.below(3) {

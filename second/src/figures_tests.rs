@@ -20,6 +20,7 @@ fn solutions_solve() {
     let mut rng = Rng::new(52);
     for _ in 0..2_000 {
         let below = rng.pick(&[
+            30_000,
             3_000_000,
             3_000_000_000,
             3_000_000_000_000,
@@ -63,4 +64,24 @@ fn large_rows_carry() {
         figures.onsite.max(figures.offsite).max(figures.decay) > u128::from(u64::MAX)
     });
     assert!(carried.count() > 60);
+}
+
+/// Exact halves of the uptake's CO2 come often, small ones and those beside too.
+#[test]
+fn halves_of_uptake_come() {
+    let mut rng = Rng::new(55);
+    let [mut half, mut small, mut beside] = [0; 3];
+    for _ in 0..1_000 {
+        let rows = uptake_near_half(&mut rng);
+        let found = sheets(&rows.to_bytes()).expect("good rows").uptake;
+        assert_eq!(u128::from(found), uptake(&rows));
+        let rest = (11 * found) % 30_000;
+        half += i32::from(rest == 15_000);
+        small += i32::from(rest == 15_000 && found < 3_000_000);
+        beside += i32::from(rest != 15_000 && rest.abs_diff(15_000) < 3);
+    }
+    assert!(
+        half > 300 && small > 100 && beside > 100,
+        "{half} {small} {beside}"
+    );
 }

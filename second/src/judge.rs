@@ -1,4 +1,5 @@
-//! The judge of a return: refusal numbers 1 to 8 of the paper (01), in order.
+//! The judge of a return: refusal numbers 1 to 8 of the paper (01), in order,
+//! with edition 2 and its kind 5 from the request on abandoned land (02, §1).
 //!
 //! "Each number is tried over the whole input before the next, and the lowest
 //! place is given": numbers 1 to 4 are a pass each. The faults of 5 to 8 belong
@@ -8,9 +9,25 @@
 /// What a return is answered with.
 #[derive(Clone, Copy, Debug, PartialEq, Eq)]
 pub enum Verdict {
-    /// The numbers of conversion, stock, harvest and parameter rows.
-    Accepted([u32; 4]),
+    Accepted(Counts),
     Refused(Refusal),
+}
+
+/// What an accepted return is: its edition, and the numbers of conversion,
+/// stock, harvest, parameter and abandoned rows.
+#[derive(Clone, Copy, Debug, PartialEq, Eq)]
+pub struct Counts {
+    pub edition: u16,
+    pub rows: [u32; 5],
+}
+
+impl Counts {
+    /// As C gets them: the edition, then the rows of each kind.
+    pub fn numbers(self) -> [u32; 6] {
+        let [conversion, stock, harvest, parameters, abandoned] = self.rows;
+        let edition = u32::from(self.edition);
+        [edition, conversion, stock, harvest, parameters, abandoned]
+    }
 }
 
 /// A refusal number of the paper's table, and its place.
@@ -21,7 +38,8 @@ pub struct Refusal {
 }
 
 const BLOCK: usize = 512;
-const MOST_BLOCKS: usize = 10;
+/// "Lengths go to 13 blocks in either edition".
+const MOST_BLOCKS: usize = 13;
 const RECORD: usize = 40;
 const RECORDS_PER_BLOCK: usize = 12;
 const RECORDS_AT: usize = 8;
@@ -31,6 +49,7 @@ const CONVERSION: u8 = 1;
 const STOCK: u8 = 2;
 const HARVEST: u8 = 3;
 const PARAMETERS: u8 = 4;
+const ABANDONED: u8 = 5;
 
 type Block = [u8; BLOCK];
 pub type Record = [u8; RECORD];
@@ -39,11 +58,11 @@ pub type Record = [u8; RECORD];
 #[derive(Clone, Copy)]
 pub struct Checked<'a> {
     blocks: &'a [Block],
-    pub counts: [u32; 4],
+    pub counts: Counts,
 }
 
 impl<'a> Checked<'a> {
-    /// The used records of kind 1 to 4, in order.
+    /// The used records of kind 1 to 5, in order.
     pub fn records(self, kind: u8) -> impl Iterator<Item = &'a Record> {
         self.blocks
             .iter()
@@ -51,9 +70,10 @@ impl<'a> Checked<'a> {
             .flat_map(|block| used_records(block, usize::from(block[1])))
     }
 
-    /// The one record of kind 4, at the front of the last block.
+    /// The one record of kind 4, which every good return has.
     pub fn parameters(self) -> &'a Record {
-        &used_records(&self.blocks[self.blocks.len() - 1], 1)[0]
+        let mut all = self.records(PARAMETERS);
+        all.next().expect("a good return has parameters")
     }
 }
 
@@ -64,7 +84,18 @@ impl Refusal {
     }
 }
 
-/// Judges a return: the four row counts, or the refusal the paper asks for.
+impl Verdict {
+    /// As C gets it from room that is long enough.
+    pub fn answer(self) -> u32 {
+        match self {
+            Verdict::Accepted(_) => 0,
+            Verdict::Refused(refusal) => refusal.answer(),
+        }
+    }
+}
+
+/// Judges a return: its edition with the row counts, or the refusal the paper
+/// asks for.
 pub fn judge(bytes: &[u8]) -> Verdict {
     match check(bytes) {
         Ok(checked) => Verdict::Accepted(checked.counts),
@@ -80,14 +111,20 @@ pub fn check(bytes: &[u8]) -> Result<Checked<'_>, Refusal> {
     layout_holds(blocks)?;
     records_hold(blocks)?;
 
-    let mut counts = [0; 4];
+    let mut rows = [0; 5];
     for block in blocks {
-        counts[usize::from(block[0] - 1)] += u32::from(block[1]);
+        rows[usize::from(block[0] - 1)] += u32::from(block[1]);
     }
+    let edition = edition(&blocks[0]);
+    let counts = Counts { edition, rows };
     Ok(Checked { blocks, counts })
 }
 
-/// Number 1: "length is 0, above 5,120 or no multiple of 512".
+fn edition(block: &Block) -> u16 {
+    two(block, 6)
+}
+
+/// Number 1: "length is 0, above" 13 blocks, "or no multiple of 512".
 fn blocks_of(bytes: &[u8]) -> Result<&[Block], Refusal> {
     let (blocks, rest) = bytes.as_chunks::<BLOCK>();
     if rest.is_empty() && (1..=MOST_BLOCKS).contains(&blocks.len()) {
@@ -100,14 +137,14 @@ fn blocks_of(bytes: &[u8]) -> Result<&[Block], Refusal> {
     }
 }
 
-/// Refuses at the first block that doesn't hold. The rule gets the block, its
-/// position and the number of blocks.
+/// Refuses at the first block that doesn't hold. The rule gets all blocks and
+/// the position of one.
 fn first_block(
     blocks: &[Block],
     number: u32,
-    holds: impl Fn(&Block, usize, usize) -> bool,
+    holds: impl Fn(&[Block], usize) -> bool,
 ) -> Result<(), Refusal> {
-    match (0..blocks.len()).find(|&b| !holds(&blocks[b], b, blocks.len())) {
+    match (0..blocks.len()).find(|&b| !holds(blocks, b)) {
         None => Ok(()),
         Some(b) => Err(Refusal {
             number,
@@ -118,7 +155,8 @@ fn first_block(
 
 /// Number 2: "a check is wrong". The sum is at most 255 x 129,286, so it can't
 /// overflow the four bytes and all four are compared.
-fn check_holds(block: &Block, _: usize, _: usize) -> bool {
+fn check_holds(blocks: &[Block], b: usize) -> bool {
+    let block = &blocks[b];
     let sum: u32 = block[..CHECK_AT]
         .iter()
         .zip(1u32..)
@@ -127,21 +165,33 @@ fn check_holds(block: &Block, _: usize, _: usize) -> bool {
     sum == four(block, CHECK_AT)
 }
 
-/// Number 3: "kind not 1 to 4, wrong block number, wrong number of blocks,
-/// edition not 1". Numbers of two bytes are compared whole.
+/// Number 3: "kind not 1 to 4, wrong block number, wrong number of blocks", "an
+/// edition other than 1 or 2, an edition unlike block 0's, or a kind above 4 in
+/// edition 1". Numbers of two bytes are compared whole.
 ///
 /// The right number of blocks is the length over 512, the only one that number
 /// 1 leaves.
-fn header_holds(block: &Block, b: usize, of: usize) -> bool {
-    (CONVERSION..=PARAMETERS).contains(&block[0])
+fn header_holds(blocks: &[Block], b: usize) -> bool {
+    let block = &blocks[b];
+    is_kind_of(edition(block), block[0])
         && usize::from(two(block, 2)) == b
-        && usize::from(two(block, 4)) == of
-        && two(block, 6) == 1
+        && usize::from(two(block, 4)) == blocks.len()
+        && edition(block) == edition(&blocks[0])
 }
 
-/// Number 4. Only tried when every kind is 1 to 4.
+/// An edition that is not known has no kinds at all.
+fn is_kind_of(edition: u16, kind: u8) -> bool {
+    match edition {
+        1 => (CONVERSION..=PARAMETERS).contains(&kind),
+        2 => (CONVERSION..=ABANDONED).contains(&kind),
+        _ => false,
+    }
+}
+
+/// Number 4. Only tried when every kind is one of the edition's.
 fn layout_holds(blocks: &[Block]) -> Result<(), Refusal> {
-    let mut seen = [0u32; 5];
+    let edition = edition(&blocks[0]);
+    let mut seen = [0u32; 6];
     let mut previous = 0;
     for (b, block) in blocks.iter().enumerate() {
         let (kind, count) = (block[0], block[1]);
@@ -158,8 +208,7 @@ fn layout_holds(blocks: &[Block]) -> Result<(), Refusal> {
             _ => 0,
         };
         let holds = kind >= previous
-            // "kind 4 and not last, or last and not kind 4"
-            && (kind == PARAMETERS) == next.is_none()
+            && end_holds(edition, kind, next, seen[usize::from(PARAMETERS)] > 0)
             && (1..=most).contains(&count)
             // "whose count is not 12 though the next block has its kind": the
             // fault is this block's, not the next one's.
@@ -176,6 +225,19 @@ fn layout_holds(blocks: &[Block]) -> Result<(), Refusal> {
     Ok(())
 }
 
+/// Part of number 4, about where a return may end. In edition 1 it is at fault
+/// with "kind 4 and not last, or last and not kind 4". In edition 2 these become
+/// "kind 4 before a kind below 5, a last block below kind 4, a kind above 4 with
+/// no kind 4 before it".
+fn end_holds(edition: u16, kind: u8, next: Option<u8>, parameters_seen: bool) -> bool {
+    match next {
+        _ if edition == 1 => (kind == PARAMETERS) == next.is_none(),
+        Some(next) if kind == PARAMETERS => next > PARAMETERS,
+        None if kind < PARAMETERS => false,
+        _ => kind <= PARAMETERS || parameters_seen,
+    }
+}
+
 /// Part of number 4: "a non-zero byte where zero is due, unused records
 /// included". Zero is due in "bytes after the last field" and in the bytes
 /// named zero inside a record, in the records from the count on, and in the
@@ -186,6 +248,7 @@ fn zeros_hold(block: &Block, kind: u8, count: usize) -> bool {
         CONVERSION => used.map(|r| or(&r[36..])).fold(0, or_two),
         STOCK => used.map(|r| r[5] | or(&r[14..])).fold(0, or_two),
         HARVEST => used.map(|r| or(&r[10..12]) | or(&r[20..])).fold(0, or_two),
+        ABANDONED => used.map(|r| or(&r[20..])).fold(0, or_two),
         _ => used.map(|r| or(&r[..4]) | or(&r[16..])).fold(0, or_two),
     };
     inside | or(&block[RECORDS_AT + RECORD * count..CHECK_AT]) == 0
@@ -237,6 +300,7 @@ fn records_hold(blocks: &[Block]) -> Result<(), Refusal> {
             CONVERSION => note(records, place, conversion_faults, &mut first),
             STOCK => note(records, place, stock_faults, &mut first),
             HARVEST => note(records, place, harvest_faults, &mut first),
+            ABANDONED => note(records, place, abandoned_faults, &mut first),
             _ => note(records, place, parameter_faults, &mut first),
         }
     }
@@ -280,9 +344,9 @@ fn note(
 const MOST_AREA: u32 = 1_000_000;
 const MOST_DENSITY: u16 = 10_000;
 const MOST_FRACTION: u16 = 1_000;
-/// A stock's amount, and a harvest's F, I and J.
+/// A stock's amount, a harvest's F, I and J, and both areas of abandoned land.
 const MOST_AMOUNT: u32 = 10_000_000;
-/// A stock's growth rate, and a harvest's G.
+/// A stock's growth rate, a harvest's G, and both rates of abandoned land.
 const MOST_RATE: u16 = 10_000;
 const LAST_UNIT_CODE: u8 = 1;
 
@@ -341,6 +405,16 @@ fn harvest_faults(r: &Record) -> Faults {
 
 fn parameter_faults(r: &Record) -> Faults {
     only_limit(any_above(twos::<6>(r, 4), MOST_FRACTION))
+}
+
+/// "in the units and limits of land stock rows", for each age of land.
+fn abandoned_faults(r: &Record) -> Faults {
+    let above = |area: usize| {
+        (four(r, area) > MOST_AMOUNT)
+            | (two(r, area + 4) > MOST_RATE)
+            | (two(r, area + 6) > MOST_FRACTION)
+    };
+    only_limit(above(4) | above(12))
 }
 
 /// Numbers 7 and 8 are about conversion records alone.

@@ -5,6 +5,7 @@
 //! the table holds them by kind.
 
 use crate::judge::{four, two, Checked, Record};
+use std::ops::RangeInclusive;
 
 /// A number of a row: where its bytes begin in the record, how many they are,
 /// and the most it may be.
@@ -22,9 +23,9 @@ const fn field(at: usize, bytes: usize, most: u32) -> Field {
 const AREA: u32 = 1_000_000;
 const DENSITY: u32 = 10_000;
 const SHARE: u32 = 1_000;
-/// A stock's amount, and a harvest's F, I and J.
+/// A stock's amount, a harvest's F, I and J, and both areas of abandoned land.
 const AMOUNT: u32 = 10_000_000;
-/// A stock's growth rate, and a harvest's G.
+/// A stock's growth rate, a harvest's G, and both rates of abandoned land.
 const RATE: u32 = 10_000;
 /// "0 land, 1 scattered trees"
 const UNIT_CODE: u32 = 1;
@@ -115,12 +116,29 @@ impl Layout<6> for Parameters {
     const HAS_ID: bool = false;
 }
 
+/// "the id in four bytes, then the fields in the order named, four bytes for an
+/// area or a production and two for anything else, then zeros"
+struct Abandoned;
+impl Layout<7> for Abandoned {
+    const FIELDS: [Field; 7] = [
+        ID,
+        field(4, 4, AMOUNT),
+        field(8, 2, RATE),
+        field(10, 2, SHARE),
+        field(12, 4, AMOUNT),
+        field(16, 2, RATE),
+        field(18, 2, SHARE),
+    ];
+}
+
 /// The first place of each of the numbers 5, 6, 7 and 8.
 pub(crate) type FirstPlaces = [Option<usize>; 4];
 
 /// One kind of rows. All `&[u32]` hold whole rows, one after the other.
 pub struct Kind {
     pub name: &'static str,
+    /// The first edition that has it.
+    pub since: u32,
     /// Numbers of 32 bits in a row.
     pub numbers: usize,
     pub least_rows: usize,
@@ -134,13 +152,21 @@ pub struct Kind {
 }
 
 /// "At most 32 rows of each of the first three kinds, none needed; always one
-/// parameter row."
-pub static KINDS: [Kind; 4] = [
-    Kind::of::<15, Conversion>("conversion", 0, 32),
-    Kind::of::<5, Stock>("stock", 0, 32),
-    Kind::of::<5, Harvest>("harvest", 0, 32),
-    Kind::of::<6, Parameters>("parameters", 1, 1),
+/// parameter row." Abandoned land: "kind 5, after the parameter block, up to 32,
+/// in edition 2".
+pub static KINDS: [Kind; 5] = [
+    Kind::of::<15, Conversion>("conversion", 1, 0, 32),
+    Kind::of::<5, Stock>("stock", 1, 0, 32),
+    Kind::of::<5, Harvest>("harvest", 1, 0, 32),
+    Kind::of::<6, Parameters>("parameters", 1, 1, 1),
+    Kind::of::<7, Abandoned>("abandoned", 2, 0, 32),
 ];
+
+/// "an unknown edition" is any other.
+pub const EDITIONS: RangeInclusive<u32> = 1..=2;
+
+/// What C lends for counts: one element for each kind, and the edition.
+pub const COUNTS_ROOM: usize = KINDS.len() + 1;
 
 /// Elements that the rows of any return fit.
 pub const ROWS_ROOM: usize = {
@@ -152,17 +178,19 @@ pub const ROWS_ROOM: usize = {
     room
 };
 
-/// Bytes that the blocks of any rows fit: "1 to 10 blocks of 512 bytes".
-pub const RETURN_ROOM: usize = 5_120;
+/// Bytes that the blocks of any rows fit: "13 blocks in either edition".
+pub const RETURN_ROOM: usize = 6_656;
 
 impl Kind {
     const fn of<const N: usize, L: Layout<N>>(
         name: &'static str,
+        since: u32,
         least_rows: usize,
         most_rows: usize,
     ) -> Self {
         Kind {
             name,
+            since,
             numbers: N,
             least_rows,
             most_rows,
@@ -172,11 +200,18 @@ impl Kind {
         }
     }
 
-    /// How many rows so many elements are, if they can be this kind's rows.
-    pub(crate) fn rows_in(&self, length: u32) -> Option<usize> {
+    /// How many rows so many elements are, if they can be this kind's rows in
+    /// an edition.
+    pub(crate) fn rows_in(&self, edition: u32, length: u32) -> Option<usize> {
         let numbers = self.numbers as u32;
         let rows = (length / numbers) as usize;
-        let allowed = self.least_rows..=self.most_rows;
+        // A kind that came later has no rows.
+        let most_rows = if edition < self.since {
+            0
+        } else {
+            self.most_rows
+        };
+        let allowed = self.least_rows..=most_rows;
         (length.is_multiple_of(numbers) && allowed.contains(&rows)).then_some(rows)
     }
 }
@@ -248,11 +283,12 @@ impl Field {
 mod tests {
     use super::*;
 
-    /// By the paper's own numbers: "15, 5, 5 and 6".
+    /// By the paper's own numbers: "15, 5, 5 and 6". An abandoned row is an id
+    /// and twice three fields; 806 numbers and 32 times 7 are 1,030.
     #[test]
     fn rows_have_the_papers_lengths() {
-        assert_eq!(KINDS.each_ref().map(|kind| kind.numbers), [15, 5, 5, 6]);
-        assert_eq!(ROWS_ROOM, 806);
+        assert_eq!(KINDS.each_ref().map(|kind| kind.numbers), [15, 5, 5, 6, 7]);
+        assert_eq!(ROWS_ROOM, 1_030);
     }
 
     /// Each field behind the one before, inside the record, and wide enough.
@@ -271,11 +307,19 @@ mod tests {
         fields_stand_in_order::<5, Stock>();
         fields_stand_in_order::<5, Harvest>();
         fields_stand_in_order::<6, Parameters>();
+        fields_stand_in_order::<7, Abandoned>();
+    }
+
+    /// By hand: ages of eight bytes each behind the id, 20 in all.
+    #[test]
+    fn abandoned_land_has_no_gaps() {
+        let ends = Abandoned::FIELDS.map(|field| field.at + field.bytes);
+        assert_eq!(ends, [4, 8, 10, 12, 16, 18, 20]);
     }
 
     #[test]
     fn lengths_are_whole_rows_inside_the_limits() {
-        let [conversion, stock, _, parameters] = &KINDS;
+        let [conversion, stock, _, parameters, abandoned] = &KINDS;
         for (kind, length, due) in [
             (conversion, 0, Some(0)),
             (conversion, 14, None),
@@ -287,8 +331,22 @@ mod tests {
             (parameters, 6, Some(1)),
             (parameters, 12, None),
         ] {
-            let found = kind.rows_in(length);
-            assert_eq!(found, due, "{} of {length}", kind.name);
+            for edition in EDITIONS {
+                let found = kind.rows_in(edition, length);
+                assert_eq!(found, due, "{} of {length}", kind.name);
+            }
+        }
+        for (length, first, second) in [
+            (0, Some(0), Some(0)),
+            (1, None, None),
+            (6, None, None),
+            (7, None, Some(1)),
+            (224, None, Some(32)),
+            (225, None, None),
+            (231, None, None),
+        ] {
+            let found = [1, 2].map(|edition| abandoned.rows_in(edition, length));
+            assert_eq!(found, [first, second], "{length}");
         }
     }
 }

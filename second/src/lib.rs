@@ -1,6 +1,7 @@
-//! The second program, written from the paper (01) alone: a judge, a reader and
-//! a writer of returns, the worksheets and the doubles, with makers of good and
-//! damaged inputs to compare all of it with the first program.
+//! The second program, written from the paper (01) and the request on abandoned
+//! land (02, §1) alone: a judge, a reader and a writer of returns, the worksheets
+//! and the doubles, with makers of good and damaged inputs to compare all of it
+//! with the first program.
 //!
 //! It shares no code and no definition with the first program. The unit tests
 //! (`NILOFERQ_LIB= cargo test --lib`) need nothing else; the comparisons and
@@ -24,10 +25,12 @@ pub mod land;
 pub mod lent;
 pub mod make;
 pub mod mix;
+pub mod order_sweeps;
 pub mod reader;
 pub mod rng;
 pub mod row_sweeps;
 pub mod rowlists;
+pub mod sentences;
 pub mod sheets;
 pub mod spoil;
 pub mod sweep;

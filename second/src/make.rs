@@ -9,6 +9,14 @@ use std::ops::Range;
 pub const BLOCK: usize = 512;
 pub const CHECK_AT: usize = 508;
 pub const MOST_ROWS: usize = 32;
+/// Of a return, in either edition.
+pub const MOST_BLOCKS: usize = 13;
+/// All that edition 1 has rows for.
+pub const FIRST_FULL: usize = 10;
+/// The kinds whose rows have ids, in order. Kind 5 is edition 2's alone.
+pub const WITH_IDS: [u8; 4] = [1, 2, 3, 5];
+/// Numbers of rows of the kinds with ids.
+pub type RowCounts = [usize; WITH_IDS.len()];
 
 /// A part of a record: a field with its width and limit, or bytes of zero.
 #[derive(Clone, Copy)]
@@ -43,15 +51,18 @@ const PARAMETERS: [Part; 8] = [
     Part::Zero(4), SHARE, SHARE, SHARE, SHARE, SHARE, SHARE, Part::Zero(24),
 ];
 
+#[rustfmt::skip]
+const ABANDONED: [Part; 8] = [ID, LARGE, RATE, SHARE, LARGE, RATE, SHARE, Part::Zero(20)];
+
 /// Positions in a conversion row.
 pub const BEFORE: [usize; 2] = [2, 11];
 pub const AFTER: [usize; 2] = [3, 12];
 /// On-site, off-site and decay: together at most 1,000.
 pub const SUMMED: [usize; 3] = [4, 7, 13];
 
-const RECORDS: [&[Part]; 4] = [&CONVERSION, &STOCK, &HARVEST, &PARAMETERS];
+const RECORDS: [&[Part]; 5] = [&CONVERSION, &STOCK, &HARVEST, &PARAMETERS, &ABANDONED];
 
-/// The parts of a record of kind 1 to 4, in order; together 40 bytes.
+/// The parts of a record of kind 1 to 5, in order; together 40 bytes.
 pub fn parts(kind: u8) -> &'static [Part] {
     RECORDS[usize::from(kind) - 1]
 }
@@ -112,14 +123,36 @@ pub fn zero_areas(kind: u8, count: usize) -> Vec<Range<usize>> {
     areas
 }
 
-/// The rows of a return. A good one has at most 32 of each of the first three
-/// and exactly one of the last; more or fewer are written just the same.
-#[derive(Clone, Debug, Default)]
+/// The place of a kind with ids among [`WITH_IDS`]; the parameters have none.
+pub fn place_of(kind: u8) -> Option<usize> {
+    WITH_IDS.iter().position(|&other| other == kind)
+}
+
+/// The rows of a return. A good one has at most 32 of each kind with ids, of
+/// abandoned land only in edition 2, and exactly one of parameters; more or
+/// fewer are written just the same.
+#[derive(Clone, Debug)]
 pub struct Rows {
+    pub edition: u16,
     pub conversion: Vec<[u32; 15]>,
     pub stock: Vec<[u32; 5]>,
     pub harvest: Vec<[u32; 5]>,
     pub parameters: Vec<[u32; 6]>,
+    pub abandoned: Vec<[u32; 7]>,
+}
+
+/// No rows, in edition 1.
+impl Default for Rows {
+    fn default() -> Self {
+        Rows {
+            edition: 1,
+            conversion: Vec::new(),
+            stock: Vec::new(),
+            harvest: Vec::new(),
+            parameters: Vec::new(),
+            abandoned: Vec::new(),
+        }
+    }
 }
 
 impl Rows {
@@ -128,7 +161,8 @@ impl Rows {
             1 => self.conversion.len(),
             2 => self.stock.len(),
             3 => self.harvest.len(),
-            _ => self.parameters.len(),
+            4 => self.parameters.len(),
+            _ => self.abandoned.len(),
         }
     }
 
@@ -137,7 +171,8 @@ impl Rows {
             1 => &mut self.conversion[row],
             2 => &mut self.stock[row],
             3 => &mut self.harvest[row],
-            _ => &mut self.parameters[row],
+            4 => &mut self.parameters[row],
+            _ => &mut self.abandoned[row],
         }
     }
 
@@ -148,51 +183,85 @@ impl Rows {
             self.stock.concat(),
             self.harvest.concat(),
             self.parameters.concat(),
+            self.abandoned.concat(),
         ]
+    }
+
+    /// How many rows there are of each kind with ids.
+    pub fn counts(&self) -> RowCounts {
+        WITH_IDS.map(|kind| self.len(kind))
     }
 
     /// The return of these rows, with right headers and checks.
     pub fn to_bytes(&self) -> Vec<u8> {
-        let mut bytes = Vec::with_capacity(10 * BLOCK);
-        put_kind(&mut bytes, 1, &self.conversion);
-        put_kind(&mut bytes, 2, &self.stock);
-        put_kind(&mut bytes, 3, &self.harvest);
-        put_kind(&mut bytes, 4, &self.parameters);
+        let mut bytes = Vec::with_capacity(MOST_BLOCKS * BLOCK);
+        put_kind(&mut bytes, self.edition, 1, &self.conversion);
+        put_kind(&mut bytes, self.edition, 2, &self.stock);
+        put_kind(&mut bytes, self.edition, 3, &self.harvest);
+        put_kind(&mut bytes, self.edition, 4, &self.parameters);
+        put_kind(&mut bytes, self.edition, 5, &self.abandoned);
         seal(&mut bytes);
         bytes
     }
 
-    /// Good rows, this many of each of the first three kinds. More than 32 are
-    /// good in everything but their number.
-    pub fn good(rng: &mut Rng, counts: [usize; 3]) -> Self {
+    /// Good rows of edition 1, this many of each of the first three kinds. More
+    /// than 32 are good in everything but their number.
+    pub fn good(rng: &mut Rng, [conversion, stock, harvest]: [usize; 3]) -> Self {
+        Self::good_in(rng, 1, [conversion, stock, harvest, 0])
+    }
+
+    /// As [`Rows::good`], in this edition. Rows of abandoned land are good in
+    /// everything but edition 1.
+    pub fn good_in(rng: &mut Rng, edition: u16, counts: RowCounts) -> Self {
         let ids = counts.map(|count| good_ids(rng, count));
-        let [conversion, stock, harvest] = &ids;
+        let [conversion, stock, harvest, abandoned] = &ids;
         Rows {
+            edition,
             conversion: conversion
                 .iter()
                 .map(|&id| good_conversion(rng, id))
                 .collect(),
-            stock: stock.iter().map(|&id| good_row(rng, 2, Some(id))).collect(),
-            harvest: harvest
-                .iter()
-                .map(|&id| good_row(rng, 3, Some(id)))
-                .collect(),
+            stock: good_rows(rng, 2, stock),
+            harvest: good_rows(rng, 3, harvest),
             parameters: vec![good_row(rng, 4, None)],
+            abandoned: good_rows(rng, 5, abandoned),
         }
     }
 
-    /// Good rows with random counts from 0 to 32, the block borders favoured.
+    /// As [`Rows::good`], in edition 2 where there is abandoned land, and else
+    /// in either.
+    pub fn good_in_either(rng: &mut Rng, counts: RowCounts) -> Self {
+        let second = counts[3] > 0 || rng.one_in(4);
+        Self::good_in(rng, 1 + u16::from(second), counts)
+    }
+
+    /// Good rows of either edition with random counts from 0 to 32, the block
+    /// borders favoured.
     pub fn any_good(rng: &mut Rng) -> Self {
         Self::good_from(rng, 0)
     }
 
-    /// Good rows with at least `least` in each of the first three kinds.
+    /// Good rows of either edition with at least `least` in each of its kinds
+    /// with ids.
     pub fn good_from(rng: &mut Rng, least: usize) -> Self {
-        // Now and then all ten blocks.
+        // Now and then all blocks of the edition.
         let least = if rng.one_in(8) { 25 } else { least };
-        let counts = [0; 3].map(|_| any_count(rng).max(least));
-        Self::good(rng, counts)
+        let mut counts = WITH_IDS.map(|_| any_count(rng).max(least));
+        let edition = rng.pick(&[1, 2]);
+        if edition == 1 {
+            counts[3] = 0;
+        }
+        Self::good_in(rng, edition, counts)
     }
+}
+
+/// Counts drawn one by one; in half of them there is no abandoned land.
+pub fn drawn_counts(rng: &mut Rng, draw: impl Fn(&mut Rng) -> usize) -> RowCounts {
+    let mut counts = WITH_IDS.map(|_| draw(rng));
+    if rng.one_in(2) {
+        counts[3] = 0;
+    }
+    counts
 }
 
 fn any_count(rng: &mut Rng) -> usize {
@@ -203,10 +272,11 @@ fn any_count(rng: &mut Rng) -> usize {
     }
 }
 
-fn put_kind<const N: usize>(bytes: &mut Vec<u8>, kind: u8, rows: &[[u32; N]]) {
+fn put_kind<const N: usize>(bytes: &mut Vec<u8>, edition: u16, kind: u8, rows: &[[u32; N]]) {
     for rows in rows.chunks(12) {
         let start = bytes.len();
-        bytes.extend([kind, rows.len() as u8, 0, 0, 0, 0, 1, 0]);
+        bytes.extend([kind, rows.len() as u8, 0, 0, 0, 0]);
+        bytes.extend(edition.to_le_bytes());
         for row in rows {
             put_record(bytes, kind, row);
         }
@@ -294,6 +364,11 @@ pub fn good_ids(rng: &mut Rng, count: usize) -> Vec<u32> {
     }
 }
 
+fn good_rows<const N: usize>(rng: &mut Rng, kind: u8, ids: &[u32]) -> Vec<[u32; N]> {
+    let row = |&id| good_row(rng, kind, Some(id));
+    ids.iter().map(row).collect()
+}
+
 fn good_row<const N: usize>(rng: &mut Rng, kind: u8, id: Option<u32>) -> [u32; N] {
     let mut row = [0; N];
     for (value, (_, limit)) in row.iter_mut().zip(fields(kind)) {
@@ -324,11 +399,11 @@ fn good_conversion(rng: &mut Rng, id: u32) -> [u32; 15] {
 #[cfg(test)]
 mod tests {
     use super::*;
-    use crate::judge::{judge, Verdict};
+    use crate::judge::{judge, Counts, Verdict};
 
     #[test]
     fn every_kind_is_forty_bytes() {
-        for kind in 1..=4 {
+        for kind in 1..=5 {
             let width = |part: &Part| match *part {
                 Part::Field { width, .. } => width,
                 Part::Zero(width) => width,
@@ -337,10 +412,11 @@ mod tests {
         }
     }
 
-    /// "15, 5, 5 and 6" numbers, of which the first three have an id.
+    /// "15, 5, 5 and 6" numbers, of which the first three have an id, and 7 of
+    /// abandoned land, which has one too.
     #[test]
     fn limited_fields_come_once_each() {
-        let due = [(1, 1..15), (2, 1..5), (3, 1..5), (4, 0..6)];
+        let due = [(1, 1..15), (2, 1..5), (3, 1..5), (4, 0..6), (5, 1..7)];
         let due = due.map(|(kind, positions)| positions.map(move |position| (kind, position)));
         let due: Vec<(u8, usize)> = due.into_iter().flatten().collect();
         let found: Vec<(u8, usize)> = (0..LIMITED).map(limited).collect();
@@ -354,9 +430,45 @@ mod tests {
             for counts in [[count, 0, 0], [0, count, 32], [32, 32, count], [count; 3]] {
                 let bytes = Rows::good(&mut rng, counts).to_bytes();
                 let [c, s, h] = counts.map(|count| count as u32);
-                assert_eq!(judge(&bytes), Verdict::Accepted([c, s, h, 1]));
+                assert_eq!(judge(&bytes), accepted(1, [c, s, h, 1, 0]));
             }
         }
+    }
+
+    fn accepted(edition: u16, rows: [u32; 5]) -> Verdict {
+        Verdict::Accepted(Counts { edition, rows })
+    }
+
+    #[test]
+    fn abandoned_land_is_accepted_in_edition_2() {
+        let mut rng = Rng::new(5);
+        for count in 0..=MOST_ROWS {
+            for counts in [[0, 0, 0, count], [count, 0, 32, count], [32, 32, 32, count]] {
+                let mut rows = Rows::good_in(&mut rng, 2, counts);
+                let [c, s, h, a] = counts.map(|count| count as u32);
+                assert_eq!(judge(&rows.to_bytes()), accepted(2, [c, s, h, 1, a]));
+                rows.edition = 1;
+                let alone = count == 0;
+                assert_eq!(
+                    judge(&rows.to_bytes()) == accepted(1, [c, s, h, 1, 0]),
+                    alone
+                );
+            }
+        }
+    }
+
+    /// Thirteen blocks in edition 2 and ten in edition 1 come often.
+    #[test]
+    fn full_returns_come() {
+        let mut rng = Rng::new(6);
+        let mut full = [0; 2];
+        for _ in 0..1_000 {
+            let rows = Rows::any_good(&mut rng);
+            let blocks = rows.to_bytes().len() / BLOCK;
+            full[0] += u32::from(rows.edition == 1 && blocks == FIRST_FULL);
+            full[1] += u32::from(rows.edition == 2 && blocks == MOST_BLOCKS);
+        }
+        assert!(full.iter().all(|&times| times > 30), "{full:?}");
     }
 
     #[test]

@@ -2,7 +2,7 @@
 //! and several times, and random blocks.
 
 use crate::damage::{block, block_count, break_number, random_blocks};
-use crate::make::{repair_checks, seal, Rows, BLOCK};
+use crate::make::{drawn_counts, repair_checks, seal, Rows, BLOCK};
 use crate::rng::Rng;
 use crate::spoil::spoil;
 use crate::sweep::Case;
@@ -34,7 +34,7 @@ pub fn case(rng: &mut Rng) -> Case {
 
 fn good(rng: &mut Rng) -> Case {
     let rows = Rows::any_good(rng);
-    let how = format!("good, {:?} rows", [1, 2, 3].map(|kind| rows.len(kind)));
+    let how = format!("good, edition {}, {:?} rows", rows.edition, rows.counts());
     Case {
         how,
         bytes: rows.to_bytes(),
@@ -61,8 +61,8 @@ fn alone(rng: &mut Rng) -> Case {
     let number = rng.pick(&[1, 2, 2, 3, 3, 4, 4, 4, 5, 5, 6, 6, 7, 7, 7, 8, 8, 8]);
     if number == 4 && rng.one_in(3) {
         // Small returns, where a block more or less has room.
-        let counts = [0; 3].map(|_| rng.pick(&[0, 1, 5, 12, 13]));
-        let mut bytes = Rows::good(rng, counts).to_bytes();
+        let counts = drawn_counts(rng, |rng| rng.pick(&[0, 1, 5, 12, 13]));
+        let mut bytes = Rows::good_in_either(rng, counts).to_bytes();
         let how = break_number(rng, &mut bytes, 4);
         return Case {
             how: format!("small, {how}"),

@@ -1,23 +1,23 @@
 //! Reading: the rows of a return into one lent area, kind after kind, with
-//! their numbers beside them.
+//! the edition and their numbers beside them.
 
 use crate::judge::{check, Checked, Refusal};
-use crate::kinds::KINDS;
+use crate::kinds::{COUNTS_ROOM, KINDS};
 
-/// Reads a return, as C sees it: 0 with the rows at the front of `rows` and the
-/// number of each kind at the front of `counts`, or the refusal with both as
-/// they were.
+/// Reads a return, as C sees it: 0 with the rows at the front of `rows`, and the
+/// edition and the number of each kind at the front of `counts`, or the refusal
+/// with both as they were.
 pub fn read(bytes: &[u8], rows: &mut [u32], counts: &mut [u32]) -> u32 {
     match check(bytes).and_then(|checked| rooms_suffice(checked, rows.len(), counts.len())) {
         Ok(checked) => {
             let mut rest = rows;
-            for (kind, &count) in (1..).zip(&checked.counts) {
+            for (kind, &count) in (1..).zip(&checked.counts.rows) {
                 let layout = &KINDS[usize::from(kind) - 1];
                 let (room, later) = rest.split_at_mut(layout.numbers * count as usize);
                 (layout.take)(checked, kind, room);
                 rest = later;
             }
-            counts[..KINDS.len()].copy_from_slice(&checked.counts);
+            counts[..COUNTS_ROOM].copy_from_slice(&checked.counts.numbers());
             0
         }
         Err(refusal) => refusal.answer(),
@@ -37,9 +37,11 @@ pub fn ends(counts: &[u32; KINDS.len()]) -> [usize; KINDS.len()] {
 /// whose rows end behind the area.
 fn rooms_suffice(checked: Checked, rows: usize, counts: usize) -> Result<Checked, Refusal> {
     let refused = |place| Err(Refusal { number: 9, place });
-    let short = ends(&checked.counts).iter().position(|&end| end > rows);
+    let short = ends(&checked.counts.rows)
+        .iter()
+        .position(|&end| end > rows);
     match short {
-        _ if counts < KINDS.len() => refused(0),
+        _ if counts < COUNTS_ROOM => refused(0),
         Some(kind) => refused(kind as u32 + 1),
         None => Ok(checked),
     }

@@ -2,9 +2,10 @@
 //! id in its turn.
 
 use crate::kinds::KINDS;
-use crate::make::{fields, limited, Rows, LIMITED, MOST_ROWS};
+use crate::make::{drawn_counts, fields, limited, place_of, RowCounts, Rows};
+use crate::make::{LIMITED, MOST_ROWS, WITH_IDS};
 use crate::rng::Rng;
-use crate::rowlists::{wrap_sum, RowLists};
+use crate::rowlists::{wrap_sum, RowLists, UNKNOWN_EDITIONS};
 use crate::spoil::{spoil_id, BAD_IDS};
 
 type Family = (usize, fn(usize, &mut Rng) -> RowLists);
@@ -13,11 +14,12 @@ type Family = (usize, fn(usize, &mut Rng) -> RowLists);
 const COUNTS: usize = MOST_ROWS + 6;
 pub const VALUES: usize = 20;
 
-const FAMILIES: [Family; 8] = [
-    (COUNTS * 3 * 2, counts),
-    (LENGTHS, lengths),
+const FAMILIES: [Family; 9] = [
+    (COUNTS * WITH_IDS.len() * 2, counts),
+    (2 * LENGTHS, lengths),
     (LIMITED * MOST_ROWS * VALUES, values),
-    ((MOST_ROWS - 1) * 3 * BAD_IDS.len(), ids),
+    ((MOST_ROWS - 1) * WITH_IDS.len() * BAD_IDS.len(), ids),
+    (EDITIONS * EDITION_TRIES, editions),
     (PARAMETER_ROWS * 8, parameter_rows),
     (LENGTH_COUNTS * 3 * 8, length_counts),
     (2 * AREAS, areas),
@@ -42,10 +44,16 @@ pub fn case(mut index: usize, rng: &mut Rng) -> RowLists {
 
 /// Every count of each kind, the other kinds empty or of any count.
 fn counts(index: usize, rng: &mut Rng) -> RowLists {
-    let (count, kind, alone) = (index / 6, index / 2 % 3, index.is_multiple_of(2));
-    let mut counts = [0; 3].map(|_| if alone { 0 } else { rng.below(MOST_ROWS + 1) });
-    counts[kind] = count;
-    let rows = Rows::good(rng, counts);
+    let (turn, alone) = (index / 2, index.is_multiple_of(2));
+    let (count, place) = (turn / WITH_IDS.len(), turn % WITH_IDS.len());
+    let any = |rng: &mut Rng| rng.below(MOST_ROWS + 1);
+    let mut counts = if alone {
+        [0; 4]
+    } else {
+        drawn_counts(rng, any)
+    };
+    counts[place] = count;
+    let rows = Rows::good_in_either(rng, counts);
     RowLists::of(format!("row counts {counts:?}"), &rows)
 }
 
@@ -63,20 +71,26 @@ const LENGTHS: usize = {
     all
 };
 
-/// Every length of each kind: whole rows, cut in the middle of a row, too many.
-fn lengths(mut index: usize, rng: &mut Rng) -> RowLists {
+/// Every length of each kind, in each edition: whole rows, cut in the middle of a
+/// row, too many.
+fn lengths(index: usize, rng: &mut Rng) -> RowLists {
+    let (edition, mut index) = (1 + (index % 2) as u16, index / 2);
     let mut kind = 0;
     while index >= lengths_of(kind) {
         index -= lengths_of(kind);
         kind += 1;
     }
-    let mut counts = [0; 3].map(|_| rng.below(4));
-    if let Some(count) = counts.get_mut(kind) {
-        *count = index.div_ceil(KINDS[kind].numbers);
+    let mut counts = [0; WITH_IDS.len()].map(|_| rng.below(4));
+    if edition == 1 {
+        counts[3] = 0;
     }
-    let mut lists = Rows::good(rng, counts).lists();
+    if let Some(place) = place_of(kind as u8 + 1) {
+        counts[place] = index.div_ceil(KINDS[kind].numbers);
+    }
+    let mut lists = Rows::good_in(rng, edition, counts).lists();
     lists[kind].resize(index, 0);
-    RowLists::joined(format!("{} of length {index}", KINDS[kind].name), &lists)
+    let how = format!("{} of length {index}, edition {edition}", KINDS[kind].name);
+    RowLists::joined(how, u32::from(edition), &lists)
 }
 
 /// A value to try in a field of this limit: good ones, one above, and some that
@@ -106,6 +120,10 @@ pub fn value(which: usize, limit: u32, rng: &mut Rng) -> u32 {
     }
 }
 
+fn some_counts(rng: &mut Rng) -> RowCounts {
+    drawn_counts(rng, |rng| rng.below(14))
+}
+
 /// Every field of every row with every value. Numbers 7 and 8 may be broken
 /// besides, or instead.
 fn values(index: usize, rng: &mut Rng) -> RowLists {
@@ -114,11 +132,11 @@ fn values(index: usize, rng: &mut Rng) -> RowLists {
     let (kind, field) = limited(field);
     // There is one row of parameters.
     let row = if kind == 4 { 0 } else { row };
-    let mut counts = [0; 3].map(|_| rng.below(14));
-    if kind != 4 {
-        counts[usize::from(kind) - 1] = row + 1 + rng.below(MOST_ROWS - row);
+    let mut counts = some_counts(rng);
+    if let Some(place) = place_of(kind) {
+        counts[place] = row + 1 + rng.below(MOST_ROWS - row);
     }
-    let mut rows = Rows::good(rng, counts);
+    let mut rows = Rows::good_in_either(rng, counts);
     let (_, limit) = fields(kind).nth(field).expect("a field of this kind");
     let value = value(which, limit, rng);
     rows.row(kind, row)[field] = value;
@@ -131,12 +149,31 @@ fn values(index: usize, rng: &mut Rng) -> RowLists {
 /// Every row with an id not above the one before, in every way.
 fn ids(index: usize, rng: &mut Rng) -> RowLists {
     let (way, rest) = (BAD_IDS[index % BAD_IDS.len()], index / BAD_IDS.len());
-    let (kind, row) = (1 + (rest % 3) as u8, 1 + rest / 3);
-    let mut counts = [0; 3].map(|_| rng.below(14));
-    counts[usize::from(kind) - 1] = row + 1 + rng.below(MOST_ROWS - row);
-    let mut rows = Rows::good(rng, counts);
+    let (place, row) = (rest % WITH_IDS.len(), 1 + rest / WITH_IDS.len());
+    let kind = WITH_IDS[place];
+    let mut counts = some_counts(rng);
+    counts[place] = row + 1 + rng.below(MOST_ROWS - row);
+    let mut rows = Rows::good_in_either(rng, counts);
     spoil_id(&mut rows, kind, row, way);
     RowLists::of(format!("id {way:?} at kind {kind} row {row}"), &rows)
+}
+
+/// Those that there aren't, and 1 and 2.
+const EDITIONS: usize = UNKNOWN_EDITIONS.len() + 2;
+const EDITION_TRIES: usize = 40;
+
+/// Every edition, with and without abandoned land.
+fn editions(index: usize, rng: &mut Rng) -> RowLists {
+    let (which, turn) = (index % EDITIONS, index / EDITIONS);
+    let mut counts = some_counts(rng);
+    if turn.is_multiple_of(2) {
+        counts[3] = 1 + rng.below(MOST_ROWS + 1);
+    }
+    let mut made = RowLists::of(String::new(), &Rows::good_in(rng, 2, counts));
+    let unknown = UNKNOWN_EDITIONS.get(which).copied();
+    made.edition = unknown.unwrap_or((EDITIONS - which) as u32);
+    made.how = format!("row counts {counts:?} in edition {}", made.edition);
+    made
 }
 
 /// None, one, two and more parameter rows.

@@ -1,19 +1,22 @@
 //! A maker of rows for the writer: good ones, lengths that are no whole number
-//! of rows, too many or don't add up, and each rule broken alone and beside
-//! others.
+//! of rows, too many or don't add up, editions that there aren't or that don't
+//! have a kind, and each rule broken alone and beside others.
 
 use crate::drive::Input;
 use crate::kinds::KINDS;
 use crate::make::{fields, Rows};
 use crate::rng::Rng;
 use crate::row_sweeps::{value, VALUES};
-use crate::spoil::spoil;
+use crate::sentences;
+use crate::spoil::{any_limited, spoil};
+use crate::writer::write;
 
-/// An area of rows, kind after kind, with the length of each kind's part, and
-/// a short word on how they were made.
+/// An edition to write and an area of rows, kind after kind, with the length of
+/// each kind's part, and a short word on how they were made.
 #[derive(Clone)]
 pub struct RowLists {
     pub how: String,
+    pub edition: u32,
     pub rows: Vec<u32>,
     pub lengths: Vec<u32>,
 }
@@ -23,15 +26,21 @@ pub type Lists = [Vec<u32>; KINDS.len()];
 
 impl RowLists {
     pub fn of(how: String, rows: &Rows) -> Self {
-        Self::joined(how, &rows.lists())
+        Self::joined(how, u32::from(rows.edition), &rows.lists())
     }
 
-    pub fn joined(how: String, lists: &Lists) -> Self {
+    pub fn joined(how: String, edition: u32, lists: &Lists) -> Self {
         RowLists {
             how,
+            edition,
             rows: lists.concat(),
             lengths: lists.iter().map(|list| list.len() as u32).collect(),
         }
+    }
+
+    /// The second program's own answer to them.
+    pub fn write(&self, room: &mut [u8], size: &mut [u32]) -> u32 {
+        write(self.edition, &self.rows, &self.lengths, room, size)
     }
 }
 
@@ -40,15 +49,25 @@ impl Input for RowLists {
         &self.how
     }
 
-    /// The lengths, then the area, in decimal.
+    /// The edition, the lengths, then the area, in decimal.
     fn dump(&self) -> Vec<u8> {
-        format!("{:?}\n{:?}\n", self.lengths, self.rows).into_bytes()
+        format!("{}\n{:?}\n{:?}\n", self.edition, self.lengths, self.rows).into_bytes()
+    }
+
+    fn edition(&self) -> u32 {
+        self.edition
+    }
+
+    const SENTENCES: &'static [&'static str] = &sentences::OF_WRITING;
+
+    fn sentences(&self, answer: u32) -> Vec<usize> {
+        sentences::of_writing(self, answer)
     }
 }
 
 /// Random rows with their lengths.
 pub fn case(rng: &mut Rng) -> RowLists {
-    match rng.below(20) {
+    match rng.below(22) {
         0..5 => RowLists::of("good".to_string(), &Rows::any_good(rng)),
         5..12 => {
             let number = rng.pick(&[5, 6, 7, 7, 8, 8, 10]);
@@ -68,13 +87,23 @@ pub fn case(rng: &mut Rng) -> RowLists {
             let number = rng.pick(&[5, 6, 7, 8]);
             broken(rng, &[number; 4])
         }
+        19 | 20 => {
+            let numbers = some_of(rng, &[5, 6, 7, 8], 4);
+            let mut made = broken(rng, &numbers);
+            break_edition(rng, &mut made);
+            made
+        }
         _ => {
-            let all = [5, 6, 7, 8, 10].map(|number| (rng.one_in(2), number));
-            let numbers = all.into_iter().filter_map(|(taken, n)| taken.then_some(n));
-            let numbers: Vec<u32> = numbers.collect();
+            let numbers = some_of(rng, &[5, 6, 7, 8, 10], 2);
             broken(rng, &numbers)
         }
     }
+}
+
+/// Each of these numbers, or not: one in so many.
+fn some_of(rng: &mut Rng, numbers: &[u32], one_in: usize) -> Vec<u32> {
+    let taken = numbers.iter().filter(|_| rng.one_in(one_in));
+    taken.copied().collect()
 }
 
 /// Breaks these numbers; 10 goes last, because it may take the rows' order.
@@ -88,9 +117,10 @@ fn broken(rng: &mut Rng, numbers: &[u32]) -> RowLists {
             how += &format!(", {}", spoil(rng, &mut rows, number));
         }
     }
+    let edition = u32::from(rows.edition);
     let mut lists = rows.lists();
     if !numbers.contains(&10) {
-        return RowLists::joined(how, &lists);
+        return RowLists::joined(how, edition, &lists);
     }
     // One kind, two of them, the lengths as a whole, or one and the whole.
     let ways = rng.below(5);
@@ -98,7 +128,7 @@ fn broken(rng: &mut Rng, numbers: &[u32]) -> RowLists {
     for _ in 0..kinds {
         how += &break_list(rng, &mut lists);
     }
-    let mut made = RowLists::joined(how, &lists);
+    let mut made = RowLists::joined(how, edition, &lists);
     if ways >= 3 {
         break_lengths(rng, &mut made);
     }
@@ -107,14 +137,30 @@ fn broken(rng: &mut Rng, numbers: &[u32]) -> RowLists {
 
 /// A value that its field has no width for, or that only its limit forbids.
 fn far_above(rng: &mut Rng, rows: &mut Rows) -> String {
-    let kind = rng.pick(&[1, 1, 2, 3, 4]);
-    let row = rng.below(rows.len(kind));
-    let first = usize::from(kind != 4);
-    let field = first + rng.below(fields(kind).count() - first);
+    let (kind, row, field) = any_limited(rng, rows);
     let (_, limit) = fields(kind).nth(field).expect("a field of this kind");
     let value = value(rng.below(VALUES), limit, rng).max(limit + 1);
     rows.row(kind, row)[field] = value;
     format!(", 6: {value} at kind {kind} row {row} field {field}")
+}
+
+/// Editions that there aren't. Some look like 1 or 2 to a reader of 8 or 16 bits.
+#[rustfmt::skip]
+pub const UNKNOWN_EDITIONS: [u32; 18] = [
+    0, 3, 4, 255, 256, 257, 258, 512, 65_535, 65_536, 65_537, 65_538,
+    1 << 24, 1 << 31, (1 << 31) + 1, (1 << 31) + 2, u32::MAX - 1, u32::MAX,
+];
+
+/// Another edition: one that there isn't, or 1, which has no abandoned land.
+fn break_edition(rng: &mut Rng, made: &mut RowLists) {
+    let any = rng.from_to(3, u32::MAX);
+    made.edition = match rng.below(4) {
+        0 => any,
+        1 => rng.pick(&UNKNOWN_EDITIONS),
+        _ if made.edition == 2 => 1,
+        _ => 2,
+    };
+    made.how += &format!(", edition {}", made.edition);
 }
 
 /// Breaks number 10 at one kind, by the length of its list alone.

@@ -1,9 +1,8 @@
 use super::*;
 use crate::row_sweeps;
-use crate::writer::write;
 
 fn answer(made: &RowLists) -> u32 {
-    write(&made.rows, &made.lengths, &mut [0; 5_120], &mut [0])
+    made.write(&mut [0; 6_656], &mut [0])
 }
 
 #[test]
@@ -22,7 +21,7 @@ fn every_index_makes_lists() {
 #[test]
 fn every_answer_comes_often() {
     let mut given = [0; 12];
-    let mut places = [0; 5];
+    let mut places = [0; 6];
     for index in 0..20_000 {
         let answer = answer(&case(&mut Rng::for_input(42, index)));
         given[(answer / 1000) as usize] += 1;
@@ -57,6 +56,7 @@ fn order_and_places() {
         stock: vec![[5, 0, 1, 1, 1], [6, 1, 1, 1, 1]],
         harvest: vec![[9, 1, 1, 1, 1]],
         parameters: vec![[1; 6]],
+        ..Rows::default()
     };
     let judged = |rows: &Rows| answer(&RowLists::of(String::new(), rows));
     assert_eq!(judged(&rows), 0);
@@ -80,9 +80,9 @@ fn order_and_places() {
     assert_eq!(judged(&rows), 10_004);
     let mut lists = rows.lists();
     lists[2].pop();
-    assert_eq!(answer(&RowLists::joined(String::new(), &lists)), 10_003);
+    assert_eq!(answer(&RowLists::joined(String::new(), 1, &lists)), 10_003);
     lists[0].extend([0; 20 * 15]);
-    let mut made = RowLists::joined(String::new(), &lists);
+    let mut made = RowLists::joined(String::new(), 1, &lists);
     assert_eq!(answer(&made), 10_001);
     made.rows.pop();
     assert_eq!(answer(&made), 10_000);
@@ -92,39 +92,100 @@ fn order_and_places() {
 #[test]
 fn lengths_add_up() {
     let rows: Vec<u32> = (0..31).map(|i| if i == 0 { 9 } else { 0 }).collect();
-    let answer = |rows: &[u32], lengths: &[u32]| write(rows, lengths, &mut [0; 5_120], &mut [0; 1]);
-    assert_eq!(answer(&rows, &[15, 5, 5, 6]), 0);
+    let answer =
+        |rows: &[u32], lengths: &[u32]| write(1, rows, lengths, &mut [0; 5_120], &mut [0; 1]);
+    assert_eq!(answer(&rows, &[15, 5, 5, 6, 0]), 0);
     // Each sum is 31, or would be in 32 bits.
     for lengths in [
         &[15, 5, 11][..],
-        &[15, 5, 5, 6, 0],
-        &[15, 5, 5, 5, 1],
+        &[15, 5, 5, 6],
+        &[15, 5, 5, 6, 0, 0],
+        &[15, 5, 5, 5, 0, 1],
         &[31],
-        &[15, 5, u32::MAX, 12],
-        &[15, 5, 5, 5],
-        &[15, 5, 5, 12],
-        &[0, 0, 0, 0],
-        &[1 << 31, 1 << 31, 25, 6],
-        &[1 << 30, 1 << 30, 1 << 30, (1 << 30) + 31],
-        &[u32::MAX, u32::MAX, u32::MAX, 34],
+        &[15, 5, u32::MAX, 12, 0],
+        &[15, 5, 5, 5, 0],
+        &[15, 5, 5, 12, 0],
+        &[0, 0, 0, 0, 0],
+        &[1 << 31, 1 << 31, 25, 6, 0],
+        &[1 << 30, 1 << 30, 1 << 30, (1 << 30) + 31, 0],
+        &[u32::MAX, u32::MAX, u32::MAX, 34, 0],
+        &[u32::MAX, u32::MAX, u32::MAX, u32::MAX, 35],
     ] {
         assert_eq!(answer(&rows, lengths), 10_000, "{lengths:?}");
     }
     assert_eq!(answer(&[], &[]), 10_000);
     // The sum is right: the kinds come next.
-    assert_eq!(answer(&[], &[0, 0, 0, 0]), 10_004);
-    assert_eq!(answer(&rows, &[15, 5, 6, 5]), 10_003);
-    assert_eq!(answer(&rows, &[16, 4, 5, 6]), 10_001);
-    assert_eq!(answer(&rows, &[0, 20, 5, 6]), 5001);
-    assert_eq!(answer(&rows[15..], &[0, 10, 0, 6]), 5001);
-    assert_eq!(answer(&rows[20..], &[0, 5, 0, 6]), 0);
-    assert_eq!(answer(&rows[20..], &[0, 0, 5, 6]), 0);
+    assert_eq!(answer(&[], &[0, 0, 0, 0, 0]), 10_004);
+    assert_eq!(answer(&rows, &[15, 5, 6, 5, 0]), 10_003);
+    assert_eq!(answer(&rows, &[16, 4, 5, 6, 0]), 10_001);
+    assert_eq!(answer(&rows, &[0, 20, 5, 6, 0]), 5001);
+    assert_eq!(answer(&rows[15..], &[0, 10, 0, 6, 0]), 5001);
+    assert_eq!(answer(&rows[20..], &[0, 5, 0, 6, 0]), 0);
+    assert_eq!(answer(&rows[20..], &[0, 0, 5, 6, 0]), 0);
+}
+
+/// By hand: the edition is tried at place 0, abandoned land at place 5.
+#[test]
+fn editions() {
+    let rows = [0; 13];
+    let answer = |edition: u32, lengths: &[u32]| {
+        let rows = &rows[..lengths.iter().sum::<u32>() as usize];
+        write(edition, rows, lengths, &mut [0; 1_024], &mut [0; 1])
+    };
+    for (lengths, first, second) in [
+        (&[0, 0, 0, 6, 7][..], 10_005, 0),
+        (&[0, 0, 0, 6, 0], 0, 0),
+        (&[0, 0, 0, 6, 1], 10_005, 10_005),
+        (&[0, 0, 0, 6, 6], 10_005, 10_005),
+        // A lower kind's fault comes first, and so does place 0.
+        (&[0, 0, 0, 5, 7], 10_004, 10_004),
+        (&[1, 0, 0, 5, 7], 10_001, 10_001),
+        (&[0, 0, 0, 6], 10_000, 10_000),
+    ] {
+        assert_eq!(answer(1, lengths), first, "{lengths:?}");
+        assert_eq!(answer(2, lengths), second, "{lengths:?}");
+        for edition in UNKNOWN_EDITIONS {
+            assert_eq!(answer(edition, lengths), 10_000, "{lengths:?}");
+        }
+    }
+}
+
+/// By hand: rows of abandoned land stand behind the parameters, and are limited
+/// as land stock is.
+#[test]
+fn places_of_abandoned_land() {
+    let mut rows = Rows {
+        edition: 2,
+        harvest: vec![[9, 1, 1, 1, 1]],
+        parameters: vec![[1; 6]],
+        abandoned: (0..13).map(|id| [id, 1, 1, 1, 1, 1, 1]).collect(),
+        ..Rows::default()
+    };
+    let judged = |rows: &Rows| answer(&RowLists::of(String::new(), rows));
+    assert_eq!(judged(&rows), 0);
+    rows.abandoned[12][1..].copy_from_slice(&[10_000_000, 10_000, 1_000].repeat(2));
+    assert_eq!(judged(&rows), 0);
+    // Harvest is block 0, the parameters block 1, abandoned land 2 and 3.
+    rows.abandoned[12][6] = 1_001;
+    assert_eq!(judged(&rows), 6036);
+    rows.abandoned[11][4] = 10_000_001;
+    assert_eq!(judged(&rows), 6035);
+    rows.abandoned[0][2] = 65_536;
+    assert_eq!(judged(&rows), 6024);
+    rows.abandoned[12][0] = 11;
+    assert_eq!(judged(&rows), 5036);
+    rows.abandoned.resize(33, [99; 7]);
+    assert_eq!(judged(&rows), 10_005);
+    rows.edition = 1;
+    assert_eq!(judged(&rows), 10_005);
+    rows.abandoned.clear();
+    assert_eq!(judged(&rows), 0);
 }
 
 /// Right in 32 bits and wrong by 2^32 or more.
 #[test]
 fn sums_wrap() {
-    let mut over = [0; 4];
+    let mut over = [0; 5];
     for index in 0..2_000 {
         let made = row_sweeps::case(row_sweeps::size() - 1, &mut Rng::for_input(45, index));
         let sum: u64 = made.lengths.iter().map(|&length| u64::from(length)).sum();
@@ -149,7 +210,7 @@ fn rooms() {
         (0, 3, 9000),
     ] {
         let (mut room, mut size) = (vec![0xAA; room], vec![7; size]);
-        assert_eq!(write(&made.rows, &made.lengths, &mut room, &mut size), due);
+        assert_eq!(made.write(&mut room, &mut size), due);
         let untouched = room.iter().all(|&byte| byte == 0xAA) && size.iter().all(|&s| s == 7);
         assert_eq!(untouched, due != 0);
     }

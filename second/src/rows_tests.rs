@@ -2,7 +2,7 @@
 
 use super::*;
 use crate::inputs;
-use crate::kinds::ROWS_ROOM;
+use crate::kinds::{RETURN_ROOM, ROWS_ROOM};
 use crate::make::{Rows, MOST_ROWS};
 use crate::rng::Rng;
 use crate::writer::write;
@@ -34,31 +34,34 @@ impl Memory {
 }
 
 /// Elements, from numbers of rows.
-fn lengths(counts: [u32; 4]) -> [u32; 4] {
-    [0, 1, 2, 3].map(|kind| KINDS[kind].numbers as u32 * counts[kind])
+fn lengths(counts: [u32; 5]) -> [u32; 5] {
+    [0, 1, 2, 3, 4].map(|kind| KINDS[kind].numbers as u32 * counts[kind])
 }
 
 /// "An accepted return, read and written again, is the same bytes."
 #[test]
 fn read_then_written_is_the_same() {
-    let mut accepted = 0;
+    let mut accepted = [0; 2];
     for index in 0..20_000 {
         let case = inputs::with_figures(index, &mut Rng::for_input(91, index as u64));
         let Ok(checked) = check(&case.bytes) else {
             continue;
         };
-        accepted += 1;
-        let lengths = lengths(checked.counts);
-        let mut memory = Memory::new(lengths.iter().sum::<u32>() as usize, 4);
+        let edition = checked.counts.edition;
+        accepted[usize::from(edition) - 1] += 1;
+        let lengths = lengths(checked.counts.rows);
+        let mut memory = Memory::new(lengths.iter().sum::<u32>() as usize, 6);
         assert_eq!(memory.read(&case.bytes), 0);
-        assert_eq!(memory.counts, checked.counts);
+        assert_eq!(memory.counts[0], u32::from(edition));
+        assert_eq!(memory.counts[1..], checked.counts.rows);
         let mut room = vec![0xAA; case.bytes.len()];
         let mut size = [0];
-        assert_eq!(write(&memory.rows, &lengths, &mut room, &mut size), 0);
+        let Memory { rows, counts } = &memory;
+        assert_eq!(write(counts[0], rows, &lengths, &mut room, &mut size), 0);
         assert!(room == case.bytes, "{}", case.how);
         assert_eq!(size[0] as usize, case.bytes.len());
     }
-    assert!(accepted > 5_000, "{accepted}");
+    assert!(accepted.iter().all(|&times| times > 2_500), "{accepted:?}");
 }
 
 /// Good rows written read back as those rows, and the maker, which has its own
@@ -69,25 +72,37 @@ fn written_then_read_is_the_same() {
     for turn in 0..4 * (MOST_ROWS + 1) {
         let count = turn / 4;
         let counts = [[count, 0, 0], [0, count, 5], [31, 32, count], [count; 3]][turn % 4];
-        let rows = Rows::good(&mut rng, counts);
-        let lists = rows.lists();
-        let (area, lengths) = (lists.concat(), lists.map(|list| list.len() as u32));
-        let mut room = vec![0xAA; 5_130];
-        let mut size = [0, 77];
-        assert_eq!(write(&area, &lengths, &mut room, &mut size), 0);
-        let bytes = rows.to_bytes();
-        assert_eq!(size, [bytes.len() as u32, 77]);
-        assert!(room[..bytes.len()] == bytes);
-        assert!(room[bytes.len()..].iter().all(|&byte| byte == 0xAA));
-
-        let mut memory = Memory::new(ROWS_ROOM + 9, 6);
-        assert_eq!(memory.read(&bytes), 0);
-        let (front, rest) = memory.rows.split_at(area.len());
-        assert_eq!(front, area);
-        assert!(rest.iter().all(|&element| element == PATTERN));
         let [c, s, h] = counts.map(|count| count as u32);
-        assert_eq!(memory.counts, [c, s, h, 1, PATTERN, PATTERN]);
+        let rows = Rows::good(&mut rng, counts);
+        written_and_read(&rows, [1, c, s, h, 1, 0]);
+        // The same in edition 2, without abandoned land and with some.
+        for abandoned in [0, count, MOST_ROWS - count] {
+            let [c, s, h] = counts;
+            let rows = Rows::good_in(&mut rng, 2, [c, s, h, abandoned]);
+            let [c, s, h, a] = [c, s, h, abandoned].map(|count| count as u32);
+            written_and_read(&rows, [2, c, s, h, 1, a]);
+        }
     }
+}
+
+fn written_and_read(rows: &Rows, counts: [u32; 6]) {
+    let lists = rows.lists();
+    let (area, lengths) = (lists.concat(), lists.map(|list| list.len() as u32));
+    let mut room = vec![0xAA; RETURN_ROOM + 10];
+    let mut size = [0, 77];
+    assert_eq!(write(counts[0], &area, &lengths, &mut room, &mut size), 0);
+    let bytes = rows.to_bytes();
+    assert_eq!(size, [bytes.len() as u32, 77]);
+    assert!(room[..bytes.len()] == bytes);
+    assert!(room[bytes.len()..].iter().all(|&byte| byte == 0xAA));
+
+    let mut memory = Memory::new(ROWS_ROOM + 9, 8);
+    assert_eq!(memory.read(&bytes), 0);
+    let (front, rest) = memory.rows.split_at(area.len());
+    assert_eq!(front, area);
+    assert!(rest.iter().all(|&element| element == PATTERN));
+    assert_eq!(memory.counts[..6], counts);
+    assert_eq!(memory.counts[6..], [PATTERN; 2]);
 }
 
 /// By hand: 2, 3, 1 and 1 rows end at elements 30, 45, 50 and 56.
@@ -95,18 +110,18 @@ fn written_then_read_is_the_same() {
 fn short_rooms_are_refused_by_kind() {
     let bytes = Rows::good(&mut Rng::new(93), [2, 3, 1]).to_bytes();
     for (rows, counts, due) in [
-        (56, 4, 0),
-        (57, 5, 0),
-        (55, 4, 9004),
-        (50, 4, 9004),
-        (49, 4, 9003),
+        (56, 6, 0),
+        (57, 7, 0),
+        (55, 6, 9004),
+        (50, 6, 9004),
+        (49, 6, 9003),
         (45, 9, 9003),
-        (44, 4, 9002),
-        (30, 4, 9002),
-        (29, 4, 9001),
-        (0, 4, 9001),
-        (56, 3, 9000),
-        (29, 3, 9000),
+        (44, 6, 9002),
+        (30, 6, 9002),
+        (29, 6, 9001),
+        (0, 6, 9001),
+        (56, 5, 9000),
+        (29, 5, 9000),
         (0, 0, 9000),
     ] {
         let mut memory = Memory::new(rows, counts);
@@ -116,7 +131,13 @@ fn short_rooms_are_refused_by_kind() {
     // A kind without rows needs no room: the place is a kind that has some.
     let bytes = Rows::good(&mut Rng::new(94), [0, 0, 2]).to_bytes();
     for (rows, due) in [(16, 0), (15, 9004), (10, 9004), (9, 9003), (0, 9003)] {
-        assert_eq!(Memory::new(rows, 4).read(&bytes), due, "{rows}");
+        assert_eq!(Memory::new(rows, 6).read(&bytes), due, "{rows}");
+    }
+    // Two rows of abandoned land more end at element 30.
+    let second = Rows::good_in(&mut Rng::new(95), 2, [0, 0, 2, 2]).to_bytes();
+    for (rows, due) in [(30, 0), (29, 9005), (16, 9005), (15, 9004), (9, 9003)] {
+        assert_eq!(Memory::new(rows, 6).read(&second), due, "{rows}");
+        assert_eq!(Memory::new(rows, 5).read(&second), 9000, "{rows}");
     }
     // A refusal of the bytes comes before.
     assert_eq!(Memory::new(0, 0).read(&bytes[1..]), 1000);

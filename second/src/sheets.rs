@@ -1,8 +1,10 @@
-//! Worksheets 5-1, 5-2 and 5-3 of the paper (01), in whole numbers.
+//! Worksheets 5-1, 5-2 and 5-3 of the paper (01) and 5-4 (02, §1), in whole
+//! numbers.
 //!
 //! The largest values at the limits say how wide each figure must be:
-//! E 3.2 x 10^15, K 3.84 x 10^12, L 3.2 x 10^14, O 3.84 x 10^17 and 11 P
-//! 7.04 x 10^18 fit 64 bits, and so does one conversion row (10^19, unsigned).
+//! E 3.2 x 10^15, K 3.84 x 10^12, L 3.2 x 10^14, O 3.84 x 10^17, 11 P
+//! 7.04 x 10^18, the uptake 6.4 x 10^15 and 11 times that fit 64 bits, and so
+//! does one conversion row (10^19, unsigned).
 //! A sum of rows (3.2 x 10^20) doesn't, nor do the numerators of the gases; the
 //! widest, 23 C x N/C x ratio, is 7.36 x 10^27 and well inside 128 bits.
 
@@ -28,6 +30,8 @@ pub struct Worksheets {
     pub co: u64,
     pub n2o: u64,
     pub nox: u64,
+    pub uptake: u64,
+    pub uptake_co2: u64,
 }
 
 /// The worksheets of a return, or its refusal.
@@ -60,7 +64,7 @@ pub fn lines(bytes: &[u8], room: &mut [u8]) -> usize {
 }
 
 /// How many numbers C gets for all figures, three for each.
-pub const NUMBERS: usize = 51;
+pub const NUMBERS: usize = 57;
 
 /// As C asks for the figures: 0 and their numbers at the front of `room`, or
 /// 1,000 times the refusal number plus the place and `room` as it was.
@@ -85,6 +89,7 @@ impl Worksheets {
     pub fn of(checked: Checked) -> Self {
         let e = checked.records(2).map(grown).sum();
         let k = checked.records(3).map(taken).sum();
+        let uptake: u64 = checked.records(5).map(regrown).sum();
         let mut l = 0;
         let [mut onsite, mut offsite, mut decay] = [0u128; 3];
         for row in checked.records(1).map(Conversion::of) {
@@ -121,6 +126,9 @@ impl Worksheets {
             co: gas(7, co, 3_000_000_000_000),
             n2o: gas(11, nitrogen * n2o, 7_000_000_000_000_000),
             nox: gas(23, nitrogen * nox, 7_000_000_000_000_000),
+            uptake,
+            // In 10^-7 kt C = 10^-4 t C, "then CO2 by 11/3, rounded once".
+            uptake_co2: nearest(11 * u128::from(uptake), 30_000),
         }
     }
 
@@ -134,8 +142,8 @@ impl Worksheets {
         -self.q
     }
 
-    /// Three numbers for each figure, in the paper's order: 1 below zero and
-    /// else 0, then the upper and the lower 64 bits of its size.
+    /// Three numbers for each figure, in the order of the lines: 1 below zero
+    /// and else 0, then the upper and the lower 64 bits of its size.
     pub fn numbers(&self) -> [[u64; 3]; NUMBERS / 3] {
         let above = |value: u64| [0, 0, value];
         let signed = |value: i64| [u64::from(value < 0), 0, value.unsigned_abs()];
@@ -158,10 +166,13 @@ impl Worksheets {
             above(self.co),
             above(self.n2o),
             above(self.nox),
+            above(self.uptake),
+            above(self.uptake_co2),
         ]
     }
 
-    /// One line for each figure, in the paper's order.
+    /// One line for each figure, in the paper's order; "requested figures print
+    /// after 01's lines".
     pub fn print(&self, text: &mut Text) {
         text.line("E ", self.e);
         text.line("K ", self.k);
@@ -180,6 +191,8 @@ impl Worksheets {
         text.line("co ", self.co);
         text.line("n2o ", self.n2o);
         text.line("nox ", self.nox);
+        text.line("uptake ", self.uptake);
+        text.line("uptake_co2 ", self.uptake_co2);
     }
 }
 
@@ -193,6 +206,14 @@ fn grown(r: &Record) -> u64 {
 fn taken(r: &Record) -> u64 {
     u64::from(four(r, 4)) * u64::from(two(r, 8))
         + 1_000 * (u64::from(four(r, 12)) + u64::from(four(r, 16)))
+}
+
+/// Area x rate x carbon fraction of an abandoned record, for up to twenty years
+/// and for longer: at most 2 x 10^14.
+fn regrown(r: &Record) -> u64 {
+    let age =
+        |area| u64::from(four(r, area)) * u64::from(two(r, area + 4)) * u64::from(two(r, area + 6));
+    age(4) + age(12)
 }
 
 /// Area x (before - after).
@@ -209,7 +230,7 @@ fn carbon(period: Period, share: Share) -> u64 {
 }
 
 /// To nearest, a half upwards. `below` is even, so its half is whole. Every
-/// answer is at most 1.2 x 10^12.
+/// answer is at most 2.4 x 10^12.
 fn nearest(above: u128, below: u128) -> u64 {
     let above = above + below / 2;
     match (u64::try_from(above), u64::try_from(below)) {

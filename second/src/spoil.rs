@@ -1,6 +1,6 @@
 //! Rows that are bad in one chosen way: numbers 5 to 8 of the paper.
 
-use crate::make::{fields, Rows, AFTER, BEFORE, SUMMED};
+use crate::make::{fields, Rows, AFTER, BEFORE, SUMMED, WITH_IDS};
 use crate::rng::Rng;
 
 /// How an id fails to be above the one before it.
@@ -123,12 +123,30 @@ pub fn spoil_after(rng: &mut Rng, row: &mut [u32; 15]) {
     }
 }
 
+/// A kind with ids that this edition has.
+fn any_with_ids(rng: &mut Rng, rows: &Rows) -> u8 {
+    let known = if rows.edition == 1 { 3 } else { 4 };
+    WITH_IDS[rng.below(known)]
+}
+
+/// Any field but an id: its kind, row and position.
+pub fn any_limited(rng: &mut Rng, rows: &Rows) -> (u8, usize, usize) {
+    let kind = match rng.below(5) {
+        0 => 1,
+        1 => 4,
+        _ => any_with_ids(rng, rows),
+    };
+    let first = usize::from(kind != 4);
+    let field = first + rng.below(fields(kind).count() - first);
+    (kind, rng.below(rows.len(kind)), field)
+}
+
 /// Breaks one of the numbers 5 to 8 at a random place. The rows must hold two
-/// or more of each of the first three kinds.
+/// or more of each kind with ids that their edition has.
 pub fn spoil(rng: &mut Rng, rows: &mut Rows, number: u32) -> String {
     match number {
         5 => {
-            let kind = rng.pick(&[1, 2, 3]);
+            let kind = any_with_ids(rng, rows);
             let length = rows.len(kind);
             let mut row = 1 + rng.below(length - 1);
             // The first row of a later block, often.
@@ -140,10 +158,7 @@ pub fn spoil(rng: &mut Rng, rows: &mut Rows, number: u32) -> String {
             format!("5: {way:?} at kind {kind} row {row}")
         }
         6 => {
-            let kind = rng.pick(&[1, 1, 2, 3, 4]);
-            let row = rng.below(rows.len(kind));
-            let first = usize::from(kind != 4);
-            let field = first + rng.below(fields(kind).count() - first);
+            let (kind, row, field) = any_limited(rng, rows);
             let way = rng.pick(&ABOVES);
             spoil_limit(rng, rows, (kind, row, field), way);
             format!("6: {way:?} at kind {kind} row {row} field {field}")

@@ -2,8 +2,10 @@
 //! Only what a sweep doesn't name is left to the generator.
 
 use crate::damage::{block, block_count};
-use crate::make::{fields, limited, repair_checks, seal, zero_areas, Rows};
-use crate::make::{AFTER, BEFORE, BLOCK, CHECK_AT, LIMITED, MOST_ROWS, SUMMED};
+use crate::make::{drawn_counts, fields, limited, place_of, repair_checks, seal};
+use crate::make::{zero_areas, RowCounts, Rows, AFTER, BEFORE, BLOCK, CHECK_AT};
+use crate::make::{LIMITED, MOST_BLOCKS, MOST_ROWS, SUMMED, WITH_IDS};
+use crate::order_sweeps::{crowds, editions, orders, CROWDS, EDITIONS, ORDERS};
 use crate::rng::Rng;
 use crate::spoil::{spoil_id, spoil_limit, ABOVES, BAD_IDS};
 
@@ -15,25 +17,31 @@ pub struct Case {
 
 type Family = (usize, fn(usize, &mut Rng) -> Case);
 
-const LENGTHS: usize = 5_201;
+/// Some more than thirteen blocks have.
+const LENGTHS: usize = BLOCK * MOST_BLOCKS + 81;
 const FILLINGS: usize = 5;
-/// Kinds 1 to 3 with counts 1 to 12, and the parameters.
-const FORMS: usize = 3 * 12 + 1;
+/// The kinds with ids with counts 1 to 12, and the parameters.
+const FORMS: usize = WITH_IDS.len() * 12 + 1;
 /// The most zero areas a block can have, two for each used record and the
 /// twenty bytes; a form with fewer starts again.
 const AREAS: usize = 2 * 12 + 1;
+/// How often each crowd of blocks is drawn.
+const CROWD_TRIES: usize = 8;
 /// Ways above a limit, and at the limit.
 const WAYS: usize = ABOVES.len() + 1;
 
-const FAMILIES: [Family; 8] = [
+const FAMILIES: [Family; 11] = [
     (LENGTHS * FILLINGS, lengths),
     (FORMS * CHECK_AT, every_byte),
     (FORMS * AREAS * 2, zero_ends),
     (8 * 256, header_bytes),
     (4 * 256, check_bytes),
-    ((MOST_ROWS + 5) * 3 * 2, counts),
+    ((MOST_ROWS + 5) * WITH_IDS.len() * 2, counts),
     (MOST_ROWS * LIMITED * WAYS, limits),
-    ((MOST_ROWS - 1) * 3 * BAD_IDS.len(), ids),
+    ((MOST_ROWS - 1) * WITH_IDS.len() * BAD_IDS.len(), ids),
+    (2 * ORDERS, orders),
+    (EDITIONS, editions),
+    (2 * CROWDS * CROWD_TRIES, crowds),
 ];
 
 /// How many inputs the sweeps have together.
@@ -52,10 +60,16 @@ pub fn case(mut index: usize, rng: &mut Rng) -> Case {
     panic!("the sweeps have {} inputs", size())
 }
 
-/// Every length from 0 to 5,200.
+/// All blocks of an edition, in either.
+fn full(rng: &mut Rng) -> Vec<u8> {
+    let abandoned = rng.pick(&[0, 32]);
+    let edition = if abandoned == 0 { 1 } else { 2 };
+    Rows::good_in(rng, edition, [32, 32, 32, abandoned]).to_bytes()
+}
+
+/// Every length from 0 to some more than thirteen blocks.
 fn lengths(index: usize, rng: &mut Rng) -> Case {
     let length = index / FILLINGS;
-    let full = |rng: &mut Rng| Rows::good(rng, [32; 3]).to_bytes();
     let (how, bytes) = match index % FILLINGS {
         0 => ("zeros", vec![0; length]),
         1 => {
@@ -69,11 +83,11 @@ fn lengths(index: usize, rng: &mut Rng) -> Case {
             ("front of a good return", bytes)
         }
         3 => {
-            // As many whole good blocks as fit, the last one parameters.
-            let blocks = (length / BLOCK).min(10);
+            // As many whole good blocks as fit, one of them parameters.
+            let blocks = (length / BLOCK).min(MOST_BLOCKS);
             let rows = blocks.saturating_sub(1) * 12;
-            let counts = [rows.min(32), rows.saturating_sub(36).min(32), 0];
-            let mut bytes = Rows::good(rng, counts).to_bytes();
+            let counts = [0, 36, 72, 108].map(|before| rows.saturating_sub(before).min(32));
+            let mut bytes = Rows::good_in_either(rng, counts).to_bytes();
             let kept = bytes.len().min(length);
             bytes.resize(length, 0);
             rng.fill(&mut bytes[kept..]);
@@ -97,12 +111,12 @@ fn lengths(index: usize, rng: &mut Rng) -> Case {
 
 /// A good return that holds a block of one form, and where that block stands.
 fn formed(rng: &mut Rng, form: usize) -> (Vec<u8>, usize) {
-    let mut counts = [0; 3].map(|_| rng.pick(&[0, 0, 1, 2, 13]));
-    if form < 36 {
+    let mut counts = drawn_counts(rng, |rng| rng.pick(&[0, 0, 1, 2, 13]));
+    if form < FORMS - 1 {
         counts[form / 12] = 1 + form % 12;
     }
-    let bytes = Rows::good(rng, counts).to_bytes();
-    let kind = 1 + (form / 12) as u8;
+    let bytes = Rows::good_in_either(rng, counts).to_bytes();
+    let kind = WITH_IDS.get(form / 12).copied().unwrap_or(4);
     let place = (0..block_count(&bytes)).find(|&b| bytes[BLOCK * b] == kind);
     (bytes, place.expect("a block of this kind"))
 }
@@ -160,13 +174,22 @@ fn check_bytes(index: usize, rng: &mut Rng) -> Case {
     }
 }
 
+fn any_counts(rng: &mut Rng) -> RowCounts {
+    drawn_counts(rng, |rng| rng.below(MOST_ROWS + 1))
+}
+
+fn few_counts(rng: &mut Rng) -> RowCounts {
+    drawn_counts(rng, |rng| rng.below(4))
+}
+
 /// Every count of each kind, up to 36 rows: above 32 they are one block's
 /// fault, and good but for their number. The others none, or any.
 fn counts(index: usize, rng: &mut Rng) -> Case {
-    let (count, kind, alone) = (index / 6, index / 2 % 3, index.is_multiple_of(2));
-    let mut counts = [0; 3].map(|_| if alone { 0 } else { rng.below(MOST_ROWS + 1) });
-    counts[kind] = count;
-    let bytes = Rows::good(rng, counts).to_bytes();
+    let (turn, alone) = (index / 2, index.is_multiple_of(2));
+    let (count, place) = (turn / WITH_IDS.len(), turn % WITH_IDS.len());
+    let mut counts = if alone { [0; 4] } else { any_counts(rng) };
+    counts[place] = count;
+    let bytes = Rows::good_in_either(rng, counts).to_bytes();
     Case {
         how: format!("row counts {counts:?}"),
         bytes,
@@ -180,11 +203,11 @@ fn limits(index: usize, rng: &mut Rng) -> Case {
     let (kind, field) = limited(field);
     // There is one row of parameters.
     let row = if kind == 4 { 0 } else { row };
-    let mut counts = [0; 3].map(|_| rng.below(4));
-    if kind != 4 {
-        counts[usize::from(kind) - 1] = MOST_ROWS;
+    let mut counts = few_counts(rng);
+    if let Some(place) = place_of(kind) {
+        counts[place] = MOST_ROWS;
     }
-    let mut rows = Rows::good(rng, counts);
+    let mut rows = Rows::good_in_either(rng, counts);
     if way < ABOVES.len() {
         spoil_limit(rng, &mut rows, (kind, row, field), ABOVES[way]);
     } else {
@@ -214,10 +237,11 @@ fn at_limit(rows: &mut Rows, kind: u8, row: usize, field: usize) {
 /// and 24 have it before them in another block.
 fn ids(index: usize, rng: &mut Rng) -> Case {
     let (way, rest) = (BAD_IDS[index % BAD_IDS.len()], index / BAD_IDS.len());
-    let (kind, row) = (1 + (rest % 3) as u8, 1 + rest / 3);
-    let mut counts = [0; 3].map(|_| rng.below(4));
-    counts[usize::from(kind) - 1] = row + 1 + rng.below(MOST_ROWS - row);
-    let mut rows = Rows::good(rng, counts);
+    let (place, row) = (rest % WITH_IDS.len(), 1 + rest / WITH_IDS.len());
+    let kind = WITH_IDS[place];
+    let mut counts = few_counts(rng);
+    counts[place] = row + 1 + rng.below(MOST_ROWS - row);
+    let mut rows = Rows::good_in_either(rng, counts);
     spoil_id(&mut rows, kind, row, way);
     let bytes = rows.to_bytes();
     Case {
@@ -265,7 +289,7 @@ mod tests {
 
     #[test]
     fn ids_are_refused_at_their_row() {
-        for index in 0..(MOST_ROWS - 1) * 3 * BAD_IDS.len() {
+        for index in 0..(MOST_ROWS - 1) * WITH_IDS.len() * BAD_IDS.len() {
             let verdict = judge(&ids(index, &mut Rng::for_input(4, index as u64)).bytes);
             let refused = matches!(verdict, Verdict::Refused(Refusal { number: 5, .. }));
             assert!(refused, "{index}: {verdict:?}");

@@ -3,8 +3,8 @@
 
 use crate::judge::Refusal;
 
-/// Seventeen lines of at most 8 + 21 + 1 bytes come to 510.
-const MOST: usize = 512;
+/// Nineteen lines of at most 11 + 21 + 1 bytes come to 627.
+const MOST: usize = 640;
 
 pub struct Text {
     bytes: [u8; MOST],

@@ -1,7 +1,7 @@
 //! Writing: rows in one lent area, kind after kind, into the blocks of a return.
 
 use crate::judge::{Record, Refusal};
-use crate::kinds::{FirstPlaces, Kind, KINDS};
+use crate::kinds::{FirstPlaces, Kind, EDITIONS, KINDS};
 
 const BLOCK: usize = 512;
 const RECORD: usize = 40;
@@ -12,10 +12,16 @@ type Block = [u8; BLOCK];
 /// Writes a return, as C sees it: 0 with the blocks at the front of `room` and
 /// the number of bytes in `size[0]`, or the refusal with both as they were.
 /// `lengths` has for each kind how many elements of `rows` are its rows.
-pub fn write(rows: &[u32], lengths: &[u32], room: &mut [u8], size: &mut [u32]) -> u32 {
-    match checked(rows, lengths, room.len(), size.len()) {
+pub fn write(
+    edition: u32,
+    rows: &[u32],
+    lengths: &[u32],
+    room: &mut [u8],
+    size: &mut [u32],
+) -> u32 {
+    match checked(edition, rows, lengths, (room.len(), size.len())) {
         Ok((counts, blocks)) => {
-            put(rows, &counts, &mut room[..BLOCK * blocks]);
+            put(edition as u16, rows, &counts, &mut room[..BLOCK * blocks]);
             size[0] = (BLOCK * blocks) as u32;
             0
         }
@@ -28,12 +34,12 @@ type Counts = [usize; KINDS.len()];
 
 /// "Writing: 10, then 5 to 9." The rows of each kind, and the blocks they take.
 fn checked(
+    edition: u32,
     rows: &[u32],
     lengths: &[u32],
-    room: usize,
-    size: usize,
+    (room, size): (usize, usize),
 ) -> Result<(Counts, usize), Refusal> {
-    let counts = counts_of(rows, lengths)?;
+    let counts = counts_of(edition, rows, lengths)?;
     rows_hold(rows, &counts)?;
     let blocks = counts
         .iter()
@@ -49,10 +55,14 @@ fn checked(
     Ok((counts, blocks))
 }
 
-/// Number 10: place 0 where there is not one length for each kind or they do
-/// not add up to the area, then the lowest kind that its length is wrong for.
-fn counts_of(rows: &[u32], lengths: &[u32]) -> Result<Counts, Refusal> {
+/// Number 10: place 0 for an unknown edition, or where there is not one length
+/// for each kind or they do not add up to the area; then the lowest kind that
+/// its length is wrong for, "rows above kind 4 in edition 1" included.
+fn counts_of(edition: u32, rows: &[u32], lengths: &[u32]) -> Result<Counts, Refusal> {
     let refused = |place| Refusal { number: 10, place };
+    if !EDITIONS.contains(&edition) {
+        return Err(refused(0));
+    }
     let lengths: &[u32; KINDS.len()] = lengths.try_into().map_err(|_| refused(0))?;
     // In 64 bits, which a few numbers of 32 can't go beyond.
     let sum: u64 = lengths.iter().map(|&length| u64::from(length)).sum();
@@ -61,7 +71,7 @@ fn counts_of(rows: &[u32], lengths: &[u32]) -> Result<Counts, Refusal> {
     }
     let mut counts = [0; KINDS.len()];
     for (at, kind) in KINDS.iter().enumerate() {
-        let rows = kind.rows_in(lengths[at]);
+        let rows = kind.rows_in(edition, lengths[at]);
         counts[at] = rows.ok_or(refused(at as u32 + 1))?;
     }
     Ok(counts)
@@ -100,7 +110,7 @@ fn rows_hold(rows: &[u32], counts: &Counts) -> Result<(), Refusal> {
 }
 
 /// Fills `room`, which is exactly as long as the blocks.
-fn put(rows: &[u32], counts: &Counts, room: &mut [u8]) {
+fn put(edition: u16, rows: &[u32], counts: &Counts, room: &mut [u8]) {
     let (blocks, _) = room.as_chunks_mut::<BLOCK>();
     let total = blocks.len() as u16;
     let mut blocks = blocks.iter_mut().zip(0..);
@@ -115,7 +125,7 @@ fn put(rows: &[u32], counts: &Counts, room: &mut [u8]) {
             block[1] = count as u8;
             block[2..4].copy_from_slice(&u16::to_le_bytes(place));
             block[4..6].copy_from_slice(&total.to_le_bytes());
-            block[6] = 1;
+            block[6..8].copy_from_slice(&edition.to_le_bytes());
             let (records, _): (&mut [Record], _) = block[8..488].as_chunks_mut();
             (kind.put)(rows, records);
             put_check(block, count);

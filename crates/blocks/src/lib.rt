@@ -6,7 +6,7 @@ ghost use lib.ListN.{length};
 ghost use lib.Dec.{ltb, eqb};
 ghost use Rattle.form.specs.First.{first, any};
 ghost use Rattle.form.specs.Layout.{layout, strayAt};
-ghost use Rattle.form.specs.Block.{blocks, badLength, badCheck, badHeader, kindFalls, wrongEnd, blocksBelow, badCount, notFilled, strayRecord, stray, badBlock};
+ghost use Rattle.form.specs.Block.{blocks, badLength, badCheck, badHeader, kindFalls, lowBehind, endsLow, noneBefore, blocksBelow, badCount, notFilled, strayRecord, stray, badBlock};
 ghost use Rattle.blocks.specs.Steps.{blockTest};
 use form::LONGEST;
 use form::PARAMETERS;
@@ -47,6 +47,7 @@ fn bad_header(bytes: &[u8], b: usize) -> bool
         | (two_at(bytes, 512 * b + 2) as usize != b)
         | (two_at(bytes, 512 * b + 4) as usize != bytes.len() / 512)
         | !(0 < last)
+        | (edition != two_at(bytes, 6))
 }
 
 fn kind_falls(bytes: &[u8], b: usize) -> bool
@@ -59,13 +60,23 @@ fn kind_falls(bytes: &[u8], b: usize) -> bool
     false
 }
 
-fn wrong_end(bytes: &[u8], b: usize) -> bool
+fn low_behind(bytes: &[u8], b: usize) -> bool
     requires { ⌜ b < blocks (now bytes) ⌝ }
-    ensures { λ r. ⌜ r ≡ wrongEnd (now (bytes .entry)) b ⌝ }
+    ensures { λ r. ⌜ r ≡ lowBehind (now (bytes .entry)) b ⌝ }
 {
-    let parameters = byte_at(bytes, 512 * b) == PARAMETERS as u32;
+    if b + 1 < bytes.len() / 512 {
+        let parameters = byte_at(bytes, 512 * b) == PARAMETERS as u32;
+        return parameters & (byte_at(bytes, 512 * (b + 1)) <= PARAMETERS as u32);
+    }
+    false
+}
+
+fn ends_low(bytes: &[u8], b: usize) -> bool
+    requires { ⌜ b < blocks (now bytes) ⌝ }
+    ensures { λ r. ⌜ r ≡ endsLow (now (bytes .entry)) b ⌝ }
+{
     let last = b + 1 == bytes.len() / 512;
-    (parameters & !last) | (last & !parameters)
+    last & (byte_at(bytes, 512 * b) < PARAMETERS as u32)
 }
 
 fn blocks_below(bytes: &[u8], kind: u32, b: usize) -> u32
@@ -79,6 +90,16 @@ fn blocks_below(bytes: &[u8], kind: u32, b: usize) -> u32
         a += 1;
     }
     n
+}
+
+fn none_before(bytes: &[u8], b: usize) -> bool
+    requires { ⌜ (b < blocks (now bytes)) × (length (now bytes) < 2 ^ 24) ⌝ }
+    ensures { λ r. ⌜ r ≡ noneBefore (now (bytes .entry)) b ⌝ }
+{
+    if (PARAMETERS as u32) < byte_at(bytes, 512 * b) {
+        return blocks_below(bytes, PARAMETERS as u32, b) == 0;
+    }
+    false
 }
 
 fn bad_count(bytes: &[u8], b: usize) -> bool
@@ -136,6 +157,7 @@ fn stray_at(bytes: &[u8], kind: u32, at: usize) -> bool
         2 => stray_fields(bytes, 2, at),
         3 => stray_fields(bytes, 3, at),
         4 => stray_fields(bytes, 4, at),
+        5 => stray_fields(bytes, 5, at),
         _ => stray_fields(bytes, 0, at),
     }
 }
@@ -172,7 +194,9 @@ fn bad_block(bytes: &[u8], b: usize) -> bool
     let earlier = blocks_below(bytes, byte_at(bytes, 512 * b), b);
     let count = byte_at(bytes, 512 * b + 1);
     kind_falls(bytes, b)
-        | wrong_end(bytes, b)
+        | low_behind(bytes, b)
+        | ends_low(bytes, b)
+        | none_before(bytes, b)
         | (3 <= earlier)
         | bad_count(bytes, b)
         | not_filled(bytes, b)

@@ -22,7 +22,7 @@ use Rattle.filing.specs.Lists.{filedList, behind, filedFrom}
 use Rattle.filing.specs.Written.{recordFrom, inTurn, headOf, sealed, recordOn, usedFrom, bodyOf, blockOf, bytesOf}
 use Rattle.totals.specs.Columns.{sumOf, onsitePart}
 use Rattle.worksheets.specs.Answers.{Outcome, worked, refusal, outcomeOf}
-use Rattle.listed.specs.Listed.{listed51, listed52, listed53, listed, figureCount}
+use Rattle.listed.specs.Listed.{listed51, listed52, listed53, listed54, listed, figureCount}
 use Rattle.listed.proofs.Laws.{figureAt}
 use Rattle.cases.specs.Cases.{Complete, Case, refused, largest, table, all-answered}
 
@@ -33,8 +33,12 @@ nth i = getD table i (refused [] 0 0)
 abbrev sheetsAt : ℕ → List Complete → Outcome
 sheetsAt i l = getD l i (record { sheets = refusal 0 0; doubles = [] }) .sheets
 
-pub day-answered : outcomeOf (nth 0 .bytes) ≡ nth 0 .answer .sheets
-day-answered = ap (sheetsAt 0) all-answered
+-- where the worked day with a row of abandoned land stands
+abbrev pub landCase : ℕ
+landCase = 12
+
+pub land-answered : outcomeOf (nth landCase .bytes) ≡ nth landCase .answer .sheets
+land-answered = ap (sheetsAt landCase) all-answered
 
 pub lone-answered : outcomeOf (nth 1 .bytes) ≡ nth 1 .answer .sheets
 lone-answered = ap (sheetsAt 1) all-answered
@@ -47,13 +51,13 @@ figureIn i (worked v) = figureAt (listed v) i .value
 figureIn i (refusal n p) = pos 0
 
 abbrev agrees : ℕ → Bool
-agrees i = eqb (natAbs (figureIn i (nth 0 .answer .sheets))) (natAbs (figureIn i (nth 1 .answer .sheets)))
+agrees i = eqb (natAbs (figureIn i (nth landCase .answer .sheets))) (natAbs (figureIn i (nth 1 .answer .sheets)))
 
 none-agrees : first agrees figureCount ≡ Nowhere
-unfolding first listed51 listed52 listed53 listed
+unfolding first listed51 listed52 listed53 listed54 listed
 none-agrees = refl
 
-pub each-differs : (i : ℕ) → i < figureCount → figureIn i (nth 0 .answer .sheets) ≡ figureIn i (nth 1 .answer .sheets) → ⊥
+pub each-differs : (i : ℕ) → i < figureCount → figureIn i (nth landCase .answer .sheets) ≡ figureIn i (nth 1 .answer .sheets) → ⊥
 each-differs i l e = eqb-false _ _ (first-none agrees none-agrees i l) (ap natAbs e)
 
 pub first-row : onsitePart (getD (rows 1 (nth 5 .bytes)) 0 []) ≡ 10 ^ 19

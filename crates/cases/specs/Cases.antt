@@ -1,8 +1,8 @@
--- "Proved as a single table, under one claim about all of it": 01's cases (a) to (j), each a whole return with its complete answer, every figure of it.
+-- "Proved as a single table, under one claim about all of it": 01's cases (a) to (j), and three of edition 2, each a whole return with its complete answer, every figure of it.
 -- Where the case is about rows, the return is made of them by the definition of writing; where it is about bytes, the bytes stand here.
 use Prim.Native.Nat.{ℕ, zero, suc}
-use mathlib.Core.Path.{_≡_, refl}
-use mathlib.Core.List.{List, [], _∷_, _++_, map}
+use mathlib.Core.Path.{_≡_, refl, sym, ap₂, _∙_}
+use mathlib.Core.List.{List, [], _∷_, _++_, map, map-append}
 use lib.ListN.{replicate}
 use lib.IntN.{ℤ, pos, negsuc}
 use lib.Ieee.{binary64, add, mul, ofInt, toBits}
@@ -16,8 +16,9 @@ use Rattle.filing.specs.Written.{recordFrom, inTurn, headOf, sealed, recordOn, 
 use Rattle.lists.specs.Examples.{dayLengths, dayArea}
 use Rattle.rows.specs.Writing.{written}
 use Rattle.wide.specs.Rounding.{settled}
-use Rattle.totals.specs.Columns.{sumOf, uptakePart, harvestPart, clearedPart, onsitePart, offsitePart, decayPart}
-use Rattle.worksheets.specs.Sheets.{standard, parameterNumbers, Sheet51, Sheet52, Sheet53, stocksOf, conversionOf, gasesOf}
+use Rattle.totals.specs.Abandoned.{abandonedPart}
+use Rattle.totals.specs.Columns.{sumOf, stockPart, harvestPart, clearedPart, onsitePart, offsitePart, decayPart}
+use Rattle.worksheets.specs.Sheets.{standard, parameterNumbers, Sheet51, Sheet52, Sheet53, Sheet54, stocksOf, conversionOf, gasesOf, abandonedOf}
 use Rattle.worksheets.specs.Answers.{Outcome, worked, refusal, outcomeOf}
 use Rattle.doubles.specs.Subtotals.{onsiteDouble, offsiteDouble, decayDouble, addRows, answerOf}
 use Rattle.doubles.specs.declared.Answer.{Answer}
@@ -41,8 +42,8 @@ pub record Case : Type 0 where
   pub bytes : List ℕ
   pub answer : Complete
 
-abbrev pub worked-out : List ℕ → Sheet51 → Sheet52 → Sheet53 → List ℕ → Case
-worked-out s a b c d = record { bytes = s; answer = record { sheets = worked (record { stocks = a; conversion = b; gases = c }); doubles = d } }
+abbrev pub worked-out : List ℕ → Sheet51 → Sheet52 → Sheet53 → Sheet54 → List ℕ → Case
+worked-out s a b c l d = record { bytes = s; answer = record { sheets = worked (record { stocks = a; conversion = b; gases = c; abandoned = l }); doubles = d } }
 
 abbrev pub refused : List ℕ → ℕ → ℕ → Case
 refused s n p = record { bytes = s; answer = record { sheets = refusal n p; doubles = [] } }
@@ -57,6 +58,9 @@ sheet52 n f r d c = record { onsite = n; offsite = f; r = r; decay = d; co2 = c 
 abbrev pub sheet53 : ℕ → ℕ → ℕ → ℕ → Sheet53
 sheet53 h c n x = record { ch4 = h; co = c; n2o = n; nox = x }
 
+abbrev pub sheet54 : ℕ → ℕ → Sheet54
+sheet54 u c = record { uptake = u; co2 = c }
+
 abbrev none51 : Sheet51
 none51 = sheet51 0 0 0 (pos 0) (pos 0) (pos 0) (pos 0) (pos 0)
 
@@ -65,6 +69,9 @@ none52 = sheet52 0 0 0 0 0
 
 abbrev none53 : Sheet53
 none53 = sheet53 0 0 0 0
+
+abbrev none54 : Sheet54
+none54 = sheet54 0 0
 
 -- the bits of the double 0, three times
 abbrev zeros : List ℕ
@@ -93,45 +100,91 @@ largest i (suc n) = row i 1000000 10000 0 1000 ++ largest (suc i) n
 
 -- a return of conversion rows alone, and of stock and harvest rows alone, with the default parameters
 abbrev converted : List ℕ → List ℕ
-converted c = written 1 (c ∷ [] ∷ [] ∷ defaults ∷ [])
+converted c = written 1 (c ∷ [] ∷ [] ∷ defaults ∷ [] ∷ [])
 
 abbrev grown : List ℕ → List ℕ → List ℕ
-grown s h = written 1 ([] ∷ s ∷ h ∷ defaults ∷ [])
+grown s h = written 1 ([] ∷ s ∷ h ∷ defaults ∷ [] ∷ [])
 
-abbrev pub table : List Case
-table =
+-- 10 kha growing 6.8 t/ha a year, half of it carbon; and 20 kha, abandoned longer, growing 3 t/ha, 0.45 of it carbon
+abbrev land : List ℕ
+land = 1 ∷ 1000 ∷ 680 ∷ 500 ∷ 2000 ∷ 300 ∷ 450 ∷ []
+
+-- the worked day's rows with a row of abandoned land, in an edition
+abbrev with-land : ℕ → List ℕ
+with-land edition = written edition (cut (15 ∷ 5 ∷ 5 ∷ 6 ∷ 7 ∷ []) (dayArea ++ land))
+
+abbrev table01 : List Case
+table01 =
     -- (a) "this day"
     worked-out (written 1 (cut dayLengths dayArea))
     (sheet51 340000000 775000 36000000 (pos 41500000) (pos 20750000000) (pos 13250000000) (pos 48583) (negsuc 48582))
     (sheet52 32400000000000 16200000000000 48600000000000 40500000000000 326700)
     (sheet53 518 4536 4 129)
+    none54
     (4809131602776948736 ∷ 4804628003149578240 ∷ 4810524802404319232 ∷ [])
     -- (b) "the lone parameter block of zero values, check 18: all figures 0"
-    ∷ worked-out (lone 18) none51 none52 none53 zeros
+    ∷ worked-out (lone 18) none51 none52 none53 none54 zeros
     -- (c) "P = 1,500,000 gives Q = 6": a stock row of 15 x 100 x 10
-    ∷ worked-out (grown (1 ∷ 0 ∷ 100 ∷ 15 ∷ 10 ∷ []) []) (sheet51 15000 0 0 (pos 0) (pos 0) (pos 1500000) (pos 6) (negsuc 5)) none52 none53 zeros
+    ∷ worked-out (grown (1 ∷ 0 ∷ 100 ∷ 15 ∷ 10 ∷ []) []) (sheet51 15000 0 0 (pos 0) (pos 0) (pos 1500000) (pos 6) (negsuc 5)) none52 none53 none54 zeros
     -- (d) "P = -1,500,000 gives -6": a harvest row with F 30 and G 1, at N 500
-    ∷ worked-out (grown [] (1 ∷ 30 ∷ 1 ∷ 0 ∷ 0 ∷ [])) (sheet51 0 30 0 (pos 3000) (pos 1500000) (negsuc 1499999) (negsuc 5) (pos 6)) none52 none53 zeros
+    ∷ worked-out (grown [] (1 ∷ 30 ∷ 1 ∷ 0 ∷ 0 ∷ [])) (sheet51 0 30 0 (pos 3000) (pos 1500000) (negsuc 1499999) (negsuc 5) (pos 6)) none52 none53 none54 zeros
     -- (e) "1.5 x 10^9 units of conversion carbon give 6 tonnes": an area of 15, a difference of 100, a fraction of 1, all of it oxidised and carbon
-    ∷ worked-out (converted (row 1 15 100 0 1)) none51 (sheet52 1500000000 0 1500000000 0 6) none53 (4744078263993761792 ∷ 0 ∷ 0 ∷ [])
+    ∷ worked-out (converted (row 1 15 100 0 1)) none51 (sheet52 1500000000 0 1500000000 0 6) none53 none54 (4744078263993761792 ∷ 0 ∷ 0 ∷ [])
     -- (f) "32 largest on-site rows give 3.2 x 10^20"
     ∷ worked-out (converted (largest 1 32)) none51
     (sheet52 320000000000000000000 0 320000000000000000000 0 1173333333333)
     (sheet53 5120000000 44800000000 35200000 1272228571)
+    none54
     (4913806406333840640 ∷ 0 ∷ 0 ∷ [])
     -- (g) "(b) with check 17 is refused 2, place 0"
     ∷ refused (lone 17) 2 0
     -- (h) "fractions 500, 300, 200 pass, and 500, 300, 201 are refused 7"
-    ∷ worked-out (converted (split 500 300 200)) none51 none52 none53 zeros
+    ∷ worked-out (converted (split 500 300 200)) none51 none52 none53 none54 zeros
     ∷ refused (converted (split 500 300 201)) 7 0
     -- (i) "before 100, after 100 passes with zero, after 101 is refused 8"
-    ∷ worked-out (converted (row 1 1 100 100 1000)) none51 none52 none53 zeros
+    ∷ worked-out (converted (row 1 1 100 100 1000)) none51 none52 none53 none54 zeros
     ∷ refused (converted (row 1 1 100 101 1000)) 8 0
     -- (j) "511 bytes are refused 1"
     ∷ refused (replicate 511 0) 1 0
     ∷ []
 
+-- and of edition 2
+abbrev table-1 : List Case
+table-1 =
+    -- the day in edition 2 with a row of abandoned land: (a)'s figures, and 34 + 27 kt C, by 11/3
+    worked-out (with-land 2)
+    (sheet51 340000000 775000 36000000 (pos 41500000) (pos 20750000000) (pos 13250000000) (pos 48583) (negsuc 48582))
+    (sheet52 32400000000000 16200000000000 48600000000000 40500000000000 326700)
+    (sheet53 518 4536 4 129)
+    (sheet54 610000000 223667)
+    (4809131602776948736 ∷ 4804628003149578240 ∷ 4810524802404319232 ∷ [])
+    -- the same rows in edition 1: "3 for .. a kind above 4 in edition 1", at the block of abandoned land
+    ∷ refused (with-land 1) 3 4
+    -- edition 2 that ends with a harvest row: "4 .. a last block below kind 4"
+    ∷ refused (written 2 ([] ∷ [] ∷ (1 ∷ 30 ∷ 1 ∷ 0 ∷ 0 ∷ []) ∷ [] ∷ [] ∷ [])) 4 0
+    ∷ []
+
+abbrev pub table : List Case
+table = table01 ++ table-1
+
+-- what is to be answered, and what is written beside it
+abbrev dueOf : Case → Complete
+dueOf c = completeOf (c .bytes)
+
+abbrev said : Case → Complete
+said c = c .answer
+
+answered01 : map dueOf table01 ≡ map said table01
+unfolding toBits ofInt mul add onsiteDouble offsiteDouble decayDouble addRows largest computed cut filedList behind filedFrom littleEndian recordFrom inTurn headOf sealed weighed recordOn usedFrom bodyOf blockOf bytesOf rowsBelow rowFrom number settled sumOf stockPart harvestPart clearedPart onsitePart offsitePart decayPart stocksOf conversionOf gasesOf abandonedOf abandonedPart
+answered01 = refl
+
+answered-1 : map dueOf table-1 ≡ map said table-1
+unfolding toBits ofInt mul add onsiteDouble offsiteDouble decayDouble addRows largest computed cut filedList behind filedFrom littleEndian recordFrom inTurn headOf sealed weighed recordOn usedFrom bodyOf blockOf bytesOf rowsBelow rowFrom number settled sumOf stockPart harvestPart clearedPart onsitePart offsitePart decayPart stocksOf conversionOf gasesOf abandonedOf abandonedPart
+answered-1 = refl
+
+both : (xs ys : List Case) → map dueOf xs ≡ map said xs → map dueOf ys ≡ map said ys → map dueOf (xs ++ ys) ≡ map said (xs ++ ys)
+both xs ys p q = map-append dueOf xs ys ∙ ap₂ (λ (a b : List Complete). a ++ b) p q ∙ sym (map-append said xs ys)
+
 -- every return of the table has the answer beside it, as the checker computes them
 pub all-answered : map (λ (c : Case). completeOf (c .bytes)) table ≡ map (λ (c : Case). c .answer) table
-unfolding toBits ofInt mul add onsiteDouble offsiteDouble decayDouble addRows largest computed cut filedList behind filedFrom littleEndian recordFrom inTurn headOf sealed weighed recordOn usedFrom bodyOf blockOf bytesOf rowsBelow rowFrom number settled sumOf uptakePart harvestPart clearedPart onsitePart offsitePart decayPart stocksOf conversionOf gasesOf
-all-answered = refl
+all-answered = both table01 table-1 answered01 answered-1

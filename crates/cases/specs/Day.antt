@@ -7,13 +7,14 @@ use Rattle.form.specs.First.{first}
 use Rattle.form.specs.Ruling.{ruling}
 use Rattle.form.specs.Bytes.{number, littleEndian}
 use Rattle.form.specs.Layout.{kinds, rowFrom, aboveLimit}
+use Rattle.form.specs.Edition.{lastKind}
 use Rattle.form.specs.Block.{weighed}
 use Rattle.form.specs.Records.{badId, brokenBy, rowsBelow}
 use Rattle.form.specs.Computed.{computed}
 use Rattle.form.specs.declared.Verdict.the-variants.{Accepted, Refused}
 use Rattle.filing.specs.Lists.{cut, total, filedList, behind, filedFrom}
 use Rattle.filing.specs.Written.{recordFrom, inTurn, headOf, sealed, recordOn, usedFrom, bodyOf, blockOf, bytesOf}
-use Rattle.lists.specs.Rules.{badList, badLengths, listRules}
+use Rattle.lists.specs.Rules.{badList, badLengths, notAllowed, listRules}
 use Rattle.lists.specs.Examples.{parametersDay, dayLengths, dayArea}
 use Rattle.rows.specs.Reading.{readAnswer, roomAfter}
 use Rattle.rows.specs.Writing.{writeAnswer, bytesAfter}
@@ -31,7 +32,7 @@ day-parameters = refl
 
 -- the answer of a write, opened for computing
 unfoldable answered : List ℕ → List ℕ → List ℕ → Written
-unfolding first ruling kinds aboveLimit badId brokenBy cut total filedList behind filedFrom badList badLengths listRules littleEndian recordFrom inTurn headOf sealed weighed recordOn usedFrom bodyOf blockOf bytesOf writeAnswer
+unfolding first ruling kinds lastKind aboveLimit badId brokenBy cut total filedList behind filedFrom badList badLengths notAllowed listRules littleEndian recordFrom inTurn headOf sealed weighed recordOn usedFrom bodyOf blockOf bytesOf writeAnswer
 answered lengths rows room = writeAnswer 1 lengths rows room
 
 -- written to one byte more than it needs, and to one less
@@ -48,11 +49,11 @@ unfolding answered
 short-bytes = refl
 
 -- read to a room of one number more than the rows need, and to rooms that end inside a kind's rows
-pub day-read : readAnswer day (replicate 32 9) ≡ Accepted (record { conversion = 1; stock = 1; harvest = 1; parameters = 1 })
+pub day-read : readAnswer day (replicate 32 9) ≡ Accepted (record { edition = 1; conversion = 1; stock = 1; harvest = 1; parameters = 1; abandoned = 0 })
 unfolding computed readAnswer rowsBelow inTurn flatten
 day-read = refl
 
-pub day-rows : roomAfter day (replicate 32 9) (Accepted (record { conversion = 1; stock = 1; harvest = 1; parameters = 1 })) ≡ dayArea ++ (9 ∷ [])
+pub day-rows : roomAfter day (replicate 32 9) (Accepted (record { edition = 1; conversion = 1; stock = 1; harvest = 1; parameters = 1; abandoned = 0 })) ≡ dayArea ++ (9 ∷ [])
 unfolding kinds rowsBelow rowFrom number flatten inTurn
 day-rows = refl
 

@@ -63,18 +63,18 @@ bounded-bytes s n p (later k m) = let f = bytes.few-blocks s (k 0 (omega arith))
 pub figures-small : (s room : List ℕ) {n p : ℕ} → figuresAnswer s room ≡ Broken n p → p < 1000
 figures-small s room e = bounded-then (rules s) (roomRule room ∷ []) (bounded-bytes s) (bounded (omega arith)) _ _ (ruling-least e) .1
 
-module _ (lengths area : List ℕ) where
+module _ (ed : ℕ) (lengths area : List ℕ) where
   -- where 10 is kept, three blocks of a kind at most
-  pub few-blocks : Kept (rule 10 (suc kinds) (badAt lengths (length area))) → (filedLists (cut lengths area) .places ≤ 720) × (length (written 1 (cut lengths area)) ≤ 30720)
+  pub few-blocks : Kept (rule 10 (suc kinds) (badAt ed lengths (length area))) → (filedLists (cut lengths area) .places ≤ 720) × (length (written ed (cut lengths area)) ≤ 30720)
   unfolding Kept
   few-blocks k =
-      let g = good lengths (length area) k in
+      let g = good ed lengths (length area) k in
       let n = cut-lengths lengths area (omega (arith, g .all)) in
       let f = good-few lengths (length area) g in
       let b : blocksFrom 1 lengths ≤ 60 = omega (arith, few-kinds) in
-      (omega (arith, rw n at (places-from 1 (cut lengths area))), omega (arith, rw n at (length-written 1 (cut lengths area))))
+      (omega (arith, rw n at (places-from 1 (cut lengths area))), omega (arith, rw n at (length-written ed (cut lengths area))))
 
-  pub bounded-lists : Bounded (listRules 1 lengths area)
+  pub bounded-lists : Bounded (listRules ed lengths area)
   unfolding listRules
   bounded-lists _ _ (this h e k) = (omega arith, omega (arith, few-kinds))
   bounded-lists n p (later k m) = let f = few-blocks k .0 in bounded (omega arith) n p m

@@ -7,7 +7,7 @@ use borrow.Author.Tests.{lt-ltb, le-ltb}
 use lib.ListN.{length}
 use Rattle.form.specs.Layout.{kinds}
 use Rattle.form.specs.Ruling.{rule, refuse, ruling}
-use Rattle.form.specs.Verdict.{rules, countList, verdictBy}
+use Rattle.form.specs.Verdict.{rules, verdictBy}
 use Rattle.form.specs.declared.Spot.{Spot}
 use Rattle.form.specs.declared.Ruling.{Ruling}
 use Rattle.form.specs.declared.Ruling.the-variants.{Clean, Broken}
@@ -18,7 +18,7 @@ use Rattle.form.proofs.Order.{orRule, ruling-append, ruled, ruling-least}
 use Rattle.form.proofs.EachKind.{few-kinds}
 use Rattle.rows.specs.Reading as rows
 use Rattle.rows.proofs.Rows.{need-none}
-use Rattle.door.specs.Door.{codeOf, tooShort, judgeCall, countsAfter}
+use Rattle.door.specs.Door.{codeOf, held, tooShort, judgeCall, countsAfter}
 use Rattle.door.specs.Rows.{shortAt, readCall, rowsAfter}
 use Rattle.door.proofs.Rooms.{too-short}
 use Rattle.door.proofs.Codes.{verdict-told, bounded, bounded-then, bounded-bytes}
@@ -29,7 +29,7 @@ codeBy (Accepted c) = 0
 codeBy (Refused n p) = 1000 * n + p
 
 abbrev pub countsBy : List ℕ → Verdict → List ℕ
-countsBy room (Accepted c) = rows.onFront (countList c) room
+countsBy room (Accepted c) = rows.onFront (held c) room
 countsBy room (Refused n p) = room
 
 code-said : (s : List ℕ) (v : Ruling) → codeBy (verdictBy s v) ≡ codeOf v
@@ -47,40 +47,40 @@ as-it-was s room (Broken n p) = refl
 
 module _ (s room counts : List ℕ) where
   -- room for the counts: the rule of the rows' room is left
-  rows-left : kinds ≤ length counts → ruling (rule 9 (suc kinds) (shortAt s (length room) (length counts)) ∷ []) ≡ ruling (rule 9 (suc kinds) (rows.outgrown s (length room)) ∷ [])
+  rows-left : suc kinds ≤ length counts → ruling (rule 9 (suc kinds) (shortAt s (length room) (length counts)) ∷ []) ≡ ruling (rule 9 (suc kinds) (rows.outgrown s (length room)) ∷ [])
   unfolding ruling
   rows-left h = ap (λ (t : Spot). refuse 9 t Clean) (first-same (shortAt s (length room) (length counts)) (rows.outgrown s (length room)) (suc kinds) same)
     where
       same : (k : ℕ) → k < suc kinds → shortAt s (length room) (length counts) k ≡ rows.outgrown s (length room) k
-      same zero l = le-ltb (length counts) kinds h ∙ sym (le-ltb (length room) (length (rows.areaTo s 0)) (omega (arith, need-none s)))
+      same zero l = le-ltb (length counts) (suc kinds) h ∙ sym (le-ltb (length room) (length (rows.areaTo s 0)) (omega (arith, need-none s)))
       same (suc k) l = refl
 
-  enough : kinds ≤ length counts → readCall s room counts ≡ ruling (rows.readRules s room)
+  enough : suc kinds ≤ length counts → readCall s room counts ≡ ruling (rows.readRules s room)
   enough h =
       ruling-append (rules s) (rule 9 (suc kinds) (shortAt s (length room) (length counts)) ∷ [])
       ∙ ap (orRule (ruling (rules s))) (rows-left h)
       ∙ sym (ruling-append (rules s) (rule 9 (suc kinds) (rows.outgrown s (length room)) ∷ []))
 
   -- none: place 0, as from the judge
-  none-left : length counts < kinds → ruling (rule 9 (suc kinds) (shortAt s (length room) (length counts)) ∷ []) ≡ Broken 9 0
+  none-left : length counts < suc kinds → ruling (rule 9 (suc kinds) (shortAt s (length room) (length counts)) ∷ []) ≡ Broken 9 0
   none-left h =
       sym (ruled (rule 9 (suc kinds) (shortAt s (length room) (length counts))) []
-      (first-found (shortAt s (length room) (length counts)) 0 (suc kinds) (first-zero _) (lt-ltb (length counts) kinds h) (omega arith)))
+      (first-found (shortAt s (length room) (length counts)) 0 (suc kinds) (first-zero _) (lt-ltb (length counts) (suc kinds) h) (omega arith)))
 
   -- what the answer and the two rooms are, for a ruling
   abbrev Out : ℕ → List ℕ → List ℕ → Ruling → Type 0
   Out r o z v = (r ≡ codeOf v) × ((o ≡ rowsAfter s room v) × (z ≡ countsAfter s counts v))
 
-  pub judged-out : {r : ℕ} {z : List ℕ} → length counts < kinds → r ≡ codeOf (judgeCall s counts) → z ≡ countsAfter s counts (judgeCall s counts)
+  pub judged-out : {r : ℕ} {z : List ℕ} → length counts < suc kinds → r ≡ codeOf (judgeCall s counts) → z ≡ countsAfter s counts (judgeCall s counts)
       → Out r room z (readCall s room counts)
   judged-out h q k =
       let u = ruling (rules s) in
-      let j : judgeCall s counts ≡ orRule u (Broken 9 0) = ruling-append (rules s) (tooShort kinds counts ∷ []) ∙ ap (orRule u) (too-short kinds counts h) in
+      let j : judgeCall s counts ≡ orRule u (Broken 9 0) = ruling-append (rules s) (tooShort (suc kinds) counts ∷ []) ∙ ap (orRule u) (too-short (suc kinds) counts h) in
       let e : readCall s room counts ≡ orRule u (Broken 9 0) =
       ruling-append (rules s) (rule 9 (suc kinds) (shortAt s (length room) (length counts)) ∷ []) ∙ ap (orRule u) (none-left h) in
       rw e (q ∙ ap codeOf j, (as-it-was s room u, k ∙ ap (countsAfter s counts) j))
 
-  pub read-out : (v : Verdict) {r : ℕ} {o z : List ℕ} → kinds ≤ length counts → v ≡ rows.readAnswer s room → r ≡ codeBy v
+  pub read-out : (v : Verdict) {r : ℕ} {o z : List ℕ} → suc kinds ≤ length counts → v ≡ rows.readAnswer s room → r ≡ codeBy v
       → o ≡ rows.roomAfter s room v → z ≡ countsBy counts v → Out r o z (readCall s room counts)
   unfolding rows.readAnswer
   read-out v h a q e k =

@@ -1,5 +1,5 @@
 -- Stores at the front of a room, and the last rule, the room itself. Assumes nothing.
-use Prim.Native.Nat.{ℕ, _+_, _*_, _≤_, _<_}
+use Prim.Native.Nat.{ℕ, suc, _+_, _*_, _≤_, _<_}
 use mathlib.Core.Path.{_≡_, refl, ap, _∙_}
 use mathlib.Core.List.{List, [], _∷_}
 use native.Mathlib.Omega.{arith}
@@ -10,7 +10,7 @@ use native.Mathlib.Numerals.{add-one}
 use Rattle.filing.proofs.Stores.{sets-front}
 use Rattle.form.specs.Ruling.{ruling}
 use Rattle.form.specs.Layout.{kinds}
-use Rattle.form.specs.Verdict.{rules, countList, verdictOf}
+use Rattle.form.specs.Verdict.{rules, verdictOf}
 use Rattle.form.specs.declared.Counts.{Counts}
 use Rattle.form.specs.declared.Ruling.{Ruling}
 use Rattle.form.specs.declared.Ruling.the-variants.{Clean, Broken}
@@ -19,7 +19,7 @@ use Rattle.form.proofs.Order.{ruled-before, kept-before, one-broken, one-kept}
 use Rattle.form.proofs.Meaning.{refused-ruling}
 use Rattle.form.proofs.Accepted.{accepted-ruling, accepted-counts}
 use Rattle.rows.specs.Reading.{onFront}
-use Rattle.door.specs.Door.{codeOf, tooShort, judgeCall, countsAfter}
+use Rattle.door.specs.Door.{codeOf, held, tooShort, judgeCall, countsAfter}
 
 -- numbers handed over one by one: the first k stand at the front
 pub record Handing (vs d₀ d : List ℕ) (k : ℕ) : Type 0 where
@@ -52,14 +52,14 @@ module _ (s room : List ℕ) where
   Out r l v = (r ≡ codeOf v) × (l ≡ countsAfter s room v)
 
   pub refused-out : (n p r : ℕ) → verdictOf s ≡ Refused n p → r ≡ 1000 * n + p → Out r room (judgeCall s room)
-  refused-out n p r e q = rw (ruled-before (rules s) (tooShort kinds room ∷ []) (refused-ruling s n p e)) (q, refl)
+  refused-out n p r e q = rw (ruled-before (rules s) (tooShort (suc kinds) room ∷ []) (refused-ruling s n p e)) (q, refl)
 
   -- of an accepted return, the room is left
-  left : {c : Counts} → verdictOf s ≡ Accepted c → judgeCall s room ≡ ruling (tooShort kinds room ∷ [])
+  left : {c : Counts} → verdictOf s ≡ Accepted c → judgeCall s room ≡ ruling (tooShort (suc kinds) room ∷ [])
   left e = kept-before (rules s) _ (accepted-ruling s _ e)
 
-  pub short-out : (c : Counts) (r : ℕ) → verdictOf s ≡ Accepted c → length room < kinds → r ≡ 1000 * 9 + 0 → Out r room (judgeCall s room)
-  short-out c r e l q = rw (left e ∙ too-short kinds room l) (q, refl)
+  pub short-out : (c : Counts) (r : ℕ) → verdictOf s ≡ Accepted c → length room < suc kinds → r ≡ 1000 * 9 + 0 → Out r room (judgeCall s room)
+  short-out c r e l q = rw (left e ∙ too-short (suc kinds) room l) (q, refl)
 
-  pub done-out : (c : Counts) (l : List ℕ) → verdictOf s ≡ Accepted c → kinds ≤ length room → l ≡ onFront (countList c) room → Out 0 l (judgeCall s room)
-  done-out c l e h q = rw (left e ∙ long-enough kinds room h) (refl, q ∙ ap (λ (x : Counts). onFront (countList x) room) (accepted-counts s c e))
+  pub done-out : (c : Counts) (l : List ℕ) → verdictOf s ≡ Accepted c → suc kinds ≤ length room → l ≡ onFront (held c) room → Out 0 l (judgeCall s room)
+  done-out c l e h q = rw (left e ∙ long-enough (suc kinds) room h) (refl, q ∙ ap (λ (x : Counts). onFront (held x) room) (accepted-counts s c e))

@@ -36,68 +36,68 @@ abbrev pub unsized : Written → ℕ
 unsized (Done n) = 9000
 unsized (Refused n p) = 1000 * n + p
 
-module _ (area lengths : List ℕ) where
-  code-said : (v : Ruling) → codeBy (rows.writtenBy 1 (cut lengths area) v) ≡ codeOf v
+module _ (ed : ℕ) (area lengths : List ℕ) where
+  code-said : (v : Ruling) → codeBy (rows.writtenBy ed (cut lengths area) v) ≡ codeOf v
   code-said Clean = refl
   code-said (Broken n p) = refl
 
-  size-said : (size : List ℕ) (v : Ruling) → sizeBy size (rows.writtenBy 1 (cut lengths area) v) ≡ sizeAfter area lengths size v
+  size-said : (size : List ℕ) (v : Ruling) → sizeBy size (rows.writtenBy ed (cut lengths area) v) ≡ sizeAfter ed area lengths size v
   size-said size Clean = refl
   size-said size (Broken n p) = refl
 
   -- a refusal leaves both rooms as they were, whichever rule it is by
-  room-kept : (room : List ℕ) (u : Ruling) → room ≡ blocksAfter area lengths room (orRule u (Broken 9 0))
+  room-kept : (room : List ℕ) (u : Ruling) → room ≡ blocksAfter ed area lengths room (orRule u (Broken 9 0))
   room-kept room Clean = refl
   room-kept room (Broken n p) = refl
 
-  size-kept : (size : List ℕ) (u : Ruling) → size ≡ sizeAfter area lengths size (orRule u (Broken 9 0))
+  size-kept : (size : List ℕ) (u : Ruling) → size ≡ sizeAfter ed area lengths size (orRule u (Broken 9 0))
   size-kept size Clean = refl
   size-kept size (Broken n p) = refl
 
   -- ---- no room for the size
 
-  no-size : (room size : List ℕ) → length size < 1 → writeCall area lengths room size ≡ orRule (ruling (listRules 1 lengths area)) (Broken 9 0)
+  no-size : (room size : List ℕ) → length size < 1 → writeCall ed area lengths room size ≡ orRule (ruling (listRules ed lengths area)) (Broken 9 0)
   no-size room size h =
-      ruling-append (listRules 1 lengths area) _
-      ∙ ap (orRule (ruling (listRules 1 lengths area))) (one-broken 9 _ [] (ap (λ (b : Bool). ltb (length room) (length (rows.written 1 (cut lengths area))) || b) (lt-ltb (length size) 1 h) ∙ or-true (ltb (length room) (length (rows.written 1 (cut lengths area))))))
+      ruling-append (listRules ed lengths area) _
+      ∙ ap (orRule (ruling (listRules ed lengths area))) (one-broken 9 _ [] (ap (λ (b : Bool). ltb (length room) (length (rows.written ed (cut lengths area))) || b) (lt-ltb (length size) 1 h) ∙ or-true (ltb (length room) (length (rows.written ed (cut lengths area))))))
 
-  last : (u : Ruling) (short : Bool) → unsized (rows.writtenBy 1 (cut lengths area) (orRule u (ruling (rule 9 1 (λ p. short) ∷ [])))) ≡ codeOf (orRule u (Broken 9 0))
+  last : (u : Ruling) (short : Bool) → unsized (rows.writtenBy ed (cut lengths area) (orRule u (ruling (rule 9 1 (λ p. short) ∷ [])))) ≡ codeOf (orRule u (Broken 9 0))
   unfolding ruling first
   last Clean true = refl
   last Clean false = refl
   last (Broken n p) short = refl
 
   -- whatever room is tried
-  pub tried : (room : List ℕ) (w : Written) {r : ℕ} → w ≡ rows.writeAnswer 1 lengths area room → r ≡ unsized w → r ≡ codeOf (writeCall area lengths [] [])
+  pub tried : (room : List ℕ) (w : Written) {r : ℕ} → w ≡ rows.writeAnswer ed lengths area room → r ≡ unsized w → r ≡ codeOf (writeCall ed area lengths [] [])
   unfolding rows.writeAnswer
   tried room w e q =
       let l = cut lengths area in
       q ∙ ap unsized e
-      ∙ ap (λ (v : Ruling). unsized (rows.writtenBy 1 l v)) (ruling-append (listRules 1 lengths area) (rows.roomRule 1 l room ∷ []))
-      ∙ last (ruling (listRules 1 lengths area)) (ltb (length room) (length (rows.written 1 l)))
+      ∙ ap (λ (v : Ruling). unsized (rows.writtenBy ed l v)) (ruling-append (listRules ed lengths area) (rows.roomRule ed l room ∷ []))
+      ∙ last (ruling (listRules ed lengths area)) (ltb (length room) (length (rows.written ed l)))
       ∙ ap codeOf (sym (no-size [] [] (lit< tt)))
 
   module _ (room size : List ℕ) where
     -- what the answer and the two rooms are, for a ruling
     abbrev Out : ℕ → List ℕ → List ℕ → Ruling → Type 0
-    Out r o z v = (r ≡ codeOf v) × ((o ≡ blocksAfter area lengths room v) × (z ≡ sizeAfter area lengths size v))
+    Out r o z v = (r ≡ codeOf v) × ((o ≡ blocksAfter ed area lengths room v) × (z ≡ sizeAfter ed area lengths size v))
 
-    pub unsized-out : {r : ℕ} → length size < 1 → r ≡ codeOf (writeCall area lengths [] []) → Out r room size (writeCall area lengths room size)
+    pub unsized-out : {r : ℕ} → length size < 1 → r ≡ codeOf (writeCall ed area lengths [] []) → Out r room size (writeCall ed area lengths room size)
     unsized-out h q =
-        let u = ruling (listRules 1 lengths area) in
+        let u = ruling (listRules ed lengths area) in
         rw (no-size room size h) (q ∙ ap codeOf (no-size [] [] (lit< tt)), (room-kept room u, size-kept size u))
 
     -- room for the size: the rule of the room for the blocks is left
-    sized : 1 ≤ length size → writeCall area lengths room size ≡ ruling (rows.writeRules 1 lengths area room)
-    sized h = rw (le-ltb (length size) 1 h, or-false (ltb (length room) (length (rows.written 1 (cut lengths area)))))
+    sized : 1 ≤ length size → writeCall ed area lengths room size ≡ ruling (rows.writeRules ed lengths area room)
+    sized h = rw (le-ltb (length size) 1 h, or-false (ltb (length room) (length (rows.written ed (cut lengths area)))))
 
-    pub written-out : (w : Written) {r : ℕ} {o z : List ℕ} → 1 ≤ length size → w ≡ rows.writeAnswer 1 lengths area room → r ≡ codeBy w
-        → o ≡ rows.bytesAfter 1 lengths area room w → z ≡ sizeBy size w → Out r o z (writeCall area lengths room size)
+    pub written-out : (w : Written) {r : ℕ} {o z : List ℕ} → 1 ≤ length size → w ≡ rows.writeAnswer ed lengths area room → r ≡ codeBy w
+        → o ≡ rows.bytesAfter ed lengths area room w → z ≡ sizeBy size w → Out r o z (writeCall ed area lengths room size)
     unfolding rows.writeAnswer
     written-out w h a q e k =
-        let v : w ≡ rows.writtenBy 1 (cut lengths area) (writeCall area lengths room size) = a ∙ ap (rows.writtenBy 1 (cut lengths area)) (sym (sized h)) in (
-          q ∙ ap codeBy v ∙ code-said (writeCall area lengths room size),
-          (e ∙ ap (rows.bytesAfter 1 lengths area room) v, k ∙ ap (sizeBy size) v ∙ size-said size (writeCall area lengths room size)),
+        let v : w ≡ rows.writtenBy ed (cut lengths area) (writeCall ed area lengths room size) = a ∙ ap (rows.writtenBy ed (cut lengths area)) (sym (sized h)) in (
+          q ∙ ap codeBy v ∙ code-said (writeCall ed area lengths room size),
+          (e ∙ ap (rows.bytesAfter ed lengths area room) v, k ∙ ap (sizeBy size) v ∙ size-said size (writeCall ed area lengths room size)),
         )
 
 -- ---- what a write answers is small, and one ruling's alone
@@ -106,27 +106,27 @@ rulingIn : Written → Ruling
 rulingIn (Done n) = Clean
 rulingIn (Refused n p) = Broken n p
 
-pub written-told : (l : Lists) (u v : Ruling) → rows.writtenBy 1 l u ≡ rows.writtenBy 1 l v → u ≡ v
+pub written-told : (ed : ℕ) (l : Lists) (u v : Ruling) → rows.writtenBy ed l u ≡ rows.writtenBy ed l v → u ≡ v
 unfolding rulingIn
-written-told l = same-ruling (rows.writtenBy 1 l) rulingIn refl (λ n p. refl)
+written-told ed l = same-ruling (rows.writtenBy ed l) rulingIn refl (λ n p. refl)
 
-module _ (lengths area room : List ℕ) where
-  pub write-small : {n p : ℕ} → rows.writeAnswer 1 lengths area room ≡ Refused n p → p < 1000
+module _ (ed : ℕ) (lengths area room : List ℕ) where
+  pub write-small : {n p : ℕ} → rows.writeAnswer ed lengths area room ≡ Refused n p → p < 1000
   unfolding rows.writeAnswer
   write-small e =
-      let b = bounded-then (listRules 1 lengths area) (rows.roomRule 1 (cut lengths area) room ∷ []) (bounded-lists lengths area) (bounded (omega arith)) in
-      b _ _ (ruling-least (written-told (cut lengths area) _ _ e)) .1
+      let b = bounded-then (listRules ed lengths area) (rows.roomRule ed (cut lengths area) room ∷ []) (bounded-lists ed lengths area) (bounded (omega arith)) in
+      b _ _ (ruling-least (written-told ed (cut lengths area) _ _ e)) .1
 
-  clean-small : AllKept (rows.writeRules 1 lengths area room) → length (rows.written 1 (cut lengths area)) ≤ 30720
+  clean-small : AllKept (rows.writeRules ed lengths area room) → length (rows.written ed (cut lengths area)) ≤ 30720
   unfolding listRules
-  clean-small (more k _) = few-blocks lengths area k .1
+  clean-small (more k _) = few-blocks ed lengths area k .1
 
-  done-of : (u : Ruling) {n : ℕ} → rows.writtenBy 1 (cut lengths area) u ≡ Done n → (u ≡ Clean) × (n ≡ length (rows.written 1 (cut lengths area)))
+  done-of : (u : Ruling) {n : ℕ} → rows.writtenBy ed (cut lengths area) u ≡ Done n → (u ≡ Clean) × (n ≡ length (rows.written ed (cut lengths area)))
   done-of Clean e = (refl, cc)
   done-of (Broken m q) e = let z : _≡_ {A = ℕ} 0 1 = cc in absurd (omega arith)
 
-  pub done-small : {n : ℕ} → rows.writeAnswer 1 lengths area room ≡ Done n → n ≤ 30720
+  pub done-small : {n : ℕ} → rows.writeAnswer ed lengths area room ≡ Done n → n ≤ 30720
   unfolding rows.writeAnswer
   done-small e =
-      let d = done-of (ruling (rows.writeRules 1 lengths area room)) e in
+      let d = done-of (ruling (rows.writeRules ed lengths area room)) e in
       omega (arith, clean-small (ruling-clean (d .0)), d .1)

@@ -1,5 +1,5 @@
 -- What a program in C gets back. "1 to 8 (from C, then 11 and last 9)."
-use Prim.Native.Nat.{ℕ, _+_, _*_}
+use Prim.Native.Nat.{ℕ, suc, _+_, _*_}
 use mathlib.Core.Bool.{cond}
 use mathlib.Core.List.{List, [], _∷_, _++_}
 use lib.ListN.{length}
@@ -15,6 +15,7 @@ use Rattle.report.specs.declared.Put.{Put}
 use Rattle.report.specs.declared.Put.the-variants.{Done, Short}
 use Rattle.doubles.specs.Subtotals.{subtotalsOf}
 use Rattle.doubles.specs.declared.Doubles.{Doubles}
+use Rattle.form.specs.declared.Counts.{Counts}
 use Rattle.form.specs.declared.Ruling.{Ruling}
 use Rattle.form.specs.declared.Ruling.the-variants.{Clean, Broken}
 
@@ -27,16 +28,20 @@ codeOf (Broken n p) = 1000 * n + p
 abbrev pub tooShort : ℕ → List ℕ → Rule
 tooShort n room = rule 9 1 (λ p. ltb (length room) n)
 
--- the judge from C: the return's rules, last the room for the counts, one for each kind
+-- what a return holds: its edition, then a count for each kind, so that a count's place is its kind
+abbrev pub held : Counts → List ℕ
+held c = c .edition ∷ countList c
+
+-- the judge from C: the return's rules, last the room for the edition and the counts
 abbrev pub judgeRules : List ℕ → List ℕ → List Rule
-judgeRules s room = rules s ++ (tooShort kinds room ∷ [])
+judgeRules s room = rules s ++ (tooShort (suc kinds) room ∷ [])
 
 abbrev pub judgeCall : List ℕ → List ℕ → Ruling
 judgeCall s room = ruling (judgeRules s room)
 
--- the room afterwards: "the four row counts" at the front and "later elements keep their values"; on a refusal "lent memory is unchanged"
+-- the room afterwards: the edition and the row counts at the front and "later elements keep their values"; on a refusal "lent memory is unchanged"
 abbrev pub countsAfter : List ℕ → List ℕ → Ruling → List ℕ
-countsAfter s room Clean = onFront (countList (countsOf s)) room
+countsAfter s room Clean = onFront (held (countsOf s)) room
 countsAfter s room (Broken n p) = room
 
 -- the charting program's subtotal: 11 for "a subtotal's code above 2", after the return's rules and before the room for eight bytes

@@ -15,9 +15,9 @@ use Rattle.rows.specs.Reading.{outgrown, onFront, roomAfter}
 use Rattle.door.specs.Door.{countsAfter}
 use Rattle.rows.specs.Writing.{written, writtenBy, bytesAfter}
 
--- 9: "lent room too short": place 0 the room of n elements for the counts, then the lowest kind whose rows no longer fit room of m numbers
+-- 9: "lent room too short": place 0 the room of n elements for the edition and the counts, then the lowest kind whose rows no longer fit room of m numbers
 abbrev pub shortAt : List ℕ → ℕ → ℕ → ℕ → Bool
-shortAt s m n zero = ltb n kinds
+shortAt s m n zero = ltb n (suc kinds)
 shortAt s m n (suc k) = outgrown s m (suc k)
 
 -- the rules of a read from C, into these rooms, and their ruling
@@ -39,28 +39,28 @@ abbrev pub countsRead : List ℕ → List ℕ → List ℕ → List ℕ
 countsRead s rows counts = countsAfter s counts (readCall s rows counts)
 
 -- 9, place 0: the room for the blocks, or that for their number of bytes
-abbrev pub writeRooms : List ℕ → List ℕ → List ℕ → List ℕ → Rule
-writeRooms lengths area room size = rule 9 1 (λ p. ltb (length room) (length (written 1 (cut lengths area))) || ltb (length size) 1)
+abbrev pub writeRooms : ℕ → List ℕ → List ℕ → List ℕ → List ℕ → Rule
+writeRooms edition lengths area room size = rule 9 1 (λ p. ltb (length room) (length (written edition (cut lengths area))) || ltb (length size) 1)
 
--- the rules of a write from C, of these rows into these rooms, and their ruling
-abbrev pub writeRulesC : List ℕ → List ℕ → List ℕ → List ℕ → List Rule
-writeRulesC area lengths room size = listRules 1 lengths area ++ (writeRooms lengths area room size ∷ [])
+-- the rules of a write from C, of these rows in this edition into these rooms, and their ruling
+abbrev pub writeRulesC : ℕ → List ℕ → List ℕ → List ℕ → List ℕ → List Rule
+writeRulesC edition area lengths room size = listRules edition lengths area ++ (writeRooms edition lengths area room size ∷ [])
 
-abbrev pub writeCall : List ℕ → List ℕ → List ℕ → List ℕ → Ruling
-writeCall area lengths room size = ruling (writeRulesC area lengths room size)
+abbrev pub writeCall : ℕ → List ℕ → List ℕ → List ℕ → List ℕ → Ruling
+writeCall edition area lengths room size = ruling (writeRulesC edition area lengths room size)
 
 -- the room afterwards: "exactly the blocks at the front", or as it was
-abbrev pub blocksAfter : List ℕ → List ℕ → List ℕ → Ruling → List ℕ
-blocksAfter area lengths room v = bytesAfter 1 lengths area room (writtenBy 1 (cut lengths area) v)
+abbrev pub blocksAfter : ℕ → List ℕ → List ℕ → List ℕ → Ruling → List ℕ
+blocksAfter edition area lengths room v = bytesAfter edition lengths area room (writtenBy edition (cut lengths area) v)
 
 -- and that of the size: "a write answers the number of bytes written"
-abbrev pub sizeAfter : List ℕ → List ℕ → List ℕ → Ruling → List ℕ
-sizeAfter area lengths size Clean = onFront (length (written 1 (cut lengths area)) ∷ []) size
-sizeAfter area lengths size (Broken n p) = size
+abbrev pub sizeAfter : ℕ → List ℕ → List ℕ → List ℕ → Ruling → List ℕ
+sizeAfter edition area lengths size Clean = onFront (length (written edition (cut lengths area)) ∷ []) size
+sizeAfter edition area lengths size (Broken n p) = size
 
 -- both rooms after a write from C
-abbrev pub blocksWritten : List ℕ → List ℕ → List ℕ → List ℕ → List ℕ
-blocksWritten area lengths room size = blocksAfter area lengths room (writeCall area lengths room size)
+abbrev pub blocksWritten : ℕ → List ℕ → List ℕ → List ℕ → List ℕ → List ℕ
+blocksWritten edition area lengths room size = blocksAfter edition area lengths room (writeCall edition area lengths room size)
 
-abbrev pub sizeWritten : List ℕ → List ℕ → List ℕ → List ℕ → List ℕ
-sizeWritten area lengths room size = sizeAfter area lengths size (writeCall area lengths room size)
+abbrev pub sizeWritten : ℕ → List ℕ → List ℕ → List ℕ → List ℕ → List ℕ
+sizeWritten edition area lengths room size = sizeAfter edition area lengths size (writeCall edition area lengths room size)

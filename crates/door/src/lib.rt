@@ -5,12 +5,11 @@ pub mod figures;
 ghost use mathlib.Core.Path.{_≡_};
 ghost use Prim.Native.Nat.{_+_, _*_, _≤_, _<_};
 ghost use mathlib.Core.List.{[]};
-ghost use lib.ListN.{length};
+ghost use lib.ListN.{length, getD};
 ghost use Rattle.form.specs.Layout.{kinds};
-ghost use Rattle.form.specs.Verdict.{countList};
 ghost use lib.Ieee.{binary64, toBits};
 ghost use Rattle.form.specs.Bytes.{littleEndian};
-ghost use Rattle.door.specs.Door.{codeOf, judgeCall, countsAfter, subtotalCall, byCode, bitsAfter, linesAfter, sizeOf};
+ghost use Rattle.door.specs.Door.{codeOf, held, judgeCall, countsAfter, subtotalCall, byCode, bitsAfter, linesAfter, sizeOf};
 ghost use Rattle.door.specs.Rows.{readCall, rowsRead, countsRead, writeCall, blocksWritten, sizeWritten};
 ghost use Rattle.rows.specs.Reading.{onFront};
 ghost use Rattle.report.specs.Lines.{printed, putOf};
@@ -30,19 +29,28 @@ fn refusal(number: u8, place: u32) -> u32
     1000 * (number as u32) + place
 }
 
-// One count for each kind.
+// The edition, then one count for each kind, by their places.
+fn held_at(c: Counts, k: usize) -> u32
+    ensures { λ r. ⌜ r ≡ getD (held c) k 0 ⌝ }
+{
+    if k == 0 {
+        return c.edition;
+    }
+    count_of(c, k)
+}
+
 fn put_counts(c: Counts, room: &mut [u32])
-    requires { ⌜ kinds ≤ length (now room) ⌝ }
-    ensures { λ _. ⌜ now (room .exit) ≡ onFront (countList c) (now (room .entry)) ⌝ }
+    requires { ⌜ kinds < length (now room) ⌝ }
+    ensures { λ _. ⌜ now (room .exit) ≡ onFront (held c) (now (room .entry)) ⌝ }
 {
     let mut k: usize = 0;
-    while k < KINDS {
-        room[k] = count_of(c, k + 1);
+    while k <= KINDS {
+        room[k] = held_at(c, k);
         k += 1;
     }
 }
 
-// 0 and the counts at the front of the room; or the refusal, and the room as it was.
+// 0 and the edition and the counts at the front of the room; or the refusal, and the room as it was.
 #[no_mangle]
 pub extern "C" fn niloferq_judge(bytes: &[u8], counts: &mut [u32]) -> u32
     ensures { λ r. ⌜ r ≡ codeOf (judgeCall (now (bytes .entry)) (now (counts .entry))) ⌝ }
@@ -51,7 +59,7 @@ pub extern "C" fn niloferq_judge(bytes: &[u8], counts: &mut [u32]) -> u32
     match judge::judge(bytes) {
         Verdict::Refused { number, place } => refusal(number, place),
         Verdict::Accepted(c) => {
-            if counts.len() < KINDS {
+            if counts.len() <= KINDS {
                 return refusal(9, 0);
             }
             put_counts(c, counts);
@@ -132,7 +140,7 @@ pub extern "C" fn niloferq_read(bytes: &[u8], rows: &mut [u32], counts: &mut [u3
     ensures { λ _. ⌜ now (counts .exit) ≡ countsRead (now (bytes .entry)) (now (rows .entry)) (now (counts .entry)) ⌝ }
 {
     // too little room for the counts is the lowest place of 9: the judge's answer is the whole answer
-    if counts.len() < KINDS {
+    if counts.len() <= KINDS {
         return niloferq_judge(bytes, counts);
     }
     match rows::read(bytes, rows) {
@@ -145,12 +153,12 @@ pub extern "C" fn niloferq_read(bytes: &[u8], rows: &mut [u32], counts: &mut [u3
 }
 
 // Rows that can't be written, as there is no room for the size: the first rule that they break, or else 9.
-fn without_size(rows: &[u32], lengths: &[u32]) -> u32
-    ensures { λ r. ⌜ r ≡ codeOf (writeCall (now (rows .entry)) (now (lengths .entry)) [] []) ⌝ }
+fn without_size(edition: u32, rows: &[u32], lengths: &[u32]) -> u32
+    ensures { λ r. ⌜ r ≡ codeOf (writeCall edition (now (rows .entry)) (now (lengths .entry)) [] []) ⌝ }
 {
     // no return fits room for no byte, so this only refuses
     let mut none: [u8; 0] = [0; 0];
-    match rows::write(lengths, rows, &mut none) {
+    match rows::write(edition, lengths, rows, &mut none) {
         Written::Refused { number, place } => refusal(number, place),
         Written::Done(_) => refusal(9, 0),
     }
@@ -159,19 +167,20 @@ fn without_size(rows: &[u32], lengths: &[u32]) -> u32
 // 0, the blocks at the front of the room and their number of bytes as the first size; or the refusal, and both rooms as they were.
 #[no_mangle]
 pub extern "C" fn niloferq_write(
+    edition: u32,
     rows: &[u32],
     lengths: &[u32],
     room: &mut [u8],
     size: &mut [u32],
 ) -> u32
-    ensures { λ r. ⌜ r ≡ codeOf (writeCall (now (rows .entry)) (now (lengths .entry)) (now (room .entry)) (now (size .entry))) ⌝ }
-    ensures { λ _. ⌜ now (room .exit) ≡ blocksWritten (now (rows .entry)) (now (lengths .entry)) (now (room .entry)) (now (size .entry)) ⌝ }
-    ensures { λ _. ⌜ now (size .exit) ≡ sizeWritten (now (rows .entry)) (now (lengths .entry)) (now (room .entry)) (now (size .entry)) ⌝ }
+    ensures { λ r. ⌜ r ≡ codeOf (writeCall edition (now (rows .entry)) (now (lengths .entry)) (now (room .entry)) (now (size .entry))) ⌝ }
+    ensures { λ _. ⌜ now (room .exit) ≡ blocksWritten edition (now (rows .entry)) (now (lengths .entry)) (now (room .entry)) (now (size .entry)) ⌝ }
+    ensures { λ _. ⌜ now (size .exit) ≡ sizeWritten edition (now (rows .entry)) (now (lengths .entry)) (now (room .entry)) (now (size .entry)) ⌝ }
 {
     if size.len() < 1 {
-        return without_size(rows, lengths);
+        return without_size(edition, rows, lengths);
     }
-    match rows::write(lengths, rows, room) {
+    match rows::write(edition, lengths, rows, room) {
         Written::Refused { number, place } => refusal(number, place),
         Written::Done(n) => {
             size[0] = n as u32;

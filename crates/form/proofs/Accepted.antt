@@ -1,6 +1,7 @@
 -- What acceptance says of a return. Each law takes `verdictOf s ≡ Accepted c` and nothing else. Assumes nothing.
 --     accepted-counts    the counts are the sums of the kinds' counts; counted, kind by kind
 --     whole-blocks       one block or more, not more than a return can have, and no byte more
+--     one-edition        one edition throughout; known-edition, which there is; no-rows, none of a kind that it does not have
 --     few-rows           at most 32 rows of a kind; one-row, one parameter row
 --     first-block        a kind's first block, by the counts
 --     rows-are           the rows of a kind stand one after the other from the place that the counts give; row-is, each by its bytes; inside, in the bytes
@@ -18,9 +19,10 @@ use lib.Seq.{getD-drop}
 use lib.Dec.{ltb, eqb}
 use Rattle.form.specs.Ruling.{Rule, rule, ruling}
 use Rattle.form.specs.Layout.{Field, Layout, kinds, parametersKind, layout, rowAt, aboveLimit}
-use Rattle.form.specs.Block.{mostBlocks, longest, blocks, edition, recordAt, badLength}
+use Rattle.form.specs.Edition.{lastKind}
+use Rattle.form.specs.Block.{mostBlocks, longest, blocks, kindOf, edition, recordAt, badLength}
 use Rattle.form.specs.Records.{filed, RowTest, RowRule, rowRules, badId, brokenBy, overPlaces, recordRules, overspent, grown}
-use Rattle.form.specs.Verdict.{blockRules, rules, rowCount, rows, countsOf, countList, countIn, verdictOf}
+use Rattle.form.specs.Verdict.{blockRules, rules, countBelow, rowCount, rows, countsOf, countList, countIn, verdictOf}
 use Rattle.form.specs.Standing.{blocksFor, startBlock, firstBlock, startPlace, rowsFrom}
 use Rattle.form.specs.declared.Counts.{Counts}
 use Rattle.form.specs.declared.Ruling.the-variants.{Clean}
@@ -31,7 +33,7 @@ use Rattle.form.proofs.Places.{broken-at}
 use Rattle.form.proofs.EachKind.{one-kind}
 use Rattle.form.proofs.Meaning.{clean-of}
 use Rattle.form.proofs.Lengths.{length-kept}
-use Rattle.form.proofs.Stand.{Ordered, ordered, needed, Lies, lying, only-row}
+use Rattle.form.proofs.Stand.{Headed, headed, Ordered, ordered, needed, Lies, lying, only-row}
 use Rattle.form.proofs.StandRows.{from-at, from-length, row-at, rows-stand}
 
 append-kept : (xs ys : List Rule) → AllKept (xs ++ ys) → AllKept xs × AllKept ys
@@ -96,12 +98,26 @@ module _ (s : List ℕ) (c : Counts) (acc : verdictOf s ≡ Accepted c) where
   pub in-order : Ordered s (blocks s)
   in-order = ordered s (kept .0)
 
+  headed-at : (b : ℕ) → b < blocks s → Headed s b
+  unfolding blockRules Kept
+  headed-at = go (kept .0)
+    where
+      go : AllKept (blockRules s) → (b : ℕ) → b < blocks s → Headed s b
+      go (more h₁ (more h₂ (more h₃ rest))) b l = headed s b (h₃ b l)
+
   pub whole-blocks : (1 ≤ blocks s) × (blocks s ≤ mostBlocks) × (length s ≡ 512 * blocks s)
   unfolding badLength
   whole-blocks =
       let f = all-fail (eqb (length s) 0) (ltb longest (length s) ∷ not (eqb (length s % 512) 0) ∷ []) (length-kept s (kept .0)) in
       let z : length s ≡ 0 → ⊥ = eqb-false (length s) 0 (f .0) in
       omega (arith, ltb-false, same-of)
+
+  -- one edition throughout, which there is
+  pub one-edition : (b : ℕ) → b < blocks s → edition s b ≡ edition s 0
+  one-edition b l = headed-at b l .alike
+
+  pub known-edition : 0 < lastKind (edition s 0)
+  known-edition = headed-at 0 (whole-blocks .0) .edition
 
   pub few-rows : (k : ℕ) → rowCount k s ≤ 32
   few-rows k = needed s in-order k (blocks s) (omega arith) .rows
@@ -131,11 +147,20 @@ module _ (s : List ℕ) (c : Counts) (acc : verdictOf s ≡ Accepted c) where
   pub lies : (k i : ℕ) → 1 ≤ k → k ≤ kinds → i < rowCount k s → Lies s k i
   lies k i lo hi l = lying s in-order k i l
 
+  -- no row of a kind that the edition does not have
+  pub no-rows : (k : ℕ) → lastKind (edition s 0) < k → rowCount k s ≡ 0
+  no-rows k h = go (decLt 0 (rowCount k s))
+    where
+      go : Dec (0 < rowCount k s) → rowCount k s ≡ 0
+      go (yes l) =
+          let p = lying s in-order k 0 l in
+          let b = startBlock k s + 0 / 12 in
+          let q : kindOf s b ≤ lastKind (edition s 0) = rw (one-edition b (p .below)) at (headed-at b (p .below) .high) in
+          absurd (omega (arith, p .kind))
+      go (no l) = omega arith
+
   pub one-row : rowCount parametersKind s ≡ 1
-  one-row =
-      let w = whole-blocks in
-      let l : blocks s - 1 < blocks s = omega arith in
-      only-row s in-order (blocks s - 1) l (in-order (blocks s - 1) l .ends (omega arith))
+  one-row = only-row s in-order (whole-blocks .0)
 
   module _ (k i : ℕ) (lo : 1 ≤ k) (hi : k ≤ kinds) (l : i < rowCount k s) where
     -- by its bytes

@@ -7,20 +7,24 @@ use mathlib.Core.Path.{_≡_, refl}
 use mathlib.Core.Bool.{Bool, true, _&&_}
 use mathlib.Core.List.{List, [], _∷_}
 use native.Mathlib.Omega.{arith}
-use lib.Dec.{lit≤}
+use lib.Dec.{lit<, lit≤}
 use lib.ListN.{getD}
 use Rattle.form.specs.Layout.{Layout, layouts, kinds, parametersKind, layout}
 use Rattle.form.specs.Edition.{lastKind}
 use Rattle.form.proofs.Tests.{and-true}
 
-pub kinds-are : kinds ≡ 4
+-- kept by a loop over the kinds, so that its steps know it
+abbrev pub KindsAre : Type 0
+KindsAre = kinds ≡ 5
+
+pub kinds-are : KindsAre
 unfolding kinds
 kinds-are = refl
 
--- the parameters are one of them, and the last
-pub parameters-last : kinds ≡ parametersKind
+-- the parameters are one of them
+pub parameters-kind : parametersKind ≤ kinds
 unfolding kinds
-parameters-last = refl
+parameters-kind = lit≤ tt
 
 -- places stay small, so that a refusal's code has room for them
 pub few-kinds : kinds ≤ 20
@@ -52,21 +56,21 @@ pub last-kinds : (e : ℕ) → lastKind e ≤ kinds
 unfolding lastKind kinds
 last-kinds zero = lit≤ tt
 last-kinds (suc zero) = lit≤ tt
-last-kinds (suc (suc e)) = lit≤ tt
-
-pub first-edition : lastKind 1 ≡ kinds
-unfolding lastKind kinds
-first-edition = refl
+last-kinds (suc (suc zero)) = lit≤ tt
+last-kinds (suc (suc (suc e))) = lit≤ tt
 
 -- another number is no edition
-pub no-edition : (e : ℕ) → (e ≡ 1 → ⊥) → lastKind e ≡ 0
+pub no-edition : (e : ℕ) → (e ≡ 1 → ⊥) → (e ≡ 2 → ⊥) → lastKind e ≡ 0
 unfolding lastKind
-no-edition zero h = refl
-no-edition (suc zero) h = absurd (h refl)
-no-edition (suc (suc e)) h = refl
+no-edition zero h k = refl
+no-edition (suc zero) h k = absurd (h refl)
+no-edition (suc (suc zero)) h k = absurd (k refl)
+no-edition (suc (suc (suc e))) h k = refl
 
-pub known-edition : (e : ℕ) → 0 < lastKind e → e ≡ 1
+-- so an edition fits its two bytes
+pub small-edition : (e : ℕ) → 0 < lastKind e → e < 65536
 unfolding lastKind
-known-edition zero h = absurd (omega arith)
-known-edition (suc zero) h = refl
-known-edition (suc (suc e)) h = absurd (omega arith)
+small-edition zero h = lit< tt
+small-edition (suc zero) h = lit< tt
+small-edition (suc (suc zero)) h = lit< tt
+small-edition (suc (suc (suc e))) h = absurd (omega arith)

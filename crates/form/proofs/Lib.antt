@@ -14,3 +14,4 @@ pub mod Stand
 pub mod StandRows
 pub mod Accepted
 pub mod Meaning
+pub mod FirstEdition

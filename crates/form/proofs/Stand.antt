@@ -4,7 +4,7 @@
 --     start-all     the blocks of all kinds are all there are
 --     at-start      a block's number is its kind's first block plus how many of its kind come before it
 --     needed        a kind takes as many blocks as its rows need, at most three, for at most 32 rows
---     kind-in, count-in    the kind and the count of a block, by its number; lying, where a kind's rows stand; only-row, that of the parameters
+--     kind-in, count-in    the kind and the count of a block, by its number; lying, where a kind's rows stand; only-row, of parameters there is one
 use Prim.Native.Nat.{ℕ, zero, suc, _+_, _-_, _*_, _/_, _%_, _<_, _≤_, min}
 use mathlib.Core.Path.{_≡_, refl, sym, ap, _∙_}
 use mathlib.Core.Bool.{false, not, _&&_}
@@ -13,10 +13,10 @@ use native.Mathlib.Nat.{add-zero}
 use native.Mathlib.Decide.{decLt, ℕ-discrete}
 use native.Mathlib.Numerals.{add-one}
 use native.Mathlib.Omega.{arith}
-use borrow.Author.Tests.{lt-ltb, eq-eqb, ne-eqb, ltb-true, ltb-false, leb-true, leb-false, not-false}
+use borrow.Author.Tests.{lt-ltb, eq-eqb, ne-eqb, ltb-true, ltb-false, leb-true, leb-false, eqb-false, not-false}
 use lib.Dec.{ltb, leb, eqb}
 use Rattle.form.specs.First.{first}
-use Rattle.form.specs.Block.{blocks, kindOf, countOf, blockNumber, blocksSaid, edition, blocksBelow, isLast, badHeader, kindFalls, wrongEnd, fourthOfKind, badCount, notFilled, overFilled, stray, badBlock}
+use Rattle.form.specs.Block.{blocks, kindOf, countOf, blockNumber, blocksSaid, edition, blocksBelow, badHeader, kindFalls, lowBehind, endsLow, noneBefore, fourthOfKind, badCount, notFilled, overFilled, stray, badBlock}
 use Rattle.form.specs.Layout.{kinds, parametersKind}
 use Rattle.form.specs.Edition.{lastKind}
 use Rattle.form.specs.Verdict.{blockRules, countBelow, rowCount}
@@ -34,6 +34,7 @@ pub record Headed (s : List ℕ) (b : ℕ) : Type 0 where
   pub high : kindOf s b ≤ lastKind (edition s b)
   pub number : blockNumber s b ≡ b
   pub said : blocksSaid s b ≡ blocks s
+  pub alike : edition s b ≡ edition s 0
   pub edition : 0 < lastKind (edition s b)
 
 pub headed : (s : List ℕ) (b : ℕ) → badHeader s b ≡ false → Headed s b
@@ -41,7 +42,7 @@ unfolding badHeader
 headed s b e =
     let k = kindOf s b in
     let last = lastKind (edition s b) in
-    let f = all-fail (ltb k 1) (ltb last k ∷ not (eqb (blockNumber s b) b) ∷ not (eqb (blocksSaid s b) (blocks s)) ∷ not (ltb 0 last) ∷ []) e in
+    let f = all-fail (ltb k 1) (ltb last k ∷ not (eqb (blockNumber s b) b) ∷ not (eqb (blocksSaid s b) (blocks s)) ∷ not (ltb 0 last) ∷ not (eqb (edition s b) (edition s 0)) ∷ []) e in
     let h = ltb-true 0 last (not-false _ (f .1 .1 .1 .1 .0)) in
     omega (arith, ltb-false, same-of)
 
@@ -50,8 +51,8 @@ pub record Fine (s : List ℕ) (n b : ℕ) : Type 0 where
   pub low : 1 ≤ kindOf s b
   pub high : kindOf s b ≤ kinds
   pub rises : (a : ℕ) → suc a ≡ b → kindOf s a ≤ kindOf s b
-  pub ends : suc b ≡ n → kindOf s b ≡ parametersKind
-  pub inner : kindOf s b ≡ parametersKind → suc b ≡ n
+  pub ends : suc b ≡ n → parametersKind ≤ kindOf s b
+  pub led : parametersKind < kindOf s b → blocksBelow parametersKind s b ≡ 0 → ⊥
   pub third : blocksBelow (kindOf s b) s b < 3
   pub some : 1 ≤ countOf s b
   pub twelve : countOf s b ≤ 12
@@ -66,27 +67,24 @@ most (suc zero) c t h f = omega arith
 most (suc (suc e)) c t h f = let q : suc (suc e) ≡ 2 = omega arith in omega (arith, ltb-false 8 c (and-rest _ _ (eq-eqb (suc (suc e)) 2 q) f))
 
 fine : (s : List ℕ) (b : ℕ) → Headed s b → badBlock s b ≡ false → Fine s (blocks s) b
-unfolding badBlock kindFalls wrongEnd badCount notFilled
+unfolding badBlock kindFalls endsLow noneBefore badCount notFilled
 fine s b h e =
     let k = kindOf s b in
-    let f = all-fail (kindFalls s b) (wrongEnd s b ∷ fourthOfKind s b ∷ badCount s b ∷ notFilled s b ∷ overFilled s b ∷ stray s b ∷ []) e in
-    let w = or-none (eqb k parametersKind && not (isLast s b)) _ (f .1 .0) in
-    let c = all-fail (ltb (countOf s b) 1) (ltb 12 (countOf s b) ∷ (eqb k parametersKind && not (eqb (countOf s b) 1)) ∷ []) (f .1 .1 .1 .0) in
+    let f = all-fail (kindFalls s b) (lowBehind s b ∷ endsLow s b ∷ noneBefore s b ∷ fourthOfKind s b ∷ badCount s b ∷ notFilled s b ∷ overFilled s b ∷ stray s b ∷ []) e in
+    let c = all-fail (ltb (countOf s b) 1) (ltb 12 (countOf s b) ∷ (eqb k parametersKind && not (eqb (countOf s b) 1)) ∷ []) (f .1 .1 .1 .1 .1 .0) in
     let next : b + 1 ≡ suc b = add-one b in
     record {
       low = h .low;
       high = omega (arith, last-kinds (edition s b));
       rises = λ a q. let p : b - 1 ≡ a = omega arith in rw p at (ltb-false k _ (and-rest _ _ (lt-ltb 0 b (omega arith)) (f .0)));
-      ends = λ q. same-of k parametersKind (and-rest _ _ (eq-eqb (b + 1) (blocks s) (next ∙ q)) (w .1));
-      inner = λ q. sym next ∙ same-of (b + 1) (blocks s) (and-rest _ _ (eq-eqb k parametersKind q) (w .0));
-      third = leb-false 3 _ (f .1 .1 .0);
+      ends = λ q. ltb-false k parametersKind (and-rest _ _ (eq-eqb (b + 1) (blocks s) (next ∙ q)) (f .1 .1 .0));
+      led = λ q. eqb-false _ 0 (and-rest _ _ (lt-ltb parametersKind k q) (f .1 .1 .1 .0));
+      third = leb-false 3 _ (f .1 .1 .1 .1 .0);
       some = ltb-false (countOf s b) 1 (c .0);
       twelve = ltb-false 12 (countOf s b) (c .1 .0);
       one = λ q. same-of (countOf s b) 1 (and-rest _ _ (eq-eqb k parametersKind q) (c .1 .1 .0));
-      filled = λ l q.
-          same-of (countOf s b) 12
-          (and-rest _ _ (eq-eqb _ k (ap (kindOf s) next ∙ q)) (and-rest _ _ (lt-ltb (b + 1) (blocks s) (omega arith)) (f .1 .1 .1 .1 .0)));
-      few = most _ (countOf s b) (leb-false 3 _ (f .1 .1 .0)) (ltb-false 12 (countOf s b) (c .1 .0)) (f .1 .1 .1 .1 .1 .0);
+      filled = λ l q. same-of (countOf s b) 12 (and-rest _ _ (eq-eqb _ k (ap (kindOf s) next ∙ q)) (and-rest _ _ (lt-ltb (b + 1) (blocks s) (omega arith)) (f .1 .1 .1 .1 .1 .1 .0)));
+      few = most _ (countOf s b) (leb-false 3 _ (f .1 .1 .1 .1 .0)) (ltb-false 12 (countOf s b) (c .1 .0)) (f .1 .1 .1 .1 .1 .1 .1 .0);
     }
 
 abbrev pub Ordered : List ℕ → ℕ → Type 0
@@ -286,13 +284,20 @@ module _ (s : List ℕ) (o : Ordered s (blocks s)) where
       let q = at-start k (startBlock k s + i / 12) (p .0) (p .1) in
       record { below = p .0; kind = p .1; used = omega (arith, count-in k (startBlock k s + i / 12) (p .0) (p .1)) }
 
-  -- a block of parameters is the only one, of one row
-  pub only-row : (b : ℕ) → b < blocks s → kindOf s b ≡ parametersKind → rowCount parametersKind s ≡ 1
-  only-row b l e = go (blocksBelow parametersKind s b) refl
+  -- one row of parameters: in the first block of their kind or a later one
+  pub only-row : 0 < blocks s → rowCount parametersKind s ≡ 1
+  only-row some = go (decLt b (blocks s)) (ℕ-discrete (kindOf s b) parametersKind)
     where
-      go : (d : ℕ) → blocksBelow parametersKind s b ≡ d → rowCount parametersKind s ≡ 1
-      go zero q = omega (arith, count-in parametersKind b l e, o b l .one e)
-      go (suc d) q =
-          let p = between parametersKind b l e in
-          let h = kind-between parametersKind (cut parametersKind + d) (omega arith) (omega arith) in
-          absurd (omega (arith, o (cut parametersKind + d) (h .0) .inner (h .1)))
+      b : ℕ
+      b = cut parametersKind
+
+      p : Parted parametersKind b
+      p = parted parametersKind
+
+      go : Dec (b < blocks s) → Dec (kindOf s b ≡ parametersKind) → rowCount parametersKind s ≡ 1
+      go (yes l) (yes e) = omega (arith, count-in parametersKind b l e, between parametersKind b l e, o b l .one e)
+      go (yes l) (no d) =
+          absurd (o b l .led (omega (arith, p .above b (omega arith) l)) (omega (arith, blocks-are parametersKind b (omega arith))))
+      go (no l) d =
+          let m : blocks s - 1 < blocks s = omega arith in
+          absurd (omega (arith, o (blocks s - 1) m .ends (omega arith), p .below (blocks s - 1) (omega (arith, p .end))))

@@ -1,4 +1,4 @@
--- "A return is 1 to 10 blocks of 512 bytes": the header, the check, and rules 1 to 4, each the test that a place breaks it.
+-- "A return is 1 to .. blocks of 512 bytes", 13 in either edition: the header, the check, and rules 1 to 4, each the test that a place breaks it.
 use Prim.Native.Nat.{ℕ, zero, suc, _+_, _-_, _*_, _/_, _%_}
 use mathlib.Core.Bool.{Bool, cond, not, _&&_, _||_}
 use mathlib.Core.List.{List, [], _∷_}
@@ -9,11 +9,11 @@ use Rattle.form.specs.Bytes.{byteAt, number, strayIn}
 use Rattle.form.specs.Layout.{kinds, parametersKind, layout, strayAt}
 use Rattle.form.specs.Edition.{lastKind, known}
 
--- "1 to 10 blocks": three of each kind, for its 32 rows, and one of parameters
+-- "Lengths go to 13 blocks in either edition": three of each kind, for its 32 rows, and one of parameters
 abbrev pub mostBlocks : ℕ
 mostBlocks = 3 * (kinds - 1) + 1
 
--- "5,120": the longest return
+-- the longest return
 abbrev pub longest : ℕ
 longest = 512 * mostBlocks
 
@@ -21,7 +21,7 @@ longest = 512 * mostBlocks
 abbrev pub blocks : List ℕ → ℕ
 blocks s = length s / 512
 
--- "Offset 0 kind, 1 record count, 2 block number from 0 (two bytes), 4 number of blocks (two), 6 edition, always 1 (two)" of block b
+-- "Offset 0 kind, 1 record count, 2 block number from 0 (two bytes), 4 number of blocks (two), 6 edition (two)" of block b
 abbrev pub kindOf : List ℕ → ℕ → ℕ
 kindOf s b = byteAt s (512 * b)
 
@@ -54,7 +54,7 @@ weighed k (x ∷ xs) = k * x + weighed (suc k) xs
 unfoldable pub checkDue : List ℕ → ℕ → ℕ
 checkDue s b = weighed 1 (take 508 (drop (512 * b) s))
 
--- 1: "length is 0, above 5,120 or no multiple of 512"
+-- 1: "length is 0, above" the longest "or no multiple of 512"
 unfoldable pub badLength : List ℕ → Bool
 badLength s = eqb (length s) 0 || ltb longest (length s) || not (eqb (length s % 512) 0)
 
@@ -62,7 +62,8 @@ badLength s = eqb (length s) 0 || ltb longest (length s) || not (eqb (length s %
 unfoldable pub badCheck : List ℕ → ℕ → Bool
 badCheck s b = not (eqb (checkSaid s b) (checkDue s b))
 
--- 3: "kind not 1 to 4, wrong block number, wrong number of blocks, edition not 1"; which kinds, the edition says
+-- 3: "wrong block number, wrong number of blocks"; "an edition other than 1 or 2, an edition unlike block 0's, or a kind above 4 in edition 1": the edition
+-- says which kinds there are
 unfoldable pub badHeader : List ℕ → ℕ → Bool
 badHeader s b =
     ltb (kindOf s b) 1
@@ -70,23 +71,31 @@ badHeader s b =
     || not (eqb (blockNumber s b) b)
     || not (eqb (blocksSaid s b) (blocks s))
     || not (known (edition s b))
+    || not (eqb (edition s b) (edition s 0))
 
 -- 4 is given at a block
 -- "whose kind is below the previous block's"
 unfoldable pub kindFalls : List ℕ → ℕ → Bool
 kindFalls s b = ltb 0 b && ltb (kindOf s b) (kindOf s (b - 1))
 
--- "which is kind 4 and not last, or last and not kind 4"
+-- §1: "kind 4 before a kind below 5", the next block's; "a last block below kind 4"; "a kind above 4 with no kind 4 before it", wherever. With no kind above 4
+-- these are 01's "which is kind 4 and not last, or last and not kind 4" (promises/Editions)
+unfoldable pub lowBehind : List ℕ → ℕ → Bool
+lowBehind s b = ltb (b + 1) (blocks s) && (eqb (kindOf s b) parametersKind && leb (kindOf s (b + 1)) parametersKind)
+
 abbrev pub isLast : List ℕ → ℕ → Bool
 isLast s b = eqb (b + 1) (blocks s)
 
-unfoldable pub wrongEnd : List ℕ → ℕ → Bool
-wrongEnd s b = (eqb (kindOf s b) parametersKind && not (isLast s b)) || (isLast s b && not (eqb (kindOf s b) parametersKind))
+unfoldable pub endsLow : List ℕ → ℕ → Bool
+endsLow s b = isLast s b && ltb (kindOf s b) parametersKind
 
 -- how many of the first n blocks are of a kind
 unfoldable pub blocksBelow : ℕ → List ℕ → ℕ → ℕ
 blocksBelow k s zero = 0
 blocksBelow k s (suc n) = blocksBelow k s n + cond (eqb (kindOf s n) k) 1 0
+
+unfoldable pub noneBefore : List ℕ → ℕ → Bool
+noneBefore s b = ltb parametersKind (kindOf s b) && eqb (blocksBelow parametersKind s b) 0
 
 -- how many blocks before it have its kind
 abbrev pub earlier : List ℕ → ℕ → ℕ
@@ -119,7 +128,9 @@ stray s b = any (strayRecord s b) 12 || strayIn s (512 * b + 488) 20
 unfoldable pub badBlock : List ℕ → ℕ → Bool
 badBlock s b =
     kindFalls s b
-    || wrongEnd s b
+    || lowBehind s b
+    || endsLow s b
+    || noneBefore s b
     || fourthOfKind s b
     || badCount s b
     || notFilled s b

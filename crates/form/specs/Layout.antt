@@ -52,13 +52,19 @@ harvest = id ∷ field 0 4 10000000 ∷ field 0 2 10000 ∷ field 2 4 10000000 �
 abbrev pub parameters : Layout
 parameters = field 4 2 1000 ∷ fraction ∷ fraction ∷ fraction ∷ fraction ∷ fraction ∷ []
 
--- "1 conversion, 2 stock, 3 harvest, 4 parameters": the kinds in order, from 1 on. A new kind is a new line.
+-- §1: "per row the area abandoned for up to twenty years, its growth rate and carbon fraction, then the same three for land abandoned longer, in the
+-- units and limits of land stock rows"; "the id in four bytes, then the fields in the order named, four bytes for an area .. and two for anything else"
+abbrev pub abandoned : Layout
+abandoned = id ∷ field 0 4 10000000 ∷ field 0 2 10000 ∷ fraction ∷ field 0 4 10000000 ∷ field 0 2 10000 ∷ fraction ∷ []
+
+-- "1 conversion, 2 stock, 3 harvest, 4 parameters", 5 abandoned land: the kinds in order, from 1 on. A new kind is a new line.
 abbrev pub layouts : List Layout
 layouts =
     conversion
     ∷ stock
     ∷ harvest
     ∷ parameters
+    ∷ abandoned
     ∷ []
 
 -- how many kinds there are
@@ -77,7 +83,7 @@ layout kind = getD ([] ∷ layouts) kind []
 abbrev pub fieldAt : Layout → ℕ → Field
 fieldAt l i = getD l i (field 0 0 0)
 
--- "15, 5, 5 and 6 numbers of 32 bits"
+-- "15, 5, 5 and 6 numbers of 32 bits", and 7 of abandoned land
 abbrev pub numbersOf : ℕ → ℕ
 numbersOf kind = length (layout kind)
 

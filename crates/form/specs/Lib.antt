@@ -9,5 +9,7 @@ pub mod Records
 pub mod Verdict
 pub mod Standing
 pub mod Computed
+-- What an edition 1 return was read by before there was another.
+pub mod FirstEdition
 -- No part of what a return is: what steps of the code answer.
 pub mod Steps

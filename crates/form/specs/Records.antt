@@ -24,7 +24,7 @@ filed s = record {
   row = λ j. rowAt (layout (kindOf s (j / 12))) s (recordAt (j / 12) (j % 12));
 }
 
--- conversion, stock and harvest rows have an id, parameters have none
+-- the rows of every kind have an id but the parameters
 abbrev pub hasId : ℕ → Bool
 hasId k = ltb 0 k && (leb k kinds && not (eqb k parametersKind))
 

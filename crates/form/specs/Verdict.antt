@@ -33,13 +33,15 @@ countBelow k s (suc n) = countBelow k s n + cond (eqb (kindOf s n) k) (countOf s
 abbrev pub rowCount : ℕ → List ℕ → ℕ
 rowCount k s = countBelow k s (blocks s)
 
--- "the four row counts". A new kind is a new line.
+-- the edition and the row counts. A new kind is a new line.
 abbrev pub countsOf : List ℕ → Counts
 countsOf s = record {
+  edition = edition s 0;
   conversion = rowCount 1 s;
   stock = rowCount 2 s;
   harvest = rowCount 3 s;
   parameters = rowCount 4 s;
+  abandoned = rowCount 5 s;
 }
 
 -- the counts as a list by kind, from 1 on. A new kind is a new line.
@@ -49,6 +51,7 @@ countList c =
     ∷ c .stock
     ∷ c .harvest
     ∷ c .parameters
+    ∷ c .abandoned
     ∷ []
 
 -- the count of a kind; another number is no kind and has no rows

@@ -2,7 +2,7 @@
 ghost use mathlib.Core.Path.{_≡_};
 ghost use Prim.Native.Nat.{_≤_, _<_};
 ghost use lib.ListN.{length};
-ghost use Rattle.form.specs.Layout.{conversion, stock, harvest, parameters, layout, fieldAt, numbersOf};
+ghost use Rattle.form.specs.Layout.{conversion, stock, harvest, parameters, abandoned, layout, fieldAt, numbersOf};
 use crate::Field;
 
 const ID: Field = Field {
@@ -48,6 +48,12 @@ const AMOUNT: Field = Field {
 };
 
 const TONNES_PER_M3: Field = Field {
+    zeros: 0,
+    width: 2,
+    limit: 10000,
+};
+
+const GROWTH_RATE: Field = Field {
     zeros: 0,
     width: 2,
     limit: 10000,
@@ -120,6 +126,23 @@ fn parameters(i: usize) -> Field
     if i == 0 { FIRST_RATIO } else { FRACTION }
 }
 
+fn abandoned(i: usize) -> Field
+    requires { ⌜ i < length abandoned ⌝ }
+    ensures { λ r. ⌜ r ≡ fieldAt abandoned i ⌝ }
+{
+    if i == 0 {
+        return ID;
+    }
+    if (i == 1) | (i == 4) {
+        return AMOUNT;
+    }
+    if (i == 2) | (i == 5) {
+        GROWTH_RATE
+    } else {
+        FRACTION
+    }
+}
+
 // A new kind is a new line.
 pub fn field(kind: usize, i: usize) -> Field
     requires { ⌜ i < numbersOf kind ⌝ }
@@ -130,6 +153,7 @@ pub fn field(kind: usize, i: usize) -> Field
         2 => stock(i),
         3 => harvest(i),
         4 => parameters(i),
+        5 => abandoned(i),
         _ => NONE,
     }
 }
@@ -143,6 +167,7 @@ pub fn numbers(kind: usize) -> usize
         2 => 5,
         3 => 5,
         4 => 6,
+        5 => 7,
         _ => 0,
     }
 }

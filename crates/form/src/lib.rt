@@ -14,7 +14,7 @@ ghost use Rattle.form.specs.Standing.{blocksFor, firstBlock};
 ghost use Rattle.form.specs.Steps.{columnDue, checkWeighed, Few};
 
 // How many kinds there are, the most blocks of a return, and its most bytes. Every bound follows from the first.
-pub const KINDS: usize = 4;
+pub const KINDS: usize = 5;
 
 // The parameters' kind, of which there is always one row, with no id.
 pub const PARAMETERS: usize = 4;
@@ -42,12 +42,14 @@ pub enum Ruling {
     Broken { number: u8, place: u32 },
 }
 
-// How many rows of each kind a return has. A new kind is a new line.
+// What a return holds: its edition, and how many rows of each kind. A new kind is a new line.
 pub struct Counts {
+    pub edition: u32,
     pub conversion: u32,
     pub stock: u32,
     pub harvest: u32,
     pub parameters: u32,
+    pub abandoned: u32,
 }
 
 pub enum Verdict {
@@ -161,6 +163,7 @@ pub fn count_of(c: Counts, kind: usize) -> u32
         2 => c.stock,
         3 => c.harvest,
         4 => c.parameters,
+        5 => c.abandoned,
         _ => 0,
     }
 }
@@ -191,7 +194,11 @@ pub fn first_block(c: Counts, kind: usize) -> usize
 pub fn last_kind(edition: u32) -> u32
     ensures { λ r. ⌜ r ≡ lastKind edition ⌝ }
 {
-    if edition == 1 { 4 } else { 0 }
+    match edition {
+        1 => 4,
+        2 => 5,
+        _ => 0,
+    }
 }
 
 // Where row i of a kind starts, from the kind's first block: a block of twelve rows has 32 bytes more than they take.

@@ -1,6 +1,6 @@
 // The judge: any bytes of any length are accepted, with the row counts, or refused, with one number and one place.
 ghost use mathlib.Core.Path.{_≡_};
-ghost use Prim.Native.Nat.{_^_, _<_};
+ghost use Prim.Native.Nat.{_^_, _≤_, _<_};
 ghost use lib.ListN.{length};
 ghost use Rattle.form.specs.Ruling.{ruling};
 ghost use Rattle.form.specs.Block.{edition};
@@ -11,6 +11,7 @@ use form::Ruling;
 use form::Spot;
 use form::Verdict;
 use form::byte_at;
+use form::two_at;
 use form::where_same;
 
 // Rules 1 to 4.
@@ -88,16 +89,18 @@ fn rows_of(bytes: &[u8], kind: u32) -> u32
     rows
 }
 
-// A new kind is a new line.
+// The edition, from block 0, and the rows. A new kind is a new line.
 fn count_rows(bytes: &[u8]) -> Counts
-    requires { ⌜ length (now bytes) < 2 ^ 24 ⌝ }
+    requires { ⌜ (8 ≤ length (now bytes)) × (length (now bytes) < 2 ^ 24) ⌝ }
     ensures { λ r. ⌜ r ≡ countsOf (now (bytes .entry)) ⌝ }
 {
     Counts {
+        edition: two_at(bytes, 6),
         conversion: rows_of(bytes, 1),
         stock: rows_of(bytes, 2),
         harvest: rows_of(bytes, 3),
         parameters: rows_of(bytes, 4),
+        abandoned: rows_of(bytes, 5),
     }
 }
 

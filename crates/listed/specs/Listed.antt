@@ -5,7 +5,7 @@ use mathlib.Core.List.{List, [], _∷_, _++_}
 use lib.IntN.{ℤ, pos}
 use Rattle.wide.specs.Signs.{signedOf}
 use Rattle.wide.specs.declared.signed.Signed.{Signed}
-use Rattle.worksheets.specs.Sheets.{Sheet51, Sheet52, Sheet53, Sheets}
+use Rattle.worksheets.specs.Sheets.{Sheet51, Sheet52, Sheet53, Sheet54, Sheets}
 
 -- a name in ASCII and a value
 pub record Figure : Type 0 where
@@ -47,12 +47,19 @@ listed53 f =
     ∷ figure (110 ∷ 111 ∷ 120 ∷ []) (pos (f .nox))
     ∷ []
 
+-- §1: "requested figures print after 01's lines": "uptake" "uptake_co2"
+unfoldable pub listed54 : Sheet54 → List Figure
+listed54 f =
+    figure (117 ∷ 112 ∷ 116 ∷ 97 ∷ 107 ∷ 101 ∷ []) (pos (f .uptake))
+    ∷ figure (117 ∷ 112 ∷ 116 ∷ 97 ∷ 107 ∷ 101 ∷ 95 ∷ 99 ∷ 111 ∷ 50 ∷ []) (pos (f .co2))
+    ∷ []
+
 unfoldable pub listed : Sheets → List Figure
-listed v = listed51 (v .stocks) ++ listed52 (v .conversion) ++ listed53 (v .gases)
+listed v = listed51 (v .stocks) ++ listed52 (v .conversion) ++ listed53 (v .gases) ++ listed54 (v .abandoned)
 
 -- how many there are: the same of every return (`counted`)
 abbrev pub figureCount : ℕ
-figureCount = 17
+figureCount = 19
 
 -- the values of a list of figures, each in its one form
 abbrev pub valuesOf : List Figure → List Signed

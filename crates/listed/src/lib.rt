@@ -6,7 +6,7 @@ use wide::signed::Signed;
 use worksheets::sheets::Figures;
 
 // How many figures there are.
-pub const FIGURES: usize = 17;
+pub const FIGURES: usize = 19;
 
 // Each figure's value with its sign, in the list's order. Struct literals and no calls: so its proof is one law.
 pub fn list(f: Figures) -> [Signed; FIGURES]
@@ -42,6 +42,10 @@ pub fn list(f: Figures) -> [Signed; FIGURES]
     let n2o = Signed { below: false, size };
     let size = f.gases.nox.0;
     let nox = Signed { below: false, size };
+    let size = f.abandoned.uptake.0;
+    let uptake = Signed { below: false, size };
+    let size = f.abandoned.co2.0;
+    let uptake_co2 = Signed { below: false, size };
     [
         e,
         k,
@@ -60,5 +64,7 @@ pub fn list(f: Figures) -> [Signed; FIGURES]
         co,
         n2o,
         nox,
+        uptake,
+        uptake_co2,
     ]
 }

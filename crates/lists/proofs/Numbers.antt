@@ -11,12 +11,13 @@ use lib.ListN.{length, getD, drop, drop-of-length-le}
 use lib.Seq.{getD-take, getD-drop, drop-cons, drop-drop}
 use borrow.Author.Tests.{lt-ltb, le-ltb, le-leb, eq-eqb, ne-eqb, ltb-false, eqb-true, not-false}
 use Rattle.form.specs.Layout.{field, Layout, kinds, parametersKind, layout, numbersOf, aboveLimit, fieldAt}
+use Rattle.form.specs.Edition.{lastKind, known}
 use Rattle.form.specs.Records.{RowTest, idOf, overspent, grown, badId, brokenBy, testNumbered}
-use Rattle.form.proofs.Tests.{or-none}
-use Rattle.form.proofs.EachKind.{parameters-last}
+use Rattle.form.proofs.Tests.{and-rest, or-none}
+use Rattle.form.proofs.EachKind.{parameters-kind}
 use Rattle.filing.specs.Lists.{total, rowsIn, rowOf, blocksOf, filedList}
 use Rattle.filing.proofs.Choice.{either}
-use Rattle.lists.specs.Rules.{badList, badLengths, badAt, Good, blocksFrom}
+use Rattle.lists.specs.Rules.{badList, badLengths, notAllowed, badAt, Good, blocksFrom}
 
 -- number i of row j
 pub number-in : (kind : ℕ) (r : List ℕ) (j i : ℕ) → i < numbersOf kind → getD (rowOf kind r j) i 0 ≡ getD r (numbersOf kind * j + i) 0
@@ -104,18 +105,28 @@ pub lengths-each : (lengths : List ℕ) (m : ℕ) → badLengths lengths m ≡ f
 unfolding badLengths
 lengths-each lengths m e = eqb-true (length lengths) kinds (not-false _ (or-none (not (eqb (length lengths) kinds)) _ e .0))
 
-pub good : (lengths : List ℕ) (m : ℕ) → ((p : ℕ) → p < suc kinds → badAt lengths m p ≡ false) → Good lengths m
+pub good : (e : ℕ) (lengths : List ℕ) (m : ℕ) → ((p : ℕ) → p < suc kinds → badAt e lengths m p ≡ false) → Good lengths m
 unfolding badLengths
-good lengths m h =
-    let z = or-none (not (eqb (length lengths) kinds)) _ (h 0 (omega arith)) in
-    let last : parametersKind < suc kinds = omega (arith, parameters-last) in
+good e lengths m g =
+    let z = or-none (not (eqb (length lengths) kinds)) _ (or-none (not (known e)) _ (g 0 (omega arith)) .1) in
+    let h : (k : ℕ) → k < kinds → badList (suc k) (getD lengths k 0) ≡ false = λ k l. or-none (notAllowed e (suc k) (getD lengths k 0)) _ (g (suc k) (omega arith)) .1 in
     record {
       each = eqb-true (length lengths) kinds (not-false _ (z .0));
       all = eqb-true (total lengths) m (not-false _ (z .1));
-      whole = λ k l. list-facts (suc k) (getD lengths k 0) (h (suc k) (omega arith)) .0;
-      few = λ k l. list-facts (suc k) (getD lengths k 0) (h (suc k) (omega arith)) .1;
-      one = eqb-true (rowsIn parametersKind (getD lengths (parametersKind - 1) 0)) 1 (not-false _ (list-facts parametersKind (getD lengths (parametersKind - 1) 0) (h parametersKind (omega arith)) .2));
+      whole = λ k l. list-facts (suc k) (getD lengths k 0) (h k l) .0;
+      few = λ k l. list-facts (suc k) (getD lengths k 0) (h k l) .1;
+      one = eqb-true (rowsIn parametersKind (getD lengths (parametersKind - 1) 0)) 1 (not-false _ (list-facts parametersKind (getD lengths (parametersKind - 1) 0) (h (parametersKind - 1) parameters-kind) .2));
     }
+
+-- the edition is one that there is, and has the kinds that there are rows of
+pub edition-good : (e : ℕ) (lengths : List ℕ) (m : ℕ) → ((p : ℕ) → p < suc kinds → badAt e lengths m p ≡ false) → known e ≡ true
+edition-good e lengths m g = not-false _ (or-none (not (known e)) _ (g 0 (omega arith)) .0)
+
+pub kind-good : (e : ℕ) (lengths : List ℕ) (m : ℕ) → ((p : ℕ) → p < suc kinds → badAt e lengths m p ≡ false) → (k : ℕ) → k < kinds
+    → lastKind e < suc k → getD lengths k 0 ≡ 0
+unfolding notAllowed
+kind-good e lengths m g k l h =
+    eqb-true (getD lengths k 0) 0 (not-false _ (and-rest _ _ (lt-ltb (lastKind e) (suc k) h) (or-none (notAllowed e (suc k) (getD lengths k 0)) _ (g (suc k) (omega arith)) .0)))
 
 -- ---- the blocks that the lists take
 

@@ -16,10 +16,6 @@ use Rattle.filing.proofs.Cut.{cut-length, part-at, cut-long, total-none, total-
 use Rattle.lists.specs.Rules.{Good, shifted, firstOf}
 use Rattle.lists.proofs.Places.{shift-zero, first-kinds}
 
--- how many kinds there are, as a loop over them carries it, so that what it asks of their number is at hand
-abbrev pub KindsAre : Type 0
-KindsAre = kinds ≡ 4
-
 -- the part of an area that is kind k + 1's list, of m numbers from `from` on
 module _ (area : List ℕ) (k : ℕ) {lengths : List ℕ} {from m : ℕ} (g : Good lengths (length area)) (at : from ≡ total (take k lengths)) (h : k < kinds)
     (em : m ≡ getD lengths k 0) where

@@ -6,11 +6,12 @@ use lib.ListN.{replicate}
 use Rattle.form.specs.First.{first}
 use Rattle.form.specs.Ruling.{ruling}
 use Rattle.form.specs.Layout.{kinds, aboveLimit}
+use Rattle.form.specs.Edition.{lastKind}
 use Rattle.form.specs.Records.{badId, brokenBy}
 use Rattle.form.specs.declared.Ruling.{Ruling}
 use Rattle.form.specs.declared.Ruling.the-variants.{Clean, Broken}
 use Rattle.filing.specs.Lists.{cut, total, filedList, behind, filedFrom}
-use Rattle.lists.specs.Rules.{badList, badLengths, listRules}
+use Rattle.lists.specs.Rules.{badList, badLengths, notAllowed, listRules}
 
 -- the rows of 01's worked day, kind by kind
 abbrev conversionDay : List ℕ
@@ -30,11 +31,11 @@ abbrev pub dayArea : List ℕ
 dayArea = conversionDay ++ (stockDay ++ (harvestDay ++ parametersDay))
 
 abbrev pub dayLengths : List ℕ
-dayLengths = 15 ∷ 5 ∷ 5 ∷ 6 ∷ []
+dayLengths = 15 ∷ 5 ∷ 5 ∷ 6 ∷ 0 ∷ []
 
 -- the ruling, opened for computing
 unfoldable computed : List ℕ → List ℕ → Ruling
-unfolding first ruling kinds aboveLimit badId brokenBy cut total filedList behind filedFrom badList badLengths listRules
+unfolding first ruling kinds aboveLimit badId brokenBy cut total filedList behind filedFrom lastKind badList badLengths notAllowed listRules
 computed lengths area = ruling (listRules 1 lengths area)
 
 day-clean : ruling (listRules 1 dayLengths dayArea) ≡ Clean
@@ -42,7 +43,7 @@ unfolding computed
 day-clean = refl
 
 -- a length short by one: a number would be dropped
-short : ruling (listRules 1 (15 ∷ 5 ∷ 4 ∷ 6 ∷ []) dayArea) ≡ Broken 10 0
+short : ruling (listRules 1 (15 ∷ 5 ∷ 4 ∷ 6 ∷ 0 ∷ []) dayArea) ≡ Broken 10 0
 unfolding computed
 short = refl
 
@@ -52,21 +53,37 @@ unfolding computed
 three = refl
 
 -- 33 harvest rows
-many : ruling (listRules 1 (0 ∷ 0 ∷ 165 ∷ 6 ∷ []) (replicate 165 0 ++ parametersDay)) ≡ Broken 10 3
+many : ruling (listRules 1 (0 ∷ 0 ∷ 165 ∷ 6 ∷ 0 ∷ []) (replicate 165 0 ++ parametersDay)) ≡ Broken 10 3
 unfolding computed
 many = refl
 
 -- no parameter row
-bare : ruling (listRules 1 (0 ∷ 0 ∷ 0 ∷ 0 ∷ []) []) ≡ Broken 10 4
+bare : ruling (listRules 1 (0 ∷ 0 ∷ 0 ∷ 0 ∷ 0 ∷ []) []) ≡ Broken 10 4
 unfolding computed
 bare = refl
 
 -- a second stock row with the id of the first, behind a block of one conversion row
-repeated : ruling (listRules 1 (15 ∷ 10 ∷ 0 ∷ 6 ∷ []) (conversionDay ++ (stockDay ++ (stockDay ++ parametersDay)))) ≡ Broken 5 13
+repeated : ruling (listRules 1 (15 ∷ 10 ∷ 0 ∷ 6 ∷ 0 ∷ []) (conversionDay ++ (stockDay ++ (stockDay ++ parametersDay)))) ≡ Broken 5 13
 unfolding computed
 repeated = refl
 
 -- a unit code of 256, wider than its byte
-wide : ruling (listRules 1 (0 ∷ 5 ∷ 0 ∷ 6 ∷ []) (1 ∷ 256 ∷ 0 ∷ 0 ∷ 0 ∷ parametersDay)) ≡ Broken 6 0
+wide : ruling (listRules 1 (0 ∷ 5 ∷ 0 ∷ 6 ∷ 0 ∷ []) (1 ∷ 256 ∷ 0 ∷ 0 ∷ 0 ∷ parametersDay)) ≡ Broken 6 0
 unfolding computed
 wide = refl
+
+-- a row of abandoned land: in edition 2, and refused in edition 1 and in one that there is not
+abbrev abandonedDay : List ℕ
+abandonedDay = parametersDay ++ (1 ∷ 1000 ∷ 680 ∷ 500 ∷ 2000 ∷ 300 ∷ 450 ∷ [])
+
+second : ruling (listRules 2 (0 ∷ 0 ∷ 0 ∷ 6 ∷ 7 ∷ []) abandonedDay) ≡ Clean
+unfolding computed
+second = refl
+
+second-only : ruling (listRules 1 (0 ∷ 0 ∷ 0 ∷ 6 ∷ 7 ∷ []) abandonedDay) ≡ Broken 10 5
+unfolding computed
+second-only = refl
+
+no-third : ruling (listRules 3 (0 ∷ 0 ∷ 0 ∷ 6 ∷ 7 ∷ []) abandonedDay) ≡ Broken 10 0
+unfolding computed
+no-third = refl

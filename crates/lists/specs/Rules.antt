@@ -6,6 +6,7 @@ use mathlib.Core.List.{List, [], _∷_}
 use lib.ListN.{length, getD}
 use lib.Dec.{ltb, eqb}
 use Rattle.form.specs.Layout.{kinds, parametersKind, numbersOf}
+use Rattle.form.specs.Edition.{lastKind, known}
 use Rattle.form.specs.Ruling.{Rule, rule}
 use Rattle.form.specs.First.{first}
 use Rattle.form.specs.Records.{Filed, recordRules, testOf}
@@ -24,13 +25,17 @@ badList kind n =
 unfoldable pub badLengths : List ℕ → ℕ → Bool
 badLengths lengths m = not (eqb (length lengths) kinds) || not (eqb (total lengths) m)
 
--- 10 by its place: 0 for the lengths, then the kinds
-abbrev pub badAt : List ℕ → ℕ → ℕ → Bool
-badAt lengths m zero = badLengths lengths m
-badAt lengths m (suc k) = badList (suc k) (getD lengths k 0)
+-- §1: "for rows above kind 4 in edition 1": a list of n numbers, of a kind that the edition does not have
+unfoldable pub notAllowed : ℕ → ℕ → ℕ → Bool
+notAllowed edition kind n = ltb (lastKind edition) kind && not (eqb n 0)
+
+-- 10 by its place: 0 for "an unknown edition" and the lengths, then the kinds
+abbrev pub badAt : ℕ → List ℕ → ℕ → ℕ → Bool
+badAt edition lengths m zero = not (known edition) || badLengths lengths m
+badAt edition lengths m (suc k) = notAllowed edition (suc k) (getD lengths k 0) || badList (suc k) (getD lengths k 0)
 
 unfoldable pub listRules : ℕ → List ℕ → List ℕ → List Rule
-listRules edition lengths area = rule 10 (suc kinds) (badAt lengths (length area)) ∷ recordRules edition (filedLists (cut lengths area))
+listRules edition lengths area = rule 10 (suc kinds) (badAt edition lengths (length area)) ∷ recordRules edition (filedLists (cut lengths area))
 
 -- ---- as the code has them
 

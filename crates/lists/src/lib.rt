@@ -7,12 +7,13 @@ ghost use Rattle.form.specs.Ruling.{ruling};
 ghost use Rattle.form.specs.Layout.{kinds, layout, numbersOf, aboveLimit};
 ghost use Rattle.form.specs.Records.{overspent, grown, badId, recordRules, testNumbered, testOf};
 ghost use Rattle.filing.specs.Lists.{cut, total, rowsIn, rowOf, blocksOf, filedList, filedLists};
-ghost use Rattle.lists.specs.Rules.{badList, badLengths, badAt, Good, Few, blocksFrom, shifted, firstOf};
+ghost use Rattle.lists.specs.Rules.{badList, badLengths, notAllowed, badAt, Good, Few, blocksFrom, shifted, firstOf};
 use form::KINDS;
 use form::PARAMETERS;
 use form::Ruling;
 use form::Spot;
 use form::blocks_for;
+use form::last_kind;
 use form::layout::field;
 use form::layout::numbers;
 
@@ -62,16 +63,24 @@ fn bad_lengths(lengths: &[u32], m: usize) -> bool
     sum(lengths) != m
 }
 
-// Rule 10, of lists of these lengths in an area of m numbers.
-pub fn first_bad_list(lengths: &[u32], m: usize) -> Spot
-    ensures { λ r. ⌜ r ≡ first (badAt (now (lengths .entry)) m) (suc kinds) ⌝ }
+// Rows of a kind that the edition does not have.
+fn not_allowed(edition: u32, kind: usize, n: usize) -> bool
+    ensures { λ r. ⌜ r ≡ notAllowed edition kind n ⌝ }
 {
-    if bad_lengths(lengths, m) {
+    ((last_kind(edition) as usize) < kind) & (n != 0)
+}
+
+// Rule 10, of lists of these lengths in an area of m numbers, for a return of this edition.
+pub fn first_bad_list(edition: u32, lengths: &[u32], m: usize) -> Spot
+    ensures { λ r. ⌜ r ≡ first (badAt edition (now (lengths .entry)) m) (suc kinds) ⌝ }
+{
+    if !(0 < last_kind(edition)) | bad_lengths(lengths, m) {
         return Spot::At(0);
     }
     let mut k: usize = 0;
     while k < KINDS {
-        if bad_list(k + 1, length_at(lengths, k)) {
+        let n = length_at(lengths, k);
+        if not_allowed(edition, k + 1, n) | bad_list(k + 1, n) {
             return Spot::At(k as u32 + 1);
         }
         k += 1;

@@ -66,8 +66,9 @@ module _ {M : Type 1} (𝓤 : URA M) where
     read-says = record { asks-nothing = λ κs a g. id⊢ 𝓤 _; answers = λ κs a g r e. then 𝓤 _ _ (beside 𝓤 _ _ _ (id⊢ 𝓤 _)) (λ x. (x .0, x .1 ∙ ap (roomAfter (now (a .0)) (now (a .1 .0))) (x .0))) }
 
     pub write-says : Says write.ended (write.clauses 𝓤 H A mem run)
-        (λ κs a r e. (r ≡ writeAnswer 1 (now (a .0)) (now (a .1 .0)) (now (a .1 .1 .0))) × (now (e .1 .1 .0) ≡ bytesAfter 1 (now (a .0)) (now (a .1 .0)) (now (a .1 .1 .0)) (writeAnswer 1 (now (a .0)) (now (a .1 .0)) (now (a .1 .1 .0)))))
-    write-says = record { asks-nothing = λ κs a g. id⊢ 𝓤 _; answers = λ κs a g r e. then 𝓤 _ _ (beside 𝓤 _ _ _ (id⊢ 𝓤 _)) (λ x. (x .0, x .1 ∙ ap (bytesAfter 1 (now (a .0)) (now (a .1 .0)) (now (a .1 .1 .0))) (x .0))) }
+        (λ κs a r e. (r ≡ writeAnswer (a .0) (now (a .1 .0)) (now (a .1 .1 .0)) (now (a .1 .1 .1 .0)))
+        × (now (e .1 .1 .1 .0) ≡ bytesAfter (a .0) (now (a .1 .0)) (now (a .1 .1 .0)) (now (a .1 .1 .1 .0)) (writeAnswer (a .0) (now (a .1 .0)) (now (a .1 .1 .0)) (now (a .1 .1 .1 .0)))))
+    write-says = record { asks-nothing = λ κs a g. id⊢ 𝓤 _; answers = λ κs a g r e. then 𝓤 _ _ (beside 𝓤 _ _ _ (id⊢ 𝓤 _)) (λ x. (x .0, x .1 ∙ ap (bytesAfter (a .0) (now (a .1 .0)) (now (a .1 .1 .0)) (now (a .1 .1 .1 .0))) (x .0))) }
 
     pub lines-says : Says lines.ended (lines.clauses 𝓤 H A mem run)
         (λ κs a r e. (r ≡ putOf (printed (now (a .0))) (now (a .1 .0))) × (now (e .1 .0) ≡ textAfter (printed (now (a .0))) (now (a .1 .0)) (putOf (printed (now (a .0))) (now (a .1 .0)))))
@@ -101,9 +102,9 @@ module _ {M : Type 1} (𝓤 : URA M) where
     c-read-says = record { asks-nothing = λ κs a g. id⊢ 𝓤 _; answers = λ κs a g r e. beside 𝓤 _ _ _ (beside 𝓤 _ _ _ (id⊢ 𝓤 _)) }
 
     pub c-write-says : Says c-write.ended (c-write.clauses 𝓤 H A mem run)
-        (λ κs a r e. (r ≡ codeOf (writeCall (now (a .0)) (now (a .1 .0)) (now (a .1 .1 .0)) (now (a .1 .1 .1 .0))))
-        × ((now (e .1 .1 .0) ≡ blocksWritten (now (a .0)) (now (a .1 .0)) (now (a .1 .1 .0)) (now (a .1 .1 .1 .0)))
-        × (now (e .1 .1 .1 .0) ≡ sizeWritten (now (a .0)) (now (a .1 .0)) (now (a .1 .1 .0)) (now (a .1 .1 .1 .0)))))
+        (λ κs a r e. (r ≡ codeOf (writeCall (a .0) (now (a .1 .0)) (now (a .1 .1 .0)) (now (a .1 .1 .1 .0)) (now (a .1 .1 .1 .1 .0))))
+        × ((now (e .1 .1 .1 .0) ≡ blocksWritten (a .0) (now (a .1 .0)) (now (a .1 .1 .0)) (now (a .1 .1 .1 .0)) (now (a .1 .1 .1 .1 .0)))
+        × (now (e .1 .1 .1 .1 .0) ≡ sizeWritten (a .0) (now (a .1 .0)) (now (a .1 .1 .0)) (now (a .1 .1 .1 .0)) (now (a .1 .1 .1 .1 .0)))))
     c-write-says = record { asks-nothing = λ κs a g. id⊢ 𝓤 _; answers = λ κs a g r e. beside 𝓤 _ _ _ (beside 𝓤 _ _ _ (id⊢ 𝓤 _)) }
 
     pub c-defaults-says : Says c-defaults.ended (c-defaults.clauses 𝓤 H A mem run)

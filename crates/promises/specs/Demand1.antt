@@ -42,17 +42,17 @@ unfolding numbers blockRules
 read-numbers s room = refl
 
 -- "Writing: 10, then 5 to 9"
-pub write-numbers : (lengths rows room : List ℕ) → numbers (writeRules 1 lengths rows room) ≡ 10 ∷ 5 ∷ 6 ∷ 7 ∷ 8 ∷ 9 ∷ []
+pub write-numbers : (edition : ℕ) (lengths rows room : List ℕ) → numbers (writeRules edition lengths rows room) ≡ 10 ∷ 5 ∷ 6 ∷ 7 ∷ 8 ∷ 9 ∷ []
 unfolding numbers listRules
-write-numbers lengths rows room = refl
+write-numbers edition lengths rows room = refl
 
 -- ---- the answers
--- judge: the four counts, or a refusal
+-- judge: the edition and the counts, or a refusal
 pub judge-by-order : (s : List ℕ) → ByOrder (rules s) (λ n p. verdictOf s ≡ verdict.Refused n p) (verdictOf s ≡ verdict.Accepted (countsOf s))
 unfolding verdictOf
 judge-by-order s = by-order (verdictBy s) (verdict-told s) (rules s)
 
--- read: the four counts, or a refusal
+-- read: the edition and the counts, or a refusal
 pub read-by-order : (s room : List ℕ) → ByOrder (readRules s room) (λ n p. readAnswer s room ≡ verdict.Refused n p) (readAnswer s room ≡ verdict.Accepted (countsOf s))
 unfolding readAnswer
 read-by-order s room = by-order (verdictBy s) (verdict-told s) (readRules s room)
@@ -68,11 +68,11 @@ unfolding verdictOf
 subtotals-by-order s = by-order (λ (u : Ruling). answerBy s (verdictBy s u)) (doubles-told s) (rules s)
 
 -- write: the number of bytes, or a refusal
-pub write-by-order : (lengths rows room : List ℕ)
-    → ByOrder (writeRules 1 lengths rows room) (λ n p. writeAnswer 1 lengths rows room ≡ write.Refused n p)
-    (writeAnswer 1 lengths rows room ≡ write.Done (length (written 1 (cut lengths rows))))
+pub write-by-order : (edition : ℕ) (lengths rows room : List ℕ)
+    → ByOrder (writeRules edition lengths rows room) (λ n p. writeAnswer edition lengths rows room ≡ write.Refused n p)
+    (writeAnswer edition lengths rows room ≡ write.Done (length (written edition (cut lengths rows))))
 unfolding writeAnswer
-write-by-order lengths rows room = by-order (writtenBy 1 (cut lengths rows)) (written-told (cut lengths rows)) (writeRules 1 lengths rows room)
+write-by-order edition lengths rows room = by-order (writtenBy edition (cut lengths rows)) (written-told edition (cut lengths rows)) (writeRules edition lengths rows room)
 
 -- ---- from C
 -- "from C, then 11 and last 9"
@@ -92,9 +92,9 @@ pub c-read-numbers : (s rows counts : List ℕ) → numbers (readRulesC s rows c
 unfolding numbers blockRules
 c-read-numbers s rows counts = refl
 
-pub c-write-numbers : (rows lengths room size : List ℕ) → numbers (writeRulesC rows lengths room size) ≡ 10 ∷ 5 ∷ 6 ∷ 7 ∷ 8 ∷ 9 ∷ []
+pub c-write-numbers : (edition : ℕ) (rows lengths room size : List ℕ) → numbers (writeRulesC edition rows lengths room size) ≡ 10 ∷ 5 ∷ 6 ∷ 7 ∷ 8 ∷ 9 ∷ []
 unfolding numbers listRules
-c-write-numbers rows lengths room size = refl
+c-write-numbers edition rows lengths room size = refl
 
 -- "It gets back 0; or it gets back 1,000 times the refusal number plus the place"
 pub c-judge-by-order : (s counts : List ℕ) → ByOrder (judgeRules s counts) (Coded (codeOf (judgeCall s counts))) (codeOf (judgeCall s counts) ≡ 0)
@@ -110,9 +110,9 @@ c-figures-by-order s room = by-code (bounded-then (rules s) _ (bounded-bytes s) 
 pub c-read-by-order : (s rows counts : List ℕ) → ByOrder (readRulesC s rows counts) (Coded (codeOf (readCall s rows counts))) (codeOf (readCall s rows counts) ≡ 0)
 c-read-by-order s rows counts = by-code (bounded-then (rules s) _ (bounded-bytes s) (bounded (omega (arith, few-kinds))))
 
-pub c-write-by-order : (rows lengths room size : List ℕ)
-    → ByOrder (writeRulesC rows lengths room size) (Coded (codeOf (writeCall rows lengths room size))) (codeOf (writeCall rows lengths room size) ≡ 0)
-c-write-by-order rows lengths room size = by-code (bounded-then (listRules 1 lengths rows) _ (bounded-lists lengths rows) (bounded (omega arith)))
+pub c-write-by-order : (edition : ℕ) (rows lengths room size : List ℕ)
+    → ByOrder (writeRulesC edition rows lengths room size) (Coded (codeOf (writeCall edition rows lengths room size))) (codeOf (writeCall edition rows lengths room size) ≡ 0)
+c-write-by-order edition rows lengths room size = by-code (bounded-then (listRules edition lengths rows) _ (bounded-lists edition lengths rows) (bounded (omega arith)))
 
 -- ---- "nothing lent has changed"
 pub c-judge-unchanged : (s counts : List ℕ) (n p : ℕ) → countsAfter s counts (Broken n p) ≡ counts
@@ -127,15 +127,15 @@ c-figures-unchanged s room n p = refl
 pub c-read-unchanged : (s rows counts : List ℕ) (n p : ℕ) → (rowsAfter s rows (Broken n p) ≡ rows) × (countsAfter s counts (Broken n p) ≡ counts)
 c-read-unchanged s rows counts n p = (refl, refl)
 
-pub c-write-unchanged : (rows lengths room size : List ℕ) (n p : ℕ)
-    → (blocksAfter rows lengths room (Broken n p) ≡ room) × (sizeAfter rows lengths size (Broken n p) ≡ size)
-c-write-unchanged rows lengths room size n p = (refl, refl)
+pub c-write-unchanged : (edition : ℕ) (rows lengths room size : List ℕ) (n p : ℕ)
+    → (blocksAfter edition rows lengths room (Broken n p) ≡ room) × (sizeAfter edition rows lengths size (Broken n p) ≡ size)
+c-write-unchanged edition rows lengths room size n p = (refl, refl)
 
 pub read-unchanged : (s room : List ℕ) (n p : ℕ) → roomAfter s room (verdict.Refused n p) ≡ room
 read-unchanged s room n p = refl
 
-pub write-unchanged : (lengths rows room : List ℕ) (n p : ℕ) → bytesAfter 1 lengths rows room (write.Refused n p) ≡ room
-write-unchanged lengths rows room n p = refl
+pub write-unchanged : (edition : ℕ) (lengths rows room : List ℕ) (n p : ℕ) → bytesAfter edition lengths rows room (write.Refused n p) ≡ room
+write-unchanged edition lengths rows room n p = refl
 
 pub lines-unchanged : (text room : List ℕ) → textAfter text room Short ≡ room
 lines-unchanged text room = refl

@@ -15,11 +15,12 @@ use Rattle.filing.specs.Lists.{rowsIn}
 use Rattle.rows.specs.Reading.{readAnswer, onFront, roomAfter, lengthsOf}
 use Rattle.rows.specs.Writing.{writeAnswer, bytesAfter}
 use Rattle.rows.specs.declared.Written.the-variants.{Done}
-use Rattle.trips.proofs.Again.{returned, read-accepted, read-counts, read-rows, leftBehind, write-done, write-same}
+use Rattle.trips.proofs.Again.{returned, read-accepted, read-edition, read-counts, read-rows, leftBehind, write-done, write-same}
 use Rattle.wide.specs.Rounding.{nearest}
 use Rattle.wide.specs.Signs.{nearestZ}
-use Rattle.totals.specs.Columns.{sumOf, rate, amount, stockCarbon, commercial, tonnesPerM3, fuelwood, otherUse, uptakePart, harvestPart, clearedPart, onsitePart, offsitePart, decayPart}
-use Rattle.worksheets.specs.Sheets.{Sheets, figuresOf, given, stocksOf, conversionOf, gasesOf}
+use Rattle.totals.specs.Columns.{sumOf, rate, amount, stockCarbon, commercial, tonnesPerM3, fuelwood, otherUse, stockPart, harvestPart, clearedPart, onsitePart, offsitePart, decayPart}
+use Rattle.totals.specs.Abandoned.{youngArea, youngRate, youngCarbon, olderArea, olderRate, olderCarbon, abandonedPart}
+use Rattle.worksheets.specs.Sheets.{Sheets, figuresOf, given, stocksOf, conversionOf, gasesOf, abandonedOf}
 use Rattle.steps.proofs.Rounds.{nearest-between}
 
 -- "5-1", as 01 has it; the parameter row gives N
@@ -48,9 +49,14 @@ pub record Sheet5-3 (s : List ℕ) (v : Sheets) : Type 0 where
   pub N2O : v .gases .n2o ≡ nearest (11 * v .conversion .onsite * given s .nc * given s .n2o) (7 * 10 ^ 15)
   pub NOx : v .gases .nox ≡ nearest (23 * v .conversion .onsite * given s .nc * given s .nox) (7 * 10 ^ 15)
 
+-- 5-4, as the request for it has it: "the sum of the two products over the rows, then CO2 by 11/3, rounded once"
+pub record Sheet5-4 (s : List ℕ) (v : Sheets) : Type 0 where
+  pub uptake : v .abandoned .uptake ≡ sumOf (λ r. youngArea r * youngRate r * youngCarbon r + olderArea r * olderRate r * olderCarbon r) (rows 5 s)
+  pub CO2 : v .abandoned .co2 ≡ nearest (11 * v .abandoned .uptake) 30000
+
 -- the figures are the columns: of every list of bytes, so of every accepted return
 pub figures-5-1 : (s : List ℕ) → Sheet5-1 s (figuresOf s)
-unfolding stocksOf sumOf uptakePart harvestPart clearedPart
+unfolding stocksOf sumOf stockPart harvestPart clearedPart
 figures-5-1 s = record { E = refl; K = refl; L = refl; M = refl; O = refl; P = refl; Q = refl; report = refl }
 
 pub figures-5-2 : (s : List ℕ) → Sheet5-2 s (figuresOf s)
@@ -60,6 +66,10 @@ figures-5-2 s = record { onsite = refl; offsite = refl; R = refl; decay = refl; 
 pub figures-5-3 : (s : List ℕ) → Sheet5-3 s (figuresOf s)
 unfolding gasesOf conversionOf
 figures-5-3 s = record { CH4 = refl; CO = refl; N2O = refl; NOx = refl }
+
+pub figures-5-4 : (s : List ℕ) → Sheet5-4 s (figuresOf s)
+unfolding abandonedOf sumOf abandonedPart
+figures-5-4 s = record { uptake = refl; CO2 = refl }
 
 -- "Rounding is to nearest, halves away from zero": q is x over d so rounded where d times q is no more than half of d away from x, and at a half above it
 pub record Rounded (x d q : ℕ) : Type 0 where
@@ -75,29 +85,31 @@ nearest-below n d = refl
 
 -- ---- "Good rows written as a return read back as those rows"
 -- Whatever write answers other than a refusal: the bytes that it left at the front of its room, read to any room that is long enough for the rows, are
--- accepted with the counts of the rows, and the rows, kind after kind, stand at the front of that room.
-pub record ReadsBack (lengths rows : List ℕ) (s room : List ℕ) : Type 0 where
+-- accepted with the edition that they were written in and the counts of the rows, and the rows, kind after kind, stand at the front of that room.
+pub record ReadsBack (edition : ℕ) (lengths rows : List ℕ) (s room : List ℕ) : Type 0 where
   pub accepted : readAnswer s room ≡ Accepted (countsOf s)
+  pub same-edition : countsOf s .edition ≡ edition
   pub counts : (k : ℕ) → k < kinds → countIn (countsOf s) (suc k) ≡ rowsIn (suc k) (getD lengths k 0)
   pub front : roomAfter s room (Accepted (countsOf s)) ≡ onFront rows room
 
-pub written-reads-back : (lengths rows bytes : List ℕ) (n : ℕ) → writeAnswer 1 lengths rows bytes ≡ Done n
-    → (room : List ℕ) → length rows ≤ length room → ReadsBack lengths rows (returned lengths rows bytes n) room
-written-reads-back lengths rows bytes n done room long = record {
-  accepted = read-accepted lengths rows bytes n done room long;
-  counts = read-counts lengths rows bytes n done;
-  front = read-rows lengths rows bytes n done room (countsOf (returned lengths rows bytes n));
+pub written-reads-back : (edition : ℕ) (lengths rows bytes : List ℕ) (n : ℕ) → writeAnswer edition lengths rows bytes ≡ Done n
+    → (room : List ℕ) → length rows ≤ length room → ReadsBack edition lengths rows (returned edition lengths rows bytes n) room
+written-reads-back edition lengths rows bytes n done room long = record {
+  accepted = read-accepted edition lengths rows bytes n done room long;
+  same-edition = read-edition edition lengths rows bytes n done;
+  counts = read-counts edition lengths rows bytes n done;
+  front = read-rows edition lengths rows bytes n done room (countsOf (returned edition lengths rows bytes n));
 }
 
 -- ---- "an accepted return, read and written again, is the same bytes"
--- Whatever read answers other than a refusal: the rows that it left at the front of its room, cut by the counts that it answered and written to any room
--- that is long enough, are as many bytes as the return has, and the same.
-pub record WritesBack (s lengths rows room : List ℕ) : Type 0 where
-  pub done : writeAnswer 1 lengths rows room ≡ Done (length s)
-  pub front : bytesAfter 1 lengths rows room (Done (length s)) ≡ onFront s room
+-- Whatever read answers other than a refusal: the rows that it left at the front of its room, cut by the counts that it answered and written, in the edition that it
+-- answered, to any room that is long enough, are as many bytes as the return has, and the same.
+pub record WritesBack (s : List ℕ) (edition : ℕ) (lengths rows room : List ℕ) : Type 0 where
+  pub done : writeAnswer edition lengths rows room ≡ Done (length s)
+  pub front : bytesAfter edition lengths rows room (Done (length s)) ≡ onFront s room
 
 pub read-writes-back : (s : List ℕ) → ((i : ℕ) → i < length s → byteAt s i < 256) → (room : List ℕ) (c : Counts) → readAnswer s room ≡ Accepted c
-    → (bytes : List ℕ) → length s ≤ length bytes → WritesBack s (lengthsOf c) (leftBehind s room c) bytes
+    → (bytes : List ℕ) → length s ≤ length bytes → WritesBack s (c .edition) (lengthsOf c) (leftBehind s room c) bytes
 read-writes-back s small room c read bytes long = record {
   done = write-done s room c read small bytes long;
   front = write-same s room c read small bytes long;

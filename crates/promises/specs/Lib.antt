@@ -3,6 +3,7 @@
 --     Demand1     every input gets its answer, or one refusal by the order; a refusal carries no figures, and nothing lent has changed
 --     Demand2     the figures are the workbook's columns, rounded once; rows written read back, and a return read is written again to the same bytes
 --     Demand3     each subtotal's double is as near as 01 says
+--     Editions    edition 1 returns are read as before
 --     ShutOut     wrong answers that the contracts refuse
 --     Answers     whatever meets an entry point's contract is the answer that the demands speak of; no contract asks anything of its caller
 --     OneAnswer   so each admits one answer
@@ -12,6 +13,7 @@ pub mod Order
 pub mod Demand1
 pub mod Demand2
 pub mod Demand3
+pub mod Editions
 pub mod ShutOut
 pub mod Answers
 pub mod OneAnswer

@@ -51,7 +51,7 @@ module _ {M : Type 1} (𝓤 : URA M) where
     pub read-one : AdmitsOne read.ended (read.clauses 𝓤 H A mem run) (λ κs r e q f. (r ≡ q) × (now (e .1 .0) ≡ now (f .1 .0)))
     read-one κs a g h r q e f = both 𝓤 _ (read-says 𝓤 H A mem run .answers κs a g r e) (read-says 𝓤 H A mem run .answers κs a h q f) (λ x y. (x .0 ∙ sym (y .0), x .1 ∙ sym (y .1)))
 
-    pub write-one : AdmitsOne write.ended (write.clauses 𝓤 H A mem run) (λ κs r e q f. (r ≡ q) × (now (e .1 .1 .0) ≡ now (f .1 .1 .0)))
+    pub write-one : AdmitsOne write.ended (write.clauses 𝓤 H A mem run) (λ κs r e q f. (r ≡ q) × (now (e .1 .1 .1 .0) ≡ now (f .1 .1 .1 .0)))
     write-one κs a g h r q e f = both 𝓤 _ (write-says 𝓤 H A mem run .answers κs a g r e) (write-says 𝓤 H A mem run .answers κs a h q f) (λ x y. (x .0 ∙ sym (y .0), x .1 ∙ sym (y .1)))
 
     pub lines-one : AdmitsOne lines.ended (lines.clauses 𝓤 H A mem run) (λ κs r e q f. (r ≡ q) × (now (e .1 .0) ≡ now (f .1 .0)))
@@ -75,7 +75,7 @@ module _ {M : Type 1} (𝓤 : URA M) where
     c-read-one κs a g h r q e f = both 𝓤 _ (c-read-says 𝓤 H A mem run .answers κs a g r e) (c-read-says 𝓤 H A mem run .answers κs a h q f) (λ x y. (x .0 ∙ sym (y .0), x .1 .0 ∙ sym (y .1 .0), x .1 .1 ∙ sym (y .1 .1)))
 
     -- the byte room and the size
-    pub c-write-one : AdmitsOne c-write.ended (c-write.clauses 𝓤 H A mem run) (λ κs r e q f. (r ≡ q) × (now (e .1 .1 .0) ≡ now (f .1 .1 .0)) × (now (e .1 .1 .1 .0) ≡ now (f .1 .1 .1 .0)))
+    pub c-write-one : AdmitsOne c-write.ended (c-write.clauses 𝓤 H A mem run) (λ κs r e q f. (r ≡ q) × (now (e .1 .1 .1 .0) ≡ now (f .1 .1 .1 .0)) × (now (e .1 .1 .1 .1 .0) ≡ now (f .1 .1 .1 .1 .0)))
     c-write-one κs a g h r q e f = both 𝓤 _ (c-write-says 𝓤 H A mem run .answers κs a g r e) (c-write-says 𝓤 H A mem run .answers κs a h q f) (λ x y. (x .0 ∙ sym (y .0), x .1 .0 ∙ sym (y .1 .0), x .1 .1 ∙ sym (y .1 .1)))
 
     pub c-defaults-one : AdmitsOne c-defaults.ended (c-defaults.clauses 𝓤 H A mem run) (λ κs r e q f. (r ≡ q) × (now (e .0) ≡ now (f .0)))

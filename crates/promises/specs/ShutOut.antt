@@ -24,7 +24,7 @@ use Rattle.doubles.specs.Subtotals.{times, partOf}
 use Rattle.steps.proofs.Told.{worked-not-refused}
 use Rattle.steps.proofs.Doubles.{near-zero, in-order, from-the-last}
 use Rattle.cases.specs.Day.{day, day-written, day-bytes, day-read, day-rows}
-use Rattle.cases.proofs.Single.{nth, day-answered, lone-answered, many-answered, each-differs, first-row, first-block}
+use Rattle.cases.proofs.Single.{nth, landCase, land-answered, lone-answered, many-answered, each-differs, first-row, first-block}
 
 -- "a function that refuses everything"
 pub not-always-refused : ((s : List ℕ) → (n : ℕ) × (p : ℕ) × (outcomeOf s ≡ refusal n p)) → ⊥
@@ -33,14 +33,14 @@ not-always-refused h = let r = h (nth 1 .bytes) in worked-not-refused _ (r .0) (
 pub judge-not-always-refused : ((s : List ℕ) → (n : ℕ) × (p : ℕ) × (verdictOf s ≡ Refused n p)) → ⊥
 judge-not-always-refused h = not-always-refused (λ s. let r = h s in (r .0, r .1, ap (outcomeBy s) (r .2)))
 
--- "one with a fixed figure": no figure of the printed list, by its place, is the same for every return; the worked day and the lone block of zero values differ in each
+-- "one with a fixed figure": no figure of the printed list, by its place, is the same for every return; the worked day with a row of abandoned land and the lone block of zero values differ in each
 pub no-fixed-figure : (i : ℕ) → i < figureCount → (x : ℤ) → ((s : List ℕ) (v : Sheets) → outcomeOf s ≡ worked v → figureAt (listed v) i .value ≡ x) → ⊥
-no-fixed-figure i l x always = each-differs i l (always (nth 0 .bytes) _ day-answered ∙ sym (always (nth 1 .bytes) _ lone-answered))
+no-fixed-figure i l x always = each-differs i l (always (nth landCase .bytes) _ land-answered ∙ sym (always (nth 1 .bytes) _ lone-answered))
 
 -- "one that writes nothing": the day written to a room of nines, and its rows read to one
-pub write-writes : ((lengths rows room : List ℕ) (n : ℕ) → writeAnswer 1 lengths rows room ≡ Done n → bytesAfter 1 lengths rows room (Done n) ≡ room) → ⊥
+pub write-writes : ((edition : ℕ) (lengths rows room : List ℕ) (n : ℕ) → writeAnswer edition lengths rows room ≡ Done n → bytesAfter edition lengths rows room (Done n) ≡ room) → ⊥
 write-writes h =
-    let e : _≡_ {A = ℕ} 1 9 = ap (λ (s : List ℕ). getD s 0 0) (sym day-bytes ∙ h dayLengths dayArea (replicate 2049 9) 2048 day-written) in
+    let e : _≡_ {A = ℕ} 1 9 = ap (λ (s : List ℕ). getD s 0 0) (sym day-bytes ∙ h 1 dayLengths dayArea (replicate 2049 9) 2048 day-written) in
     omega arith
 
 pub read-reads : ((s room : List ℕ) (c : Counts) → readAnswer s room ≡ Accepted c → roomAfter s room (Accepted c) ≡ room) → ⊥

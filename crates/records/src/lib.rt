@@ -56,6 +56,7 @@ fn above_at(bytes: &[u8], kind: u32, at: usize) -> bool
         2 => above_fields(bytes, 2, at),
         3 => above_fields(bytes, 3, at),
         4 => above_fields(bytes, 4, at),
+        5 => above_fields(bytes, 5, at),
         _ => above_fields(bytes, 0, at),
     }
 }

@@ -146,10 +146,10 @@ module _ (e : ℕ) (lengths area room : List ℕ) where
   pub records-kept : {r : Written} → ruling (recordRules e (filedLists (cut lengths area))) ≡ Clean → r ≡ answerFrom9 e lengths area room → r ≡ answerFrom5 e lengths area room
   records-kept c q = q ∙ ap (writtenBy e (cut lengths area)) (sym (kept-before (recordRules e (filedLists (cut lengths area))) _ c))
 
-  pub list-broken : {kind : ℕ} → first (badAt lengths (length area)) (suc kinds) ≡ At kind → Refused 10 kind ≡ writeAnswer e lengths area room
+  pub list-broken : {kind : ℕ} → first (badAt e lengths (length area)) (suc kinds) ≡ At kind → Refused 10 kind ≡ writeAnswer e lengths area room
   unfolding writeAnswer listRules
-  list-broken b = ap (writtenBy e (cut lengths area)) (ruled (rule 10 (suc kinds) (badAt lengths (length area))) _ b)
+  list-broken b = ap (writtenBy e (cut lengths area)) (ruled (rule 10 (suc kinds) (badAt e lengths (length area))) _ b)
 
-  pub lists-kept : {r : Written} → first (badAt lengths (length area)) (suc kinds) ≡ Nowhere → r ≡ answerFrom5 e lengths area room → r ≡ writeAnswer e lengths area room
+  pub lists-kept : {r : Written} → first (badAt e lengths (length area)) (suc kinds) ≡ Nowhere → r ≡ answerFrom5 e lengths area room → r ≡ writeAnswer e lengths area room
   unfolding writeAnswer listRules
-  lists-kept c q = q ∙ ap (writtenBy e (cut lengths area)) (kept (rule 10 (suc kinds) (badAt lengths (length area))) _ c refl)
+  lists-kept c q = q ∙ ap (writtenBy e (cut lengths area)) (kept (rule 10 (suc kinds) (badAt e lengths (length area))) _ c refl)

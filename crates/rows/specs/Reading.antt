@@ -28,7 +28,7 @@ outgrown s m kind = ltb m (length (areaTo s kind))
 abbrev pub readRules : List ℕ → List ℕ → List Rule
 readRules s room = rules s ++ (rule 9 (suc kinds) (outgrown s (length room)) ∷ [])
 
--- "A read answers the four row counts", or "a refusal gives number and place"
+-- "A read answers the .. row counts" and the edition, or "a refusal gives number and place"
 unfoldable pub readAnswer : List ℕ → List ℕ → Verdict
 readAnswer s room = verdictBy s (ruling (readRules s room))
 

@@ -82,14 +82,14 @@ fn write_whole(edition: u32, lengths: &[u32], rows: &[u32], room: &mut [u8]) -> 
     }
 }
 
-// Any rows of any lengths, kind after kind: their return, of edition 1, to the front of the room.
-pub fn write(lengths: &[u32], rows: &[u32], room: &mut [u8]) -> Written
-    ensures { λ r. ⌜ r ≡ writeAnswer 1 (now (lengths .entry)) (now (rows .entry)) (now (room .entry)) ⌝ }
-    ensures { λ r. ⌜ now (room .exit) ≡ bytesAfter 1 (now (lengths .entry)) (now (rows .entry)) (now (room .entry)) r ⌝ }
+// Any rows of any lengths, kind after kind: their return, of this edition, to the front of the room.
+pub fn write(edition: u32, lengths: &[u32], rows: &[u32], room: &mut [u8]) -> Written
+    ensures { λ r. ⌜ r ≡ writeAnswer edition (now (lengths .entry)) (now (rows .entry)) (now (room .entry)) ⌝ }
+    ensures { λ r. ⌜ now (room .exit) ≡ bytesAfter edition (now (lengths .entry)) (now (rows .entry)) (now (room .entry)) r ⌝ }
 {
-    match first_bad_list(lengths, rows.len()) {
+    match first_bad_list(edition, lengths, rows.len()) {
         Spot::At(place) => Written::Refused { number: 10, place },
-        Spot::Nowhere => write_whole(1, lengths, rows, room),
+        Spot::Nowhere => write_whole(edition, lengths, rows, room),
     }
 }
 

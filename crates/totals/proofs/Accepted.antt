@@ -17,14 +17,15 @@ use Rattle.form.specs.Standing.{startBlock, firstBlock}
 use Rattle.form.specs.declared.Counts.{Counts}
 use Rattle.form.specs.declared.Verdict.the-variants.{Accepted}
 use Rattle.form.proofs.Accepted.{counted, first-block, few-rows, rows-length, one-row, row-is, inside, within, shrunk}
-use Rattle.form.proofs.EachKind.{kinds-are, one-kind, parameters-last}
-use Rattle.totals.specs.Columns.{sumOf, uptakePart, harvestPart, clearedPart, onsitePart, offsitePart, decayPart, columnE, columnK, columnL, onsiteTotal, offsiteTotal, decayTotal}
+use Rattle.form.proofs.EachKind.{kinds-are, one-kind, parameters-kind}
+use Rattle.totals.specs.Columns.{sumOf, stockPart, harvestPart, clearedPart, onsitePart, offsitePart, decayPart, columnE, columnK, columnL, onsiteTotal, offsiteTotal, decayTotal}
+use Rattle.totals.specs.Abandoned.{abandonedPart, uptakeTotal}
 use Rattle.totals.specs.Sums.{Sound, partsOf, Added, Summed}
 use Rattle.wide.specs.Numbers.{value}
 use Rattle.wide.proofs.Laws.{is-as}
 use Rattle.totals.specs.declared.Parts.{Parts}
 use Rattle.totals.specs.declared.Totals.{Totals}
-use Rattle.totals.proofs.Limits.{cleared-below, onsite-below, offsite-below, decay-below, uptake-below, harvest-below}
+use Rattle.totals.proofs.Limits.{cleared-below, onsite-below, offsite-below, decay-below, stock-below, abandoned-below, harvest-below}
 use Rattle.totals.proofs.Sums.{sum-next, sum-all, sum-le, sum-below}
 
 -- row i of a kind starts at a byte, and all of it is there
@@ -56,8 +57,7 @@ module _ (s : List ℕ) (c : Counts) (acc : verdictOf s ≡ Accepted c) where
   -- the one parameter row
   pub parameter-row : (first at : ℕ) → first ≡ firstBlock parametersKind c → at ≡ recordAt (first + 0 / 12) (0 % 12) → Stands s parametersKind 0 at
   parameter-row first at e =
-      let last : parametersKind - 1 < kinds = omega (arith, parameters-last) in
-      kind-row parametersKind (lit≤ tt) last e (omega (arith, counted s c acc (parametersKind - 1) last, one-row s c acc))
+      kind-row parametersKind (lit≤ tt) parameters-kind e (omega (arith, counted s c acc (parametersKind - 1) parameters-kind, one-row s c acc))
 
   -- each row keeps the rules, by its number
   kept : (k i : ℕ) → 1 ≤ k → k ≤ kinds → i < length (rows k s) → aboveLimit (layout k) (getD (rows k s) i []) ≡ false
@@ -72,14 +72,15 @@ module _ (s : List ℕ) (c : Counts) (acc : verdictOf s ≡ Accepted c) where
       le-trans (sum-below f b (rows k s) (λ j m. h _ (kept k j lo hi m)))
       (mul-le-mul-left b (omega (arith, few-rows s c acc k, rows-length s c acc k)))
 
-  pub columns-small : (columnE s < 2 ^ 64) × (columnK s < 2 ^ 64) × (columnL s < 2 ^ 64) × (onsiteTotal s < 2 ^ 80) × (offsiteTotal s < 2 ^ 80) × (decayTotal s < 2 ^ 80)
+  pub columns-small : (columnE s < 2 ^ 64) × (columnK s < 2 ^ 64) × (columnL s < 2 ^ 64) × (onsiteTotal s < 2 ^ 80) × (offsiteTotal s < 2 ^ 80) × (decayTotal s < 2 ^ 80) × (uptakeTotal s < 2 ^ 64)
   columns-small = (
-    omega (arith, small 2 uptakePart (10 ^ 14) (lit≤ tt) (omega (arith, kinds-are)) uptake-below),
+    omega (arith, small 2 stockPart (10 ^ 14) (lit≤ tt) (omega (arith, kinds-are)) stock-below),
     omega (arith, small 3 harvestPart (10 ^ 12) (lit≤ tt) (omega (arith, kinds-are)) harvest-below),
     omega (arith, small 1 clearedPart (10 ^ 13) (lit≤ tt) one-kind cleared-below),
     omega (arith, small 1 onsitePart (10 ^ 19) (lit≤ tt) one-kind onsite-below),
     omega (arith, small 1 offsitePart (10 ^ 19) (lit≤ tt) one-kind offsite-below),
     omega (arith, small 1 decayPart (10 ^ 19) (lit≤ tt) one-kind decay-below),
+    omega (arith, small 5 abandonedPart (2 * 10 ^ 14) (lit≤ tt) (omega (arith, kinds-are)) abandoned-below),
   )
 
   -- so there is room for one row more

@@ -11,11 +11,12 @@ use native.Mathlib.Numerals.{bound}
 use borrow.Author.Tests.{ltb-false}
 use lib.ListN.{getD}
 use lib.Dec.{ltb, lit<, lit≤}
-use Rattle.form.specs.Layout.{field, conversion, stock, harvest, aboveLimit}
+use Rattle.form.specs.Layout.{field, conversion, stock, harvest, abandoned, aboveLimit}
 use Rattle.form.specs.Records.{areaOf, before, after, onsite, onsiteOxidised, onsiteCarbon, offsite, offsiteOxidised, offsiteCarbon, tenYearArea, tenYearBefore, tenYearAfter, decay, decayCarbon}
 use Rattle.form.proofs.Tests.{or-none}
 use Rattle.form.proofs.Accepted.{limit-of}
-use Rattle.totals.specs.Columns.{rate, amount, stockCarbon, commercial, tonnesPerM3, fuelwood, otherUse, uptakePart, harvestPart, clearedPart, onsitePart, offsitePart, decayPart}
+use Rattle.totals.specs.Columns.{rate, amount, stockCarbon, commercial, tonnesPerM3, fuelwood, otherUse, stockPart, harvestPart, clearedPart, onsitePart, offsitePart, decayPart}
+use Rattle.totals.specs.Abandoned.{abandonedPart}
 use Rattle.totals.specs.Sums.{Sound}
 
 -- a number of four bytes times one or two of two bytes
@@ -79,9 +80,16 @@ module _ (r : List ℕ) (h : aboveLimit conversion r ≡ false) where
 pub stocks : (r : List ℕ) → aboveLimit stock r ≡ false → (rate r ≤ 10000) × (amount r ≤ 10000000) × (stockCarbon r ≤ 1000)
 stocks r h = (limit-of stock r 2 (field 0 0 0) (lit< tt) h, limit-of stock r 3 (field 0 0 0) (lit< tt) h, limit-of stock r 4 (field 0 0 0) (lit< tt) h)
 
-pub uptake-below : (r : List ℕ) → aboveLimit stock r ≡ false → uptakePart r ≤ 10 ^ 14
-unfolding uptakePart
-uptake-below r h = let w = stocks r h in grw (bound, w .1, w .0, w .2) (lit≤ tt)
+pub stock-below : (r : List ℕ) → aboveLimit stock r ≡ false → stockPart r ≤ 10 ^ 14
+unfolding stockPart
+stock-below r h = let w = stocks r h in grw (bound, w .1, w .0, w .2) (lit≤ tt)
+
+pub abandoned-below : (r : List ℕ) → aboveLimit abandoned r ≡ false → abandonedPart r ≤ 2 * 10 ^ 14
+unfolding abandonedPart
+abandoned-below r h = grw (bound, fits 1 (lit< tt), fits 2 (lit< tt), fits 3 (lit< tt), fits 4 (lit< tt), fits 5 (lit< tt), fits 6 (lit< tt)) (lit≤ tt)
+  where
+    fits : (i : ℕ) → i < 7 → getD r i 0 ≤ getD abandoned i (field 0 0 0) .limit
+    fits i l = limit-of abandoned r i (field 0 0 0) l h
 
 pub harvests : (r : List ℕ) → aboveLimit harvest r ≡ false
     → (commercial r ≤ 10000000) × (tonnesPerM3 r ≤ 10000) × (fuelwood r ≤ 10000000) × (otherUse r ≤ 10000000)

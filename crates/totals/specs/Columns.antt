@@ -34,8 +34,8 @@ abbrev pub otherUse : List ℕ → ℕ
 otherUse r = getD r 4 0
 
 -- one row's part in a column
-unfoldable pub uptakePart : List ℕ → ℕ
-uptakePart r = amount r * rate r * stockCarbon r
+unfoldable pub stockPart : List ℕ → ℕ
+stockPart r = amount r * rate r * stockCarbon r
 
 unfoldable pub harvestPart : List ℕ → ℕ
 harvestPart r = commercial r * tonnesPerM3 r + 1000 * (fuelwood r + otherUse r)
@@ -55,7 +55,7 @@ decayPart r = tenYearArea r * (tenYearBefore r - tenYearAfter r) * decay r * 100
 
 -- 5-1: "E = sum of amount x rate x carbon fraction (10^-7 kt C)"
 abbrev pub columnE : List ℕ → ℕ
-columnE s = sumOf uptakePart (rows 2 s)
+columnE s = sumOf stockPart (rows 2 s)
 
 -- 5-1: "K = sum of F x G + 1,000 x (I + J) (10^-4 kt)"
 abbrev pub columnK : List ℕ → ℕ

@@ -1,4 +1,6 @@
 // Sums over the rows of an accepted return, read in the caller's bytes in place.
+pub mod abandoned;
+
 ghost use mathlib.Core.Path.{_≡_};
 ghost use Prim.Native.Nat.{_+_, _-_, _*_, _/_, _%_, _^_, _≤_, _<_};
 ghost use lib.ListN.{length};
@@ -6,7 +8,7 @@ ghost use Rattle.form.specs.Layout.{conversion, stock, harvest, rowAt};
 ghost use Rattle.form.specs.Verdict.{rows, verdictOf};
 ghost use Rattle.form.specs.declared.Verdict.the-variants.{Accepted};
 ghost use Rattle.wide.specs.Numbers.{value, Is};
-ghost use Rattle.totals.specs.Columns.{uptakePart, harvestPart, decayPart, columnE, columnK};
+ghost use Rattle.totals.specs.Columns.{stockPart, harvestPart, decayPart, columnE, columnK};
 ghost use Rattle.totals.specs.Sums.{Sound, partsOf, Added, Summed};
 use form::Counts;
 use form::first_block;
@@ -172,16 +174,16 @@ pub fn sum_conversion(bytes: &[u8], c: Counts) -> Totals
 }
 
 // One stock row's part in E.
-fn uptake_at(bytes: &[u8], at: usize) -> CarbonPart
+fn stock_at(bytes: &[u8], at: usize) -> CarbonPart
     requires { ⌜ at + 40 ≤ length (now bytes) ⌝ }
-    ensures { λ r. ⌜ r .0 ≡ uptakePart (rowAt stock (now (bytes .entry)) at) ⌝ }
+    ensures { λ r. ⌜ r .0 ≡ stockPart (rowAt stock (now (bytes .entry)) at) ⌝ }
 {
     let grown = DryMatterPart((four_at(bytes, at + 8) as u64) * (two_at(bytes, at + 6) as u64));
     carbon_of(grown, two_at(bytes, at + 12))
 }
 
 // E: the carbon that the stocks take up.
-pub fn sum_uptake(bytes: &[u8], c: Counts) -> Carbon
+pub fn sum_stocks(bytes: &[u8], c: Counts) -> Carbon
     requires { ⌜ verdictOf (now bytes) ≡ Accepted c ⌝ }
     ensures { λ r. ⌜ Is (r .0) (columnE (now (bytes .entry))) ⌝ }
 {
@@ -190,7 +192,7 @@ pub fn sum_uptake(bytes: &[u8], c: Counts) -> Carbon
     let mut sum = Carbon(of(0));
     let mut i: usize = 0;
     while i < n {
-        sum = plus_carbon(sum, uptake_at(bytes, row_start(first, i)));
+        sum = plus_carbon(sum, stock_at(bytes, row_start(first, i)));
         i += 1;
     }
     sum

@@ -11,6 +11,7 @@ use lib.ListN.{length, getD, take, drop}
 use lib.Seq.{take-at}
 use Rattle.form.specs.Bytes.{byteAt}
 use Rattle.form.specs.Layout.{kinds}
+use Rattle.form.specs.Block.{edition}
 use Rattle.form.specs.Ruling.{rule, ruling}
 use Rattle.form.specs.Verdict.{rules, countsOf, countIn, verdictBy, verdictOf}
 use Rattle.form.specs.declared.Counts.{Counts}
@@ -28,55 +29,58 @@ use Rattle.rows.specs.Reading.{rowsOf, areaTo, outgrown, readRules, readAnswer,
 use Rattle.rows.specs.Writing.{written, roomRule, writeRules, writtenBy, writeAnswer, bytesAfter}
 use Rattle.rows.specs.declared.Written.the-variants.{Done}
 use Rattle.trips.proofs.WriteBack.{lengths-are}
-use Rattle.trips.proofs.RoundTrips.{area-is, accepted-again, counts-again, rows-again, clean-again, bytes-again}
+use Rattle.trips.proofs.RoundTrips.{area-is, accepted-again, edition-again, counts-again, rows-again, clean-again, bytes-again}
 
 -- ---- written, then read
 
-done-by : (lengths area : List ℕ) (u : Ruling) (n : ℕ) → writtenBy 1 (cut lengths area) u ≡ Done n → (u ≡ Clean) × (length (written 1 (cut lengths area)) ≡ n)
-done-by lengths area Clean n e = (refl, cc)
-done-by lengths area (Broken m p) n e = let z : _≡_ {A = ℕ} 0 1 = cc in absurd (omega arith)
+done-by : (ed : ℕ) (lengths area : List ℕ) (u : Ruling) (n : ℕ) → writtenBy ed (cut lengths area) u ≡ Done n → (u ≡ Clean) × (length (written ed (cut lengths area)) ≡ n)
+done-by ed lengths area Clean n e = (refl, cc)
+done-by ed lengths area (Broken m p) n e = let z : _≡_ {A = ℕ} 0 1 = cc in absurd (omega arith)
 
 -- the bytes that a write left at the front of its room
-abbrev pub returned : List ℕ → List ℕ → List ℕ → ℕ → List ℕ
-returned lengths area room n = take n (bytesAfter 1 lengths area room (Done n))
+abbrev pub returned : ℕ → List ℕ → List ℕ → List ℕ → ℕ → List ℕ
+returned ed lengths area room n = take n (bytesAfter ed lengths area room (Done n))
 
-module _ (lengths area room : List ℕ) (n : ℕ) (done : writeAnswer 1 lengths area room ≡ Done n) where
+module _ (ed : ℕ) (lengths area room : List ℕ) (n : ℕ) (done : writeAnswer ed lengths area room ≡ Done n) where
   -- the return that is written
   abbrev w : List ℕ
-  w = written 1 (cut lengths area)
+  w = written ed (cut lengths area)
 
-  ended : (ruling (writeRules 1 lengths area room) ≡ Clean) × (length w ≡ n)
+  ended : (ruling (writeRules ed lengths area room) ≡ Clean) × (length w ≡ n)
   unfolding writeAnswer
-  ended = done-by lengths area (ruling (writeRules 1 lengths area room)) n done
+  ended = done-by ed lengths area (ruling (writeRules ed lengths area room)) n done
 
-  clean : ruling (listRules 1 lengths area) ≡ Clean
-  clean = or-clean (ruling (listRules 1 lengths area)) _ (sym (ruling-append (listRules 1 lengths area) (roomRule 1 (cut lengths area) room ∷ [])) ∙ ended .0)
+  clean : ruling (listRules ed lengths area) ≡ Clean
+  clean = or-clean (ruling (listRules ed lengths area)) _ (sym (ruling-append (listRules ed lengths area) (roomRule ed (cut lengths area) room ∷ [])) ∙ ended .0)
 
-  left : returned lengths area room n ≡ w
+  left : returned ed lengths area room n ≡ w
   left = take-at w (drop (length w) room) n (ended .1)
 
   -- the room that each kind's rows end in
   none-outgrown : (rows : List ℕ) → length area ≤ length rows → (k : ℕ) → k < suc kinds → outgrown w (length rows) k ≡ false
   none-outgrown rows h k l =
-      le-ltb (length rows) (length (areaTo w k)) (omega (arith, length-part (rowsOf w) k kinds (omega arith), ap length (rows-again lengths area clean)))
+      le-ltb (length rows) (length (areaTo w k)) (omega (arith, length-part (rowsOf w) k kinds (omega arith), ap length (rows-again ed lengths area clean)))
 
   accepts : (rows : List ℕ) → length area ≤ length rows → readAnswer w rows ≡ Accepted (countsOf w)
   unfolding readAnswer ruling
   accepts rows h =
       let last = rule 9 (suc kinds) (outgrown w (length rows)) in
       ap (verdictBy w)
-      (kept-before (rules w) (last ∷ []) (accepted-ruling w (countsOf w) (accepted-again lengths area clean))
+      (kept-before (rules w) (last ∷ []) (accepted-ruling w (countsOf w) (accepted-again ed lengths area clean))
       ∙ sym (kept last [] (first-is-none (outgrown w (length rows)) (suc kinds) (none-outgrown rows h)) refl))
 
-  pub read-accepted : (rows : List ℕ) → length area ≤ length rows → readAnswer (returned lengths area room n) rows ≡ Accepted (countsOf (returned lengths area room n))
+  pub read-accepted : (rows : List ℕ) → length area ≤ length rows → readAnswer (returned ed lengths area room n) rows ≡ Accepted (countsOf (returned ed lengths area room n))
   read-accepted rows h = rw left (accepts rows h)
 
-  pub read-counts : (k : ℕ) → k < kinds → countIn (countsOf (returned lengths area room n)) (suc k) ≡ rowsIn (suc k) (getD lengths k 0)
+  pub read-counts : (k : ℕ) → k < kinds → countIn (countsOf (returned ed lengths area room n)) (suc k) ≡ rowsIn (suc k) (getD lengths k 0)
   read-counts k h =
-      ap (λ (x : List ℕ). countIn (countsOf x) (suc k)) left ∙ counted w (countsOf w) (accepted-again lengths area clean) k h ∙ counts-again lengths area clean k h
+      ap (λ (x : List ℕ). countIn (countsOf x) (suc k)) left ∙ counted w (countsOf w) (accepted-again ed lengths area clean) k h ∙ counts-again ed lengths area clean k h
 
-  pub read-rows : (rows : List ℕ) (c : Counts) → roomAfter (returned lengths area room n) rows (Accepted c) ≡ onFront area rows
-  read-rows rows c = rw left (ap (λ (x : List ℕ). onFront x rows) (rows-again lengths area clean))
+  pub read-rows : (rows : List ℕ) (c : Counts) → roomAfter (returned ed lengths area room n) rows (Accepted c) ≡ onFront area rows
+  read-rows rows c = rw left (ap (λ (x : List ℕ). onFront x rows) (rows-again ed lengths area clean))
+
+  pub read-edition : countsOf (returned ed lengths area room n) .edition ≡ ed
+  read-edition = ap (λ (x : List ℕ). edition x 0) left ∙ edition-again ed lengths area clean
 
 -- ---- read, then written
 
@@ -103,20 +107,20 @@ module _ (s rows : List ℕ) (c : Counts) (done : readAnswer s rows ≡ Accepted
       take-at a (drop (length a) rows) (total (lengthsOf c)) long
 
   module _ (bytes : (i : ℕ) → i < length s → byteAt s i < 256) (room : List ℕ) (long : length s ≤ length room) where
-    same : written 1 (cut (lengthsOf c) (areaTo s kinds)) ≡ s
+    same : written (c .edition) (cut (lengthsOf c) (areaTo s kinds)) ≡ s
     same = bytes-again s c judged bytes
 
-    clean-room : ruling (writeRules 1 (lengthsOf c) (areaTo s kinds) room) ≡ Clean
+    clean-room : ruling (writeRules (c .edition) (lengthsOf c) (areaTo s kinds) room) ≡ Clean
     unfolding ruling
     clean-room =
-        kept-before (listRules 1 (lengthsOf c) (areaTo s kinds)) (roomRule 1 (cut (lengthsOf c) (areaTo s kinds)) room ∷ []) (clean-again s c judged)
-        ∙ one-kept 9 _ [] (le-ltb (length room) (length (written 1 (cut (lengthsOf c) (areaTo s kinds)))) (rw (ap length same) long))
+        kept-before (listRules (c .edition) (lengthsOf c) (areaTo s kinds)) (roomRule (c .edition) (cut (lengthsOf c) (areaTo s kinds)) room ∷ []) (clean-again s c judged)
+        ∙ one-kept 9 _ [] (le-ltb (length room) (length (written (c .edition) (cut (lengthsOf c) (areaTo s kinds)))) (rw (ap length same) long))
 
-    pub write-done : writeAnswer 1 (lengthsOf c) (leftBehind s rows c) room ≡ Done (length s)
+    pub write-done : writeAnswer (c .edition) (lengthsOf c) (leftBehind s rows c) room ≡ Done (length s)
     unfolding writeAnswer
     write-done =
         rw left-is
-        (ap (writtenBy 1 (cut (lengthsOf c) (areaTo s kinds))) clean-room ∙ ap (λ (x : List ℕ). Done (length x)) same)
+        (ap (writtenBy (c .edition) (cut (lengthsOf c) (areaTo s kinds))) clean-room ∙ ap (λ (x : List ℕ). Done (length x)) same)
 
-    pub write-same : bytesAfter 1 (lengthsOf c) (leftBehind s rows c) room (Done (length s)) ≡ onFront s room
+    pub write-same : bytesAfter (c .edition) (lengthsOf c) (leftBehind s rows c) room (Done (length s)) ≡ onFront s room
     write-same = rw left-is (ap (λ (x : List ℕ). onFront x room) same)

@@ -1,11 +1,11 @@
 -- THE FIRST ROUND TRIP: row lists that break no rule, written and read again, are themselves. Assumes nothing.
 --     accepted-back    the bytes written are accepted; counts-back, with the counts of the rows
---     rows-back        and their rows are the lists
+--     rows-back        and their rows are the lists; edition-back, in their edition
 use Prim.Native.Nat.{ℕ, zero, suc, _+_, _-_, _*_, _/_, _%_, _<_, _≤_, min}
 use mathlib.Core.Path.{_≡_, refl, sym, ap, ap₂, subst, _∙_}
 use mathlib.Core.Bool.{true, false}
 use mathlib.Core.List.{List, [], flatten}
-use native.Mathlib.Nat.{zero-add, mul-suc, mul-zero, div-add-mod}
+use native.Mathlib.Nat.{zero-add, mul-suc, mul-zero, div-add-mod, zero-div}
 use native.Mathlib.Decide.{decLt, ℕ-discrete}
 use native.Mathlib.Numerals.{add-one}
 use native.Mathlib.Omega.{arith}
@@ -15,14 +15,14 @@ use lib.Seq.{take-all, take-add, drop-drop, drop-cons}
 use borrow.Author.Tests.{lt-ltb, le-ltb, lt-leb, eq-eqb, ne-eqb, ltb-true, eqb-true}
 use Rattle.form.specs.Layout.{kinds, parametersKind, numbersOf}
 use Rattle.form.specs.Edition.{lastKind}
-use Rattle.form.specs.Block.{longest, blocks, kindOf, countOf, edition, blocksBelow, badLength, badCheck, badHeader, kindFalls, wrongEnd, earlier, badCount, notFilled, overFilled, strayRecord, stray, badBlock}
+use Rattle.form.specs.Block.{longest, blocks, kindOf, countOf, edition, blocksBelow, badLength, badCheck, badHeader, kindFalls, lowBehind, endsLow, noneBefore, earlier, badCount, notFilled, overFilled, strayRecord, stray, badBlock}
 use Rattle.form.specs.Records.{filed, recordRules}
 use Rattle.form.specs.Verdict.{blockRules, countBelow, rowCount, rows, countsOf, verdictOf}
 use Rattle.form.specs.Standing.{blocksFor, startBlock, startPlace}
 use Rattle.form.specs.declared.Verdict.the-variants.{Accepted}
 use Rattle.form.proofs.Search.{any-none}
 use Rattle.form.proofs.Order.{Kept, AllKept, more, ruling-clean, clean-ruling}
-use Rattle.form.proofs.EachKind.{parameters-last, one-kind}
+use Rattle.form.proofs.EachKind.{parameters-kind}
 use Rattle.form.proofs.Stand.{blocks-yes, blocks-no}
 use Rattle.form.proofs.Meaning.{accepted}
 use Rattle.form.proofs.Accepted.{rows-are}
@@ -35,7 +35,7 @@ use Rattle.rows.specs.Writing.{written}
 use Rattle.rows.proofs.Rows.{flat-from}
 use Rattle.trips.proofs.Same.{rules-same, solid-lists}
 use Rattle.trips.proofs.Shape.{blocksAt, startOf, start-next, start-mono, Where, whereis, where-rises, list-at}
-use Rattle.trips.proofs.Standing.{rowsAt, nth, Clear, places-blocks, long, last-block, few-blocks, blocks-there, nth-block, read, kind-is, count-is, place-same, no-stray}
+use Rattle.trips.proofs.Standing.{rowsAt, nth, Clear, places-blocks, long, one-block, few-blocks, blocks-there, nth-block, read, kind-is, count-is, place-same, no-stray}
 
 -- n rows in d blocks of twelve, and in one more
 twelve-more : (n d : ℕ) → min n (12 * d) + min 12 (n - 12 * d) ≡ min n (12 * suc d)
@@ -86,6 +86,19 @@ module _ (ed : ℕ) (l : Lists) (ok : Clear ed l) where
   unfolding badCheck
   check-kept b h = rw (eq-eqb _ _ (read ed l ok b (place b h) .check))
 
+  -- the edition has the kind of each block: a kind that it has not has no row
+  allowed : (b : ℕ) (w : Where l b) → suc (w .k) ≤ lastKind ed
+  allowed b w = go (decLt (lastKind ed) (suc (w .k)))
+    where
+      go : Dec (lastKind ed < suc (w .k)) → suc (w .k) ≤ lastKind ed
+      go (yes z) =
+          let n : rowsAt w ≡ 0 = rw (ok .allows (w .k) (w .kind) z) (zero-div (numbersOf (suc (w .k)))) in
+          absurd (omega (arith, nth-block ed l ok b w))
+      go (no z) = omega arith
+
+  pub edition-back : edition s 0 ≡ ed
+  edition-back = read ed l ok 0 (place 0 (omega (arith, blocks-there ed l ok, few-blocks ed l ok .0))) .edition
+
   header-kept : (b : ℕ) → b < blocks s → badHeader s b ≡ false
   unfolding badHeader
   header-kept b h =
@@ -95,10 +108,11 @@ module _ (ed : ℕ) (l : Lists) (ok : Clear ed l) where
       let n = blocks-there ed l ok in
       rw (
         le-ltb (kindOf s b) 1 (omega arith),
-        le-ltb (lastKind (edition s b)) (kindOf s b) (rw (r .edition, ok .allows) (omega (arith, w .kind))),
+        le-ltb (lastKind (edition s b)) (kindOf s b) (rw (r .edition) (omega (arith, allowed b w))),
         eq-eqb _ b (r .number),
         eq-eqb _ (blocks s) (r .said ∙ sym n),
-        lt-ltb 0 (lastKind (edition s b)) (rw (r .edition, ok .allows) one-kind),
+        lt-ltb 0 (lastKind (edition s b)) (rw (r .edition) (ok .edition)),
+        eq-eqb (edition s b) (edition s 0) (r .edition ∙ sym edition-back),
       )
 
   -- ---- rule 4
@@ -142,25 +156,41 @@ module _ (ed : ℕ) (l : Lists) (ok : Clear ed l) where
         let v = place (b - 1) (omega arith) in
         unless (ltb 0 b) (λ q. le-ltb (kindOf s b) (kindOf s (b - 1)) (omega (arith, kind-is ed l ok (b - 1) v, where-rises l v w (omega arith))))
 
-    -- the parameters have one row, in the last block
+    -- the parameters have one row, in one block
     alone : kindOf s b ≡ parametersKind → (rowsAt w ≡ 1) × (startOf l (parametersKind - 1) ≤ b)
     alone e =
         let q : w .k ≡ parametersKind - 1 = omega arith in
         (subst (λ (x : ℕ). rowsIn (suc x) (length (ofKind l (suc x))) ≡ 1) (sym q) (ok .one), subst (λ (x : ℕ). startOf l x ≤ b) q (w .from))
 
-    ends : b + 1 ≡ blocks s → kindOf s b ≡ parametersKind
-    ends e =
-        let o = last-block ed l ok in
-        let end : b < startOf l parametersKind = subst (λ (x : ℕ). b < startOf l x) parameters-last (omega arith) in
-        let v : Where l b = record { k = parametersKind - 1; kind = omega (arith, parameters-last); from = omega arith; below = end } in
-        omega (arith, where-rises l v w (omega arith), where-rises l w v (omega arith))
+    behind-kept : lowBehind s b ≡ false
+    unfolding lowBehind
+    behind-kept = unless _ (λ m. unless _ (λ e. lt-leb _ parametersKind (next-up (ltb-true _ _ m) (eqb-true _ _ e))))
+      where
+        next-up : b + 1 < blocks s → kindOf s b ≡ parametersKind → parametersKind < kindOf s (b + 1)
+        next-up m e = go (place (b + 1) m)
+          where
+            go : Where l (b + 1) → parametersKind < kindOf s (b + 1)
+            go v = up (decLt (v .k) parametersKind)
+              where
+                up : Dec (v .k < parametersKind) → parametersKind < kindOf s (b + 1)
+                up (yes z) = absurd (omega (arith, alone e .1, one-block ed l ok, start-mono l (suc (v .k)) parametersKind z))
+                up (no z) = omega (arith, kind-is ed l ok (b + 1) v)
 
-    end-kept : wrongEnd s b ≡ false
-    unfolding wrongEnd
-    end-kept =
-        or-of
-        (implies (eqb (kindOf s b) parametersKind) (λ q. eq-eqb (b + 1) (blocks s) (omega (arith, alone (eqb-true _ _ q), last-block ed l ok))))
-        (implies (eqb (b + 1) (blocks s)) (λ q. eq-eqb (kindOf s b) parametersKind (ends (eqb-true _ _ q))))
+    ends-kept : endsLow s b ≡ false
+    unfolding endsLow
+    ends-kept = unless _ (λ q. le-ltb (kindOf s b) parametersKind (up (eqb-true _ _ q) (decLt (w .k) (parametersKind - 1))))
+      where
+        up : b + 1 ≡ blocks s → Dec (w .k < parametersKind - 1) → parametersKind ≤ kindOf s b
+        up q (yes z) = absurd (omega (arith, one-block ed l ok, start-mono l (suc (w .k)) (parametersKind - 1) z, start-mono l parametersKind kinds parameters-kind))
+        up q (no z) = omega arith
+
+    led-kept : noneBefore s b ≡ false
+    unfolding noneBefore
+    led-kept = unless _ (λ q. ne-eqb _ 0 (one-led (ltb-true parametersKind (kindOf s b) q)))
+      where
+        one-led : parametersKind < kindOf s b → blocksBelow parametersKind s b ≡ 0 → ⊥
+        one-led q z =
+            omega (arith, one-block ed l ok, start-mono l parametersKind (w .k) (omega arith), below (parametersKind - 1) b (omega arith) parameters-kind .0)
 
     count-kept : badCount s b ≡ false
     unfolding badCount
@@ -190,7 +220,7 @@ module _ (ed : ℕ) (l : Lists) (ok : Clear ed l) where
 
     block-so : badBlock s b ≡ false
     unfolding badBlock
-    block-so = simp (falls-kept, end-kept, lt-leb 3 (earlier s b) (omega arith), count-kept, filled-kept, over-kept, stray-kept)
+    block-so = simp (falls-kept, behind-kept, ends-kept, led-kept, lt-leb 3 (earlier s b) (omega arith), count-kept, filled-kept, over-kept, stray-kept)
 
   block-kept : (b : ℕ) → b < blocks s → badBlock s b ≡ false
   block-kept b h =
@@ -214,7 +244,7 @@ module _ (ed : ℕ) (l : Lists) (ok : Clear ed l) where
 
   records-there : AllKept (recordRules (edition s 0) (filed s))
   records-there =
-      rw (read ed l ok 0 (place 0 (omega (arith, blocks-there ed l ok, few-blocks ed l ok .0))) .edition)
+      rw edition-back
       (ruling-clean (sym (rules-same ed (filedLists l) (filed s) all-alike places-there (solid-lists 1 l)) ∙ clean-ruling (ok .records)))
 
   pub accepted-back : verdictOf s ≡ Accepted (countsOf s)

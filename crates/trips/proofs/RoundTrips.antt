@@ -1,20 +1,20 @@
 -- THE ROUND TRIPS, over all rows and all bytes, about the definitions that the contracts of rows::write and rows::read cite. Assumes nothing.
---     accepted-again, counts-again, rows-again    written and read: accepted, with the counts and the rows
+--     accepted-again, edition-again, counts-again, rows-again    written and read: accepted, with the edition, the counts and the rows
 --     clean-again, bytes-again                    read and written: no rule broken, and the same bytes
 use Prim.Native.Nat.{ℕ, zero, suc, _<_}
 use mathlib.Core.Path.{_≡_, refl, sym, ap, subst, _∙_}
 use mathlib.Core.List.{List, _++_, flatten, map}
 use native.Mathlib.Omega.{arith}
-use lib.Dec.{lit<}
 use lib.ListN.{length, getD}
 use Rattle.form.specs.Ruling.{ruling}
 use Rattle.form.specs.Bytes.{byteAt}
 use Rattle.form.specs.Layout.{kinds}
+use Rattle.form.specs.Block.{edition}
 use Rattle.form.specs.Verdict.{rowCount, countsOf, verdictOf}
 use Rattle.form.specs.declared.Counts.{Counts}
 use Rattle.form.specs.declared.Ruling.the-variants.{Clean}
 use Rattle.form.specs.declared.Verdict.the-variants.{Accepted}
-use Rattle.form.proofs.EachKind.{first-edition}
+use Rattle.form.proofs.Accepted.{accepted-counts}
 use Rattle.filing.specs.Lists.{cut, rowsIn}
 use Rattle.filing.specs.Written.{inTurn}
 use Rattle.filing.proofs.Cut.{cut-long, flat-cut, cut-flat}
@@ -22,8 +22,8 @@ use Rattle.lists.specs.Rules.{Good, listRules}
 use Rattle.rows.specs.Reading.{rowsOf, areaTo, listsFrom, rowLists, lengthsOf}
 use Rattle.rows.specs.Writing.{written}
 use Rattle.trips.proofs.Standing.{kept-lists, Clear, clear}
-use Rattle.trips.proofs.ReadBack.{accepted-back, counts-back, rows-back}
-use Rattle.trips.proofs.WriteBack.{lengths-are, rows-clean, first-is-one, written-back}
+use Rattle.trips.proofs.ReadBack.{edition-back, accepted-back, counts-back, rows-back}
+use Rattle.trips.proofs.WriteBack.{lengths-are, rows-clean, written-back}
 
 -- the rows of a return in one area are its row lists, one after the other
 flat-from : (s : List ℕ) (n k : ℕ) → flatten (listsFrom s k n) ≡ inTurn (rowsOf s) k n
@@ -35,35 +35,41 @@ pub area-is : (s : List ℕ) → flatten (rowLists s) ≡ areaTo s kinds
 area-is s = flat-from s kinds 1
 
 -- rows that no rule refuses: their return is accepted with their counts, and its rows, kind after kind, are the rows
-module _ (lengths area : List ℕ) (clean : ruling (listRules 1 lengths area) ≡ Clean) where
-  ok : Clear 1 (cut lengths area)
-  ok = clear 1 lengths area clean first-edition (lit< tt)
+module _ (ed : ℕ) (lengths area : List ℕ) (clean : ruling (listRules ed lengths area) ≡ Clean) where
+  ok : Clear ed (cut lengths area)
+  ok = clear ed lengths area clean
 
   good-lists : Good lengths (length area)
-  good-lists = kept-lists 1 lengths area clean .0
+  good-lists = kept-lists ed lengths area clean .0
 
-  pub accepted-again : verdictOf (written 1 (cut lengths area)) ≡ Accepted (countsOf (written 1 (cut lengths area)))
-  accepted-again = accepted-back 1 (cut lengths area) ok
+  pub accepted-again : verdictOf (written ed (cut lengths area)) ≡ Accepted (countsOf (written ed (cut lengths area)))
+  accepted-again = accepted-back ed (cut lengths area) ok
 
-  pub counts-again : (k : ℕ) → k < kinds → rowCount (suc k) (written 1 (cut lengths area)) ≡ rowsIn (suc k) (getD lengths k 0)
+  pub counts-again : (k : ℕ) → k < kinds → rowCount (suc k) (written ed (cut lengths area)) ≡ rowsIn (suc k) (getD lengths k 0)
   counts-again k h =
-      counts-back 1 (cut lengths area) ok k h
+      counts-back ed (cut lengths area) ok k h
       ∙ ap (rowsIn (suc k)) (cut-long lengths area (omega (arith, good-lists .all)) k (omega (arith, good-lists .each)))
 
-  pub rows-again : areaTo (written 1 (cut lengths area)) kinds ≡ area
+  pub rows-again : areaTo (written ed (cut lengths area)) kinds ≡ area
   rows-again =
-      sym (area-is (written 1 (cut lengths area)))
-      ∙ ap flatten (rows-back 1 (cut lengths area) ok)
+      sym (area-is (written ed (cut lengths area)))
+      ∙ ap flatten (rows-back ed (cut lengths area) ok)
       ∙ flat-cut lengths area (good-lists .all)
+
+  pub edition-again : edition (written ed (cut lengths area)) 0 ≡ ed
+  edition-again = edition-back ed (cut lengths area) ok
 
 -- an accepted return: no rule refuses its rows, cut by the lengths that its counts give, and their return is the return
 module _ (s : List ℕ) (c : Counts) (acc : verdictOf s ≡ Accepted c) where
-  pub clean-again : ruling (listRules 1 (lengthsOf c) (areaTo s kinds)) ≡ Clean
+  told : edition s 0 ≡ c .edition
+  told = sym (ap (λ (x : Counts). x .edition) (accepted-counts s c acc))
+
+  pub clean-again : ruling (listRules (c .edition) (lengthsOf c) (areaTo s kinds)) ≡ Clean
   clean-again =
       rw (lengths-are s c acc, ← area-is s)
-      (subst (λ (e : ℕ). ruling (listRules e (map length (rowLists s)) (flatten (rowLists s))) ≡ Clean) (first-is-one s c acc) (rows-clean s c acc))
+      (subst (λ (e : ℕ). ruling (listRules e (map length (rowLists s)) (flatten (rowLists s))) ≡ Clean) told (rows-clean s c acc))
 
-  pub bytes-again : ((i : ℕ) → i < length s → byteAt s i < 256) → written 1 (cut (lengthsOf c) (areaTo s kinds)) ≡ s
+  pub bytes-again : ((i : ℕ) → i < length s → byteAt s i < 256) → written (c .edition) (cut (lengthsOf c) (areaTo s kinds)) ≡ s
   bytes-again small =
       rw (lengths-are s c acc, ← area-is s, cut-flat (rowLists s))
-      (subst (λ (e : ℕ). written e (rowLists s) ≡ s) (first-is-one s c acc) (written-back s c acc small))
+      (subst (λ (e : ℕ). written e (rowLists s) ≡ s) told (written-back s c acc small))

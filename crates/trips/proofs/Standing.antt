@@ -16,7 +16,7 @@ use Rattle.form.specs.Records.{Filed, filed, fieldAbove, brokenBy, recordRules}
 use Rattle.form.specs.declared.Ruling.the-variants.{Clean}
 use Rattle.form.proofs.Order.{Kept, AllKept, more, ruling-clean}
 use Rattle.form.proofs.Tests.{and-rest}
-use Rattle.form.proofs.EachKind.{parameters-last, few-kinds}
+use Rattle.form.proofs.EachKind.{parameters-kind, few-kinds, small-edition}
 use Rattle.form.proofs.Places.{block-of, position-of}
 use Rattle.filing.specs.Lists.{Lists, ofKind, cut, rowsIn, rowOf, filedList, filedLists}
 use Rattle.filing.specs.Written.{recordOf, inTurn, recordOn, usedFrom, blockOf}
@@ -26,7 +26,7 @@ use Rattle.filing.proofs.Choice.{either, ltb-same}
 use Rattle.filing.proofs.Alike.{Same, Alike, alike-part, used-alike}
 use Rattle.filing.proofs.Cut.{cut-length, cut-long}
 use Rattle.lists.specs.Rules.{Good, listRules, blocksFrom}
-use Rattle.lists.proofs.Numbers.{good}
+use Rattle.lists.proofs.Numbers.{good, edition-good, kind-good}
 use Rattle.rows.specs.Writing.{written}
 use Rattle.rows.proofs.Return.{places-from, written-turn, length-written}
 use Rattle.trips.proofs.Blocks.{turn-stands, Read, block-read}
@@ -44,15 +44,15 @@ rowsAt {l} w = rowsIn (suc (w .k)) (length (ofKind l (suc (w .k))))
 abbrev pub nth : {l : Lists} {b : ℕ} → Where l b → ℕ
 nth {l} {b} w = b - startOf l (w .k)
 
--- lists that break no rule, in an edition that allows every kind
+-- lists that break no rule, in an edition
 pub record Clear (e : ℕ) (l : Lists) : Type 0 where
   pub records : AllKept (recordRules e (filedLists l))
   pub each : length l ≡ kinds
   pub whole : (k : ℕ) → k < kinds → length (ofKind l (suc k)) % numbersOf (suc k) ≡ 0
   pub few : (k : ℕ) → k < kinds → rowsIn (suc k) (length (ofKind l (suc k))) ≤ 32
   pub one : rowsIn parametersKind (length (ofKind l parametersKind)) ≡ 1
-  pub allows : lastKind e ≡ kinds
-  pub small : e < 65536
+  pub edition : 0 < lastKind e
+  pub allows : (k : ℕ) → k < kinds → lastKind e < suc k → length (ofKind l (suc k)) ≡ 0
 
 kept-head : {r : Rule} {rs : List Rule} → AllKept (r ∷ rs) → Kept r × AllKept rs
 kept-head (more h rest) = (h, rest)
@@ -61,21 +61,23 @@ kept-head (more h rest) = (h, rest)
 pub kept-lists : (e : ℕ) (lengths area : List ℕ) → ruling (listRules e lengths area) ≡ Clean
     → Good lengths (length area) × AllKept (recordRules e (filedLists (cut lengths area)))
 unfolding listRules Kept
-kept-lists e lengths area clean = let k = kept-head (ruling-clean clean) in (good lengths (length area) (k .0), k .1)
+kept-lists e lengths area clean = let k = kept-head (ruling-clean clean) in (good e lengths (length area) (k .0), k .1)
 
-pub clear : (e : ℕ) (lengths area : List ℕ) → ruling (listRules e lengths area) ≡ Clean → lastKind e ≡ kinds → e < 65536 → Clear e (cut lengths area)
-clear e lengths area clean allows small =
-    let g = kept-lists e lengths area clean .0 in
+pub clear : (e : ℕ) (lengths area : List ℕ) → ruling (listRules e lengths area) ≡ Clean → Clear e (cut lengths area)
+unfolding listRules Kept
+clear e lengths area clean =
+    let h = kept-head (ruling-clean clean) in
+    let g = good e lengths (length area) (h .0) in
     let long : (k : ℕ) → k < kinds → length (ofKind (cut lengths area) (suc k)) ≡ getD lengths k 0 =
     λ k l. cut-long lengths area (omega (arith, g .all)) k (omega (arith, g .each)) in
     record {
-      records = kept-lists e lengths area clean .1;
+      records = h .1;
       each = cut-length lengths area ∙ g .each;
       whole = λ k l. rw (long k l) (g .whole k l);
       few = λ k l. rw (long k l) (g .few k l);
-      one = rw (long (parametersKind - 1) (omega (arith, parameters-last))) (g .one);
-      allows = allows;
-      small = small;
+      one = rw (long (parametersKind - 1) parameters-kind) (g .one);
+      edition = ltb-true 0 (lastKind e) (edition-good e lengths (length area) (h .0));
+      allows = λ k l z. long k l ∙ kind-good e lengths (length area) (h .0) k l z;
     }
 
 -- 6 is kept at each place
@@ -103,15 +105,19 @@ module _ (e : ℕ) (l : Lists) (ok : Clear e l) where
   few-starts (suc k) h = omega (arith, few-starts k (omega arith), ok .few k h)
 
   -- the parameters' one block, behind those of the kinds before them
-  pub last-block : startOf l kinds ≡ startOf l (parametersKind - 1) + 1
-  last-block =
-      let e : kinds ≡ suc (parametersKind - 1) = parameters-last in
-      ap (startOf l) e ∙ start-next l (parametersKind - 1) ∙ omega (arith, ok .one)
+  pub one-block : startOf l parametersKind ≡ startOf l (parametersKind - 1) + 1
+  one-block = start-next l (parametersKind - 1) ∙ omega (arith, ok .one)
+
+  few-behind : (d : ℕ) → parametersKind + d ≤ kinds → startOf l (parametersKind + d) ≤ 3 * (parametersKind - 1 + d) + 1
+  few-behind zero h = omega (arith, few-starts (parametersKind - 1) (omega arith), one-block)
+  few-behind (suc d) h =
+      let q : parametersKind + suc d ≡ suc (parametersKind + d) = omega arith in
+      rw q (omega (arith, few-behind d (omega arith), start-next l (parametersKind + d), ok .few (parametersKind + d) (omega arith)))
 
   pub few-blocks : (1 ≤ startOf l kinds) × (startOf l kinds ≤ mostBlocks)
   few-blocks =
-      let f = few-starts (parametersKind - 1) (omega (arith, parameters-last)) in
-      (omega (arith, last-block), omega (arith, last-block, parameters-last))
+      let d : parametersKind + (kinds - parametersKind) ≡ kinds = omega (arith, parameters-kind) in
+      (omega (arith, one-block, start-mono l parametersKind kinds parameters-kind), omega (arith, rw d at (few-behind (kinds - parametersKind) (omega arith)), parameters-kind))
 
   pub blocks-there : blocks (written e l) ≡ startOf l kinds
   blocks-there = omega (arith, long)
@@ -144,7 +150,7 @@ module _ (e : ℕ) (l : Lists) (ok : Clear e l) where
         let f = filedLists l in
         let whole = subst (λ (x : List ℕ). Stands (written e l) 0 x) written-blocks (stands-whole (written e l)) in
         let one = turn-stands (blockOf e f 0 (startOf l kinds)) 512 (length-block f e 0 (startOf l kinds)) (written e l) (startOf l kinds) 0 0 b in-all whole in
-        block-read e (written e l) f (startOf l kinds) b (rw first-kind (omega (arith, w .kind, few-kinds))) (rw used-there (omega arith)) (ok .small) (omega (arith, in-all, few-blocks, few-kinds)) (omega (arith, few-blocks, few-kinds))
+        block-read e (written e l) f (startOf l kinds) b (rw first-kind (omega (arith, w .kind, few-kinds))) (rw used-there (omega arith)) (small-edition e (ok .edition)) (omega (arith, in-all, few-blocks, few-kinds)) (omega (arith, few-blocks, few-kinds))
         (rw (zero-add (512 * b), zero-add b) at one)
 
     pub kind-is : kindOf (written e l) b ≡ suc (w .k)

@@ -5,14 +5,15 @@ use Prim.Native.Nat.{ℕ, zero, suc, _+_, _*_, _/_, _%_, _<_, _≤_}
 use mathlib.Core.Path.{_≡_, refl, sym, ap, ap₂, _∙_}
 use mathlib.Core.Bool.{false, not, _||_}
 use mathlib.Core.List.{List, _∷_, flatten, map}
-use native.Mathlib.Nat.{zero-add, mul-mod-right}
+use native.Mathlib.Nat.{zero-add, mul-zero, mul-mod-right}
 use native.Mathlib.Omega.{arith}
-use lib.Dec.{eqb}
+use lib.Dec.{ltb, eqb}
 use lib.ListN.{length, getD, length-map}
-use borrow.Author.Tests.{le-ltb, eq-eqb, eqb-true}
+use borrow.Author.Tests.{lt-ltb, le-ltb, eq-eqb, ltb-true, eqb-true}
 use Rattle.form.specs.Ruling.{rule, ruling}
+use Rattle.form.specs.Edition.{lastKind}
 use Rattle.form.specs.Layout.{kinds, parametersKind, numbersOf}
-use Rattle.form.specs.Block.{blocks, edition, kindFalls, wrongEnd, fourthOfKind, badCount, notFilled, overFilled, stray, badCheck, badHeader, badBlock}
+use Rattle.form.specs.Block.{blocks, edition, kindFalls, lowBehind, endsLow, noneBefore, fourthOfKind, badCount, notFilled, overFilled, stray, badCheck, badHeader, badBlock}
 use Rattle.form.specs.Records.{filed, recordRules}
 use Rattle.form.specs.Verdict.{blockRules, rules, rowCount, countList, verdictOf}
 use Rattle.form.specs.declared.Counts.{Counts}
@@ -22,16 +23,14 @@ use Rattle.form.proofs.Search.{first-is-none}
 use Rattle.form.proofs.Order.{kept, or-second, ruling-append, Kept, AllKept, more, ruling-clean}
 use Rattle.form.proofs.Tests.{or-none}
 use Rattle.filing.proofs.Choice.{or-of, implies}
-use Rattle.form.proofs.EachKind.{known-edition}
-use Rattle.form.proofs.Stand.{headed}
-use Rattle.form.proofs.Accepted.{eachFrom, counts-listed, accepted-counts, accepted-ruling, in-order, whole-blocks, few-rows, one-row}
+use Rattle.form.proofs.Accepted.{eachFrom, counts-listed, accepted-counts, accepted-ruling, in-order, whole-blocks, one-edition, known-edition, no-rows, few-rows, one-row}
 use Rattle.filing.specs.Lists.{total, rowsIn, filedLists}
 use Rattle.filing.specs.Written.{inTurn, blockOf, bytesOf}
 use Rattle.filing.proofs.Stands.{Stands, stands-all, Bytes}
 use Rattle.filing.proofs.Parts.{length-block}
 use Rattle.filing.proofs.Alike.{alike-part, block-alike}
 use Rattle.filing.proofs.Cut.{cut-flat, total-flat}
-use Rattle.lists.specs.Rules.{badList, badLengths, badAt, listRules}
+use Rattle.lists.specs.Rules.{badList, badLengths, notAllowed, badAt, listRules}
 use Rattle.rows.specs.Reading.{rowsOf, listsFrom, rowLists, lengthsFrom, lengthsOf}
 use Rattle.rows.specs.Writing.{written}
 use Rattle.rows.proofs.Return.{places-from, length-written}
@@ -48,7 +47,7 @@ good-list kind n m few one =
 
 no-stray : (s : List ℕ) (b : ℕ) → badBlock s b ≡ false → stray s b ≡ false
 unfolding badBlock
-no-stray s b e = or-none (kindFalls s b || wrongEnd s b || fourthOfKind s b || badCount s b || notFilled s b || overFilled s b) (stray s b) e .1
+no-stray s b e = or-none (kindFalls s b || lowBehind s b || endsLow s b || noneBefore s b || fourthOfKind s b || badCount s b || notFilled s b || overFilled s b) (stray s b) e .1
 
 -- what rules 2 to 4 say of a block
 block-kept : (s : List ℕ) → AllKept (rules s) → (b : ℕ) → b < blocks s → (badCheck s b ≡ false) × (badHeader s b ≡ false) × (stray s b ≡ false)
@@ -93,9 +92,20 @@ module _ (s : List ℕ) (c : Counts) (acc : verdictOf s ≡ Accepted c) where
   lengths-good =
       rw (eq-eqb (length (map length (rowLists s))) kinds (length-map (rowLists s) length ∙ lists-length 1 kinds), eq-eqb (total (map length (rowLists s))) _ (total-flat (rowLists s)))
 
-  all-good : (p : ℕ) → p < suc kinds → badAt (map length (rowLists s)) (length (flatten (rowLists s))) p ≡ false
-  all-good zero h = lengths-good
-  all-good (suc k) h = list-good k (omega arith)
+  -- a kind that the edition does not have has no row
+  none-allowed : (k : ℕ) → k < kinds → lastKind (edition s 0) < suc k → getD (map length (rowLists s)) k 0 ≡ 0
+  none-allowed k h l =
+      let e : 1 + k ≡ suc k = omega arith in
+      let z : numbersOf (suc k) * rowCount (suc k) s ≡ 0 = rw (no-rows s c acc (suc k) l) (mul-zero (numbersOf (suc k))) in
+      list-at kinds 1 k h ∙ rw e (rows-long s c acc k h ∙ z)
+
+  allowed : (k : ℕ) → k < kinds → notAllowed (edition s 0) (suc k) (getD (map length (rowLists s)) k 0) ≡ false
+  unfolding notAllowed
+  allowed k h = implies (ltb (lastKind (edition s 0)) (suc k)) (λ q. eq-eqb _ 0 (none-allowed k h (ltb-true _ _ q)))
+
+  all-good : (p : ℕ) → p < suc kinds → badAt (edition s 0) (map length (rowLists s)) (length (flatten (rowLists s))) p ≡ false
+  all-good zero h = or-of (ap not (lt-ltb 0 (lastKind (edition s 0)) (known-edition s c acc))) lengths-good
+  all-good (suc k) h = or-of (allowed k (omega arith)) (list-good k (omega arith))
 
   pub rows-clean : ruling (listRules (edition s 0) (map length (rowLists s)) (flatten (rowLists s))) ≡ Clean
   unfolding listRules
@@ -106,15 +116,8 @@ module _ (s : List ℕ) (c : Counts) (acc : verdictOf s ≡ Accepted c) where
       or-second (ruling (blockRules s)) (ruling (recordRules e (filed s))) (sym (ruling-append (blockRules s) (recordRules e (filed s))) ∙ accepted-ruling s c acc) in
       let same = rules-same e f (filed s) (lists-alike s c acc) (lists-places s c acc) (solid-lists 1 (rowLists s)) in
       rw (cut-flat (rowLists s))
-      (sym (kept (rule 10 (suc kinds) (badAt (map length (rowLists s)) (length (flatten (rowLists s))))) (recordRules e f)
-      (first-is-none (badAt (map length (rowLists s)) (length (flatten (rowLists s)))) (suc kinds) all-good) (sym (same ∙ records))))
-
-  -- one edition throughout
-  pub same-edition : (b : ℕ) → b < blocks s → edition s b ≡ 1
-  same-edition b h = known-edition (edition s b) (headed s b (block-kept s (ruling-clean (accepted-ruling s c acc)) b h .1) .edition)
-
-  pub first-is-one : edition s 0 ≡ 1
-  first-is-one = let w = whole-blocks s c acc in same-edition 0 (omega arith)
+      (sym (kept (rule 10 (suc kinds) (badAt e (map length (rowLists s)) (length (flatten (rowLists s))))) (recordRules e f)
+      (first-is-none (badAt e (map length (rowLists s)) (length (flatten (rowLists s)))) (suc kinds) all-good) (sym (same ∙ records))))
 
   pub written-back : Bytes s → written (edition s 0) (rowLists s) ≡ s
   unfolding bytesOf
@@ -136,4 +139,4 @@ module _ (s : List ℕ) (c : Counts) (acc : verdictOf s ≡ Accepted c) where
           let e = edition s 0 in
           let same = block-alike {f = f} {g = filed s} e b b 0 0 (blocks s) (alike-part (lists-alike s c acc) (12 * b) 12 (omega (arith, lists-places s c acc)) (zero-add (12 * b)) (zero-add (12 * b))) refl in
           rw (zero-add (512 * b), zero-add b, same)
-          (block-stands s b small (omega arith) e (same-edition b l ∙ sym first-is-one) (k .0) (k .1) (k .2) (in-order s c acc b l .twelve))
+          (block-stands s b small (omega arith) e (one-edition s c acc b l) (k .0) (k .1) (k .2) (in-order s c acc b l .twelve))

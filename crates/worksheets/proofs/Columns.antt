@@ -8,12 +8,13 @@ use Rattle.wide.specs.Rounding.{nearest}
 use Rattle.wide.specs.Signs.{amount, Holds}
 use Rattle.wide.proofs.Laws.{words, is-as}
 use Rattle.wide.proofs.SignLaws.{holds-as, signed}
-use Rattle.worksheets.specs.Sheets.{columnM, columnO, columnP, columnQ, reported, co2Of, ch4Of, coOf, stocksOf, conversionOf, gasesOf}
-use Rattle.worksheets.specs.Answers.{stocksHeld, conversionHeld, gasesHeld}
+use Rattle.worksheets.specs.Sheets.{columnM, columnO, columnP, columnQ, reported, co2Of, uptakeCo2, abandonedOf, ch4Of, coOf, stocksOf, conversionOf, gasesOf}
+use Rattle.worksheets.specs.Answers.{stocksHeld, conversionHeld, gasesHeld, abandonedHeld}
 use Rattle.worksheets.specs.declared.sheets.Parameters.{Parameters}
 use Rattle.worksheets.specs.declared.sheets.Stocks.{Stocks}
 use Rattle.worksheets.specs.declared.sheets.Conversion.{Conversion}
 use Rattle.worksheets.specs.declared.sheets.Gases.{Gases}
+use Rattle.worksheets.specs.declared.sheets.Abandoned.{Abandoned}
 
 pub stocks-are : (f : Stocks) {e k l : ℕ} (n : ℕ) → Is (f .e .0) e → Is (f .k .0) k → Is (f .l .0) l
     → Holds (f .m .0) (columnM k l)
@@ -67,3 +68,7 @@ gases-are f c p e ch4 co n2o nox =
     let x = is-as n2o (sevenths 11 c (p .nc) (p .n2o) e) in
     let y = is-as nox (sevenths 23 c (p .nc) (p .nox) e) in
     λ i. record { ch4 = record { 0 = words ch4 i }; co = record { 0 = words co i }; n2o = record { 0 = words x i }; nox = record { 0 = words y i } }
+
+pub abandoned-is : (f : Abandoned) {u : ℕ} → Is (f .uptake .0) u → Is (f .co2 .0) (uptakeCo2 u) → f ≡ abandonedHeld (abandonedOf u)
+unfolding abandonedOf abandonedHeld
+abandoned-is f hu hc = λ i. record { uptake = record { 0 = words hu i }; co2 = record { 0 = words hc i } }

@@ -14,7 +14,7 @@ use Rattle.wide.specs.Rounding.{settled, nearest}
 use Rattle.wide.specs.Signs.{nearestZ}
 use Rattle.wide.proofs.SignLaws.{size-minus, size-times}
 use Rattle.totals.proofs.Accepted.{columns-small}
-use Rattle.worksheets.specs.Sheets.{columnM, columnO, columnP, columnQ, Ratios, Sheet51, Sheet52, Sheet53, Sheets, stocksOf, conversionOf, gasesOf, figuresOf}
+use Rattle.worksheets.specs.Sheets.{columnM, columnO, columnP, columnQ, Ratios, Sheet51, Sheet52, Sheet53, Sheet54, Sheets, stocksOf, conversionOf, gasesOf, abandonedOf, figuresOf}
 use Rattle.worksheets.specs.declared.sheets.Parameters.{Parameters}
 use Rattle.worksheets.proofs.Accepted.{ratios}
 use Rattle.worksheets.proofs.Sizes.{thousand}
@@ -50,8 +50,11 @@ Small52 v = Fits (v .onsite) × Fits (v .offsite) × Fits (v .r) × Fits (v .dec
 abbrev pub Small53 : Sheet53 → Type 0
 Small53 v = Fits (v .ch4) × Fits (v .co) × Fits (v .n2o) × Fits (v .nox)
 
+abbrev pub Small54 : Sheet54 → Type 0
+Small54 v = Fits (v .uptake) × Fits (v .co2)
+
 abbrev pub Small : Sheets → Type 0
-Small v = Small51 (v .stocks) × Small52 (v .conversion) × Small53 (v .gases)
+Small v = Small51 (v .stocks) × Small52 (v .conversion) × Small53 (v .gases) × Small54 (v .abandoned)
 
 stocks-small : (e k l n : ℕ) → e < 2 ^ 64 → k < 2 ^ 64 → l < 2 ^ 64 → n ≤ 1000 → Small51 (stocksOf e k l n)
 unfolding stocksOf
@@ -85,8 +88,12 @@ gases-small c p hc r =
         let n = thousand 90 (w * c) (p .nc) (parts w hw) (r .nc) in
         omega (arith, nearest-le (w * c * p .nc * ratio) (7 * 10 ^ 15), thousand 100 (w * c * p .nc) ratio n hr)
 
+abandoned-small : (u : ℕ) → u < 2 ^ 64 → Small54 (abandonedOf u)
+unfolding abandonedOf
+abandoned-small u h = (omega arith, omega (arith, nearest-le (11 * u) 30000))
+
 pub figures-small : (s : List ℕ) (c : Counts) → verdictOf s ≡ Accepted c → Small (figuresOf s)
 figures-small s c acc =
     let w = columns-small s c acc in
     let r = ratios s c acc in
-    (stocks-small _ _ _ _ (w .0) (w .1) (w .2) (r .n), conversion-small _ _ _ (w .3) (w .4) (w .5), gases-small _ _ (w .3) r)
+    (stocks-small _ _ _ _ (w .0) (w .1) (w .2) (r .n), conversion-small _ _ _ (w .3) (w .4) (w .5), gases-small _ _ (w .3) r, abandoned-small _ (w .6))

@@ -7,10 +7,11 @@ use Rattle.form.specs.declared.Verdict.{Verdict}
 use Rattle.form.specs.declared.Verdict.the-variants as verdict
 use Rattle.wide.specs.Numbers.{value, wordsOf}
 use Rattle.wide.specs.Signs.{amount, signedOf}
-use Rattle.worksheets.specs.Sheets.{Sheet51, Sheet52, Sheet53, Sheets, figuresOf}
+use Rattle.worksheets.specs.Sheets.{Sheet51, Sheet52, Sheet53, Sheet54, Sheets, figuresOf}
 use Rattle.worksheets.specs.declared.sheets.Stocks.{Stocks}
 use Rattle.worksheets.specs.declared.sheets.Conversion.{Conversion}
 use Rattle.worksheets.specs.declared.sheets.Gases.{Gases}
+use Rattle.worksheets.specs.declared.sheets.Abandoned.{Abandoned}
 use Rattle.worksheets.specs.declared.sheets.Figures as declared
 use Rattle.worksheets.specs.declared.sheets.Answer.{Answer}
 use Rattle.worksheets.specs.declared.sheets.Answer.the-variants.{Figures, Refused}
@@ -52,8 +53,11 @@ conversionSaid f = record {
 abbrev pub gasesSaid : Gases → Sheet53
 gasesSaid f = record { ch4 = value (f .ch4 .0); co = value (f .co .0); n2o = value (f .n2o .0); nox = value (f .nox .0) }
 
+abbrev pub abandonedSaid : Abandoned → Sheet54
+abandonedSaid f = record { uptake = value (f .uptake .0); co2 = value (f .co2 .0) }
+
 abbrev pub figuresSaid : declared.Figures → Sheets
-figuresSaid f = record { stocks = stocksSaid (f .stocks); conversion = conversionSaid (f .conversion); gases = gasesSaid (f .gases) }
+figuresSaid f = record { stocks = stocksSaid (f .stocks); conversion = conversionSaid (f .conversion); gases = gasesSaid (f .gases); abandoned = abandonedSaid (f .abandoned) }
 
 -- an answer's number and values, case by case
 abbrev pub said : Answer → Outcome
@@ -90,8 +94,11 @@ gasesHeld v = record {
   nox = record { 0 = wordsOf (v .nox) };
 }
 
+unfoldable pub abandonedHeld : Sheet54 → Abandoned
+abandonedHeld v = record { uptake = record { 0 = wordsOf (v .uptake) }; co2 = record { 0 = wordsOf (v .co2) } }
+
 abbrev pub figuresHeld : Sheets → declared.Figures
-figuresHeld v = record { stocks = stocksHeld (v .stocks); conversion = conversionHeld (v .conversion); gases = gasesHeld (v .gases) }
+figuresHeld v = record { stocks = stocksHeld (v .stocks); conversion = conversionHeld (v .conversion); gases = gasesHeld (v .gases); abandoned = abandonedHeld (v .abandoned) }
 
 abbrev pub answered : Outcome → Answer
 answered (worked v) = Figures (figuresHeld v)

@@ -1,4 +1,4 @@
--- Worksheets 5-1, 5-2 and 5-3: each column from those that it is made of, in the unit of 01's "Worksheet rules". Every rounded tonne cites the one rule.
+-- Worksheets 5-1 to 5-4: each column from those that it is made of, in the unit of 01's "Worksheet rules". Every rounded tonne cites the one rule.
 use Prim.Native.Nat.{ℕ, _+_, _*_, _^_, _≤_}
 use mathlib.Core.List.{List, [], _∷_}
 use lib.ListN.{getD}
@@ -8,6 +8,7 @@ use Rattle.form.specs.Verdict.{rows}
 use Rattle.wide.specs.Rounding.{nearest}
 use Rattle.wide.specs.Signs.{nearestZ}
 use Rattle.totals.specs.Columns.{columnE, columnK, columnL, onsiteTotal, offsiteTotal, decayTotal}
+use Rattle.totals.specs.Abandoned.{uptakeTotal}
 use Rattle.worksheets.specs.declared.sheets.Parameters.{Parameters}
 
 -- N, CH4, CO, N/C, N2O and NOx, by the numbers of a parameter row
@@ -75,7 +76,11 @@ n2oOf c nc ratio = nearest (11 * c * nc * ratio) (7 * 10 ^ 15)
 abbrev pub noxOf : ℕ → ℕ → ℕ → ℕ
 noxOf c nc ratio = nearest (23 * c * nc * ratio) (7 * 10 ^ 15)
 
--- the seventeen figures, sheet by sheet, in the order of 01's lines
+-- 5-4: "then CO2 by 11/3, rounded once": of an uptake in 10^-7 kt C, 11 times it over 30,000 (tonnes CO2)
+abbrev pub uptakeCo2 : ℕ → ℕ
+uptakeCo2 u = nearest (11 * u) 30000
+
+-- the figures, sheet by sheet, in the order of their lines
 pub record Sheet51 : Type 0 where
   pub e : ℕ
   pub k : ℕ
@@ -99,10 +104,15 @@ pub record Sheet53 : Type 0 where
   pub n2o : ℕ
   pub nox : ℕ
 
+pub record Sheet54 : Type 0 where
+  pub uptake : ℕ
+  pub co2 : ℕ
+
 pub record Sheets : Type 0 where
   pub stocks : Sheet51
   pub conversion : Sheet52
   pub gases : Sheet53
+  pub abandoned : Sheet54
 
 unfoldable pub stocksOf : ℕ → ℕ → ℕ → ℕ → Sheet51
 stocksOf e k l n =
@@ -121,10 +131,14 @@ conversionOf onsite offsite decay =
 unfoldable pub gasesOf : ℕ → Parameters → Sheet53
 gasesOf c p = record { ch4 = ch4Of c (p .ch4); co = coOf c (p .co); n2o = n2oOf c (p .nc) (p .n2o); nox = noxOf c (p .nc) (p .nox) }
 
+unfoldable pub abandonedOf : ℕ → Sheet54
+abandonedOf u = record { uptake = u; co2 = uptakeCo2 u }
+
 -- the figures of a return
 abbrev pub figuresOf : List ℕ → Sheets
 figuresOf s = record {
   stocks = stocksOf (columnE s) (columnK s) (columnL s) (given s .n);
   conversion = conversionOf (onsiteTotal s) (offsiteTotal s) (decayTotal s);
   gases = gasesOf (onsiteTotal s) (given s);
+  abandoned = abandonedOf (uptakeTotal s);
 }

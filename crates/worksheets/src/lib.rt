@@ -1,4 +1,4 @@
-// Worksheets 5-1, 5-2 and 5-3: the figures of a return, or its refusal.
+// Worksheets 5-1 to 5-4: the figures of a return, or its refusal.
 pub mod sheets;
 pub mod units;
 
@@ -10,15 +10,17 @@ ghost use Rattle.worksheets.specs.Answers.{figuresHeld, answered, outcom
 use crate::sheets::Answer;
 use crate::sheets::Figures;
 use crate::sheets::read_parameters;
+use crate::sheets::work_abandoned;
 use crate::sheets::work_conversion;
 use crate::sheets::work_gases;
 use crate::sheets::work_stocks;
 use form::Counts;
 use form::Verdict;
 use held::Checked;
+use totals::abandoned::sum_abandoned;
 use totals::sum_conversion;
 use totals::sum_harvest;
-use totals::sum_uptake;
+use totals::sum_stocks;
 
 // The figures of bytes that were judged before, with the counts that the judge gave.
 pub fn work_out(bytes: &[u8], c: Counts) -> Figures
@@ -27,13 +29,15 @@ pub fn work_out(bytes: &[u8], c: Counts) -> Figures
 {
     let p = read_parameters(bytes, c);
     let t = sum_conversion(bytes, c);
-    let stocks = work_stocks(sum_uptake(bytes, c), sum_harvest(bytes, c), t.cleared, p.n);
+    let stocks = work_stocks(sum_stocks(bytes, c), sum_harvest(bytes, c), t.cleared, p.n);
     let conversion = work_conversion(t.onsite, t.offsite, t.decay);
     let gases = work_gases(t.onsite, p);
+    let abandoned = work_abandoned(sum_abandoned(bytes, c));
     Figures {
         stocks,
         conversion,
         gases,
+        abandoned,
     }
 }
 

@@ -6,8 +6,8 @@ ghost use Rattle.form.specs.Layout.{parameters, rowAt};
 ghost use Rattle.form.specs.Verdict.{verdictOf};
 ghost use Rattle.form.specs.declared.Verdict.the-variants.{Accepted};
 ghost use Rattle.wide.specs.Numbers.{value};
-ghost use Rattle.worksheets.specs.Sheets.{standard, parametersOf, given, Ratios, stocksOf, conversionOf, gasesOf};
-ghost use Rattle.worksheets.specs.Answers.{stocksHeld, conversionHeld, gasesHeld};
+ghost use Rattle.worksheets.specs.Sheets.{standard, parametersOf, given, Ratios, stocksOf, conversionOf, gasesOf, abandonedOf};
+ghost use Rattle.worksheets.specs.Answers.{stocksHeld, conversionHeld, gasesHeld, abandonedHeld};
 use crate::units::Co2;
 use crate::units::Gas;
 use crate::units::NetCarbon;
@@ -23,6 +23,7 @@ use crate::units::net_carbon;
 use crate::units::net_co2;
 use crate::units::net_wood;
 use crate::units::nitrogen_in;
+use crate::units::uptake_co2;
 use form::Counts;
 use form::PARAMETERS;
 use form::first_block;
@@ -171,10 +172,25 @@ pub fn work_gases(c: Carbon, p: Parameters) -> Gases
     }
 }
 
+// Worksheet 5-4.
+pub struct Abandoned {
+    pub uptake: Carbon,
+    pub co2: Co2,
+}
+
+pub fn work_abandoned(uptake: Carbon) -> Abandoned
+    requires { ⌜ value (uptake .0) < 2 ^ 64 ⌝ }
+    ensures { λ r. ⌜ r ≡ abandonedHeld (abandonedOf (value (uptake .0))) ⌝ }
+{
+    let co2 = uptake_co2(uptake);
+    Abandoned { uptake, co2 }
+}
+
 pub struct Figures {
     pub stocks: Stocks,
     pub conversion: Conversion,
     pub gases: Gases,
+    pub abandoned: Abandoned,
 }
 
 // The figures, or a refusal's number and place.

@@ -4,7 +4,7 @@ ghost use Prim.Native.Nat.{_+_, _*_, _^_, _<_, _≤_};
 ghost use Rattle.wide.specs.Numbers.{value, Is};
 ghost use Rattle.wide.specs.Rounding.{nearest};
 ghost use Rattle.wide.specs.Signs.{amount, Holds};
-ghost use Rattle.worksheets.specs.Sheets.{columnM, columnO, columnP, columnQ, reported, co2Of};
+ghost use Rattle.worksheets.specs.Sheets.{columnM, columnO, columnP, columnQ, reported, co2Of, uptakeCo2};
 use totals::Carbon;
 use totals::DryMatter;
 use wide::Wide;
@@ -85,6 +85,14 @@ pub fn co2_of(c: Carbon) -> Co2
     ensures { λ r. ⌜ Is (r .0) (co2Of (value (c .0))) ⌝ }
 {
     Co2(rounded(times(c.0, 11), 3000000000, 1, 1))
+}
+
+// The same, of carbon in 10^-7 kt, as land takes it up.
+pub fn uptake_co2(u: Carbon) -> Co2
+    requires { ⌜ value (u .0) < 2 ^ 64 ⌝ }
+    ensures { λ r. ⌜ Is (r .0) (uptakeCo2 (value (u .0))) ⌝ }
+{
+    Co2(rounded(times(u.0, 11), 30000, 1, 1))
 }
 
 // Carbon to nitrogen, by N/C.

@@ -2,8 +2,9 @@
 //! run: `bench [FUNCTION..]`, all functions where none is named. The judge is
 //! also set beside a plain sum of the bytes, and what plain_returns.c has beside
 //! that (`/C`). The parts for the other functions come with the features
-//! `lines`, `doubles` and `rows`. Ten blocks and one come first, then how each
-//! function grows from two blocks to nine, in fewer rounds.
+//! `lines`, `doubles` and `rows`. Ten blocks, one and the thirteen of edition 2
+//! come first, then how each function grows from two blocks to twelve, in fewer
+//! rounds.
 
 #[cfg(door_missing)]
 compile_error!(
@@ -14,8 +15,9 @@ compile_error!(
 mod run {
     use second::ffi::judge::first_judge;
     use second::judge::judge;
+    use second::kinds::COUNTS_ROOM;
     use second::lent::Lent;
-    use second::make::Rows;
+    use second::make::{RowCounts, Rows, FIRST_FULL, MOST_BLOCKS};
     use second::rng::Rng;
     use second::timing::measure;
     use std::hint::black_box;
@@ -38,13 +40,16 @@ mod run {
     }
 
     impl Load {
-        fn new(rng: &mut Rng, counts: [usize; 3], rounds: usize) -> Self {
-            let rows: Vec<Rows> = (0..RETURNS).map(|_| Rows::good(rng, counts)).collect();
+        /// In edition 2 where there is abandoned land.
+        fn new(rng: &mut Rng, counts: RowCounts, rounds: usize) -> Self {
+            let edition = if counts[3] > 0 { 2 } else { 1 };
+            let rows = (0..RETURNS).map(|_| Rows::good_in(rng, edition, counts));
+            let rows: Vec<Rows> = rows.collect();
             let returns: Vec<Box<[u8]>> = rows.iter().map(|r| r.to_bytes().into()).collect();
             let blocks = returns[0].len() / 512;
-            let [c, s, h] = counts;
+            let [c, s, h, a] = counts;
             Load {
-                name: format!("{blocks:>2}, {c}+{s}+{h}+1"),
+                name: format!("{blocks:>2}, {c}+{s}+{h}+1+{a}"),
                 rounds,
                 #[cfg(feature = "rows")]
                 rows,
@@ -56,18 +61,20 @@ mod run {
         /// A return of so many blocks, each kind's filled before the next.
         fn of_blocks(rng: &mut Rng, blocks: usize) -> Self {
             let rows = |kind: usize| (12 * (blocks - 1).saturating_sub(3 * kind)).min(32);
-            Load::new(rng, [0, 1, 2].map(rows), FEWER)
+            Load::new(rng, [0, 1, 2, 3].map(rows), FEWER)
         }
     }
 
     pub fn main() {
         let mut rng = Rng::new(7);
         let mut loads = vec![
-            Load::new(&mut rng, [32; 3], ROUNDS),
-            Load::new(&mut rng, [0; 3], ROUNDS),
+            Load::new(&mut rng, [32, 32, 32, 0], ROUNDS),
+            Load::new(&mut rng, [0; 4], ROUNDS),
+            Load::new(&mut rng, [32; 4], ROUNDS),
         ];
-        loads.extend((2..10).map(|blocks| Load::of_blocks(&mut rng, blocks)));
-        println!("{ROUNDS} rounds ({FEWER} for two blocks to nine) over {RETURNS} returns, medians, ns per call");
+        let others = (2..MOST_BLOCKS).filter(|&blocks| blocks != FIRST_FULL);
+        loads.extend(others.map(|blocks| Load::of_blocks(&mut rng, blocks)));
+        println!("{ROUNDS} rounds ({FEWER} for two blocks to twelve) over {RETURNS} returns, medians, ns per call");
         println!(
             "{:<12}{:<24}{:>10}{:>10}{:>16}",
             "function", "blocks, rows", "niloferq", "other", "niloferq/other"
@@ -93,7 +100,7 @@ mod run {
         });
         #[cfg(plain)]
         bench_two("judge/C", load, &load.returns, ask_first, |bytes| {
-            let mut counts = [0; 4];
+            let mut counts = [0; COUNTS_ROOM];
             assert_eq!(plain::judge(black_box(bytes), black_box(&mut counts)), 0);
             black_box(counts);
         });
@@ -103,6 +110,7 @@ mod run {
     #[cfg(plain)]
     #[allow(unsafe_code)]
     mod plain {
+        use second::kinds::COUNTS_ROOM;
         #[cfg(feature = "rows")]
         use second::kinds::ROWS_ROOM;
 
@@ -116,7 +124,7 @@ mod run {
         }
 
         // In each, every pointer is good for what the C function does with it.
-        pub fn judge(bytes: &[u8], counts: &mut [u32; 4]) -> u32 {
+        pub fn judge(bytes: &[u8], counts: &mut [u32; COUNTS_ROOM]) -> u32 {
             unsafe { plain_judge(bytes.as_ptr(), bytes.len(), counts.as_mut_ptr()) }
         }
 
@@ -127,14 +135,18 @@ mod run {
 
         /// Room for any return's rows.
         #[cfg(feature = "rows")]
-        pub fn read(bytes: &[u8], rows: &mut [u32; ROWS_ROOM], counts: &mut [u32; 4]) -> u32 {
+        pub fn read(
+            bytes: &[u8],
+            rows: &mut [u32; ROWS_ROOM],
+            counts: &mut [u32; COUNTS_ROOM],
+        ) -> u32 {
             let (rows, counts) = (rows.as_mut_ptr(), counts.as_mut_ptr());
             unsafe { plain_read(bytes.as_ptr(), bytes.len(), rows, counts) }
         }
     }
 
     fn ask_first<B: AsRef<[u8]>>(bytes: &B) {
-        let mut counts = [0; 4];
+        let mut counts = [0; COUNTS_ROOM];
         let room = Lent::whole(black_box(&mut counts));
         assert_eq!(first_judge(black_box(bytes.as_ref()), room), 0);
         black_box(counts);
@@ -179,7 +191,7 @@ mod run {
                 |bytes| assert_eq!(first_figures(black_box(bytes), Lent::whole(&mut a)), 0),
                 |bytes| assert_eq!(figures(black_box(bytes), &mut b), 0),
             );
-            let [mut a, mut b] = [[0; 600]; 2];
+            let [mut a, mut b] = [[0; 950]; 2];
             bench_two(
                 "lines",
                 load,
@@ -240,11 +252,10 @@ mod run {
         use second::kinds::{RETURN_ROOM, ROWS_ROOM};
         use second::reader::read;
         use second::rowlists::RowLists;
-        use second::writer::write;
 
         pub fn bench(load: &Load) {
             let [mut a, mut b] = [[0; ROWS_ROOM]; 2];
-            let [mut counts_a, mut counts_b] = [[0; 4]; 2];
+            let [mut counts_a, mut counts_b] = [[0; COUNTS_ROOM]; 2];
             bench_two(
                 "read",
                 load,
@@ -258,7 +269,7 @@ mod run {
 
             #[cfg(plain)]
             {
-                let (mut c, mut counts_c) = ([0; ROWS_ROOM], [0; 4]);
+                let (mut c, mut counts_c) = ([0; ROWS_ROOM], [0; COUNTS_ROOM]);
                 let done = bench_two(
                     "read/C",
                     load,
@@ -281,13 +292,14 @@ mod run {
                 load,
                 &lists,
                 |lists| {
-                    let RowLists { rows, lengths, .. } = black_box(lists);
+                    let made = black_box(lists);
                     let (room, size) = (Lent::whole(&mut a), Lent::whole(&mut size_a));
-                    assert_eq!(first_write(rows, lengths, room, size), 0);
+                    let answer = first_write(made.edition, &made.rows, &made.lengths, room, size);
+                    assert_eq!(answer, 0);
                 },
                 |lists| {
-                    let RowLists { rows, lengths, .. } = black_box(lists);
-                    assert_eq!(write(rows, lengths, &mut b, &mut size_b), 0);
+                    let made = black_box(lists);
+                    assert_eq!(made.write(&mut b, &mut size_b), 0);
                 },
             );
             // With no room all rules are tried and nothing is written.
@@ -296,13 +308,14 @@ mod run {
                 load,
                 &lists,
                 |lists| {
-                    let RowLists { rows, lengths, .. } = black_box(lists);
+                    let made = black_box(lists);
                     let (room, size) = (Lent::front(&mut a, 0), Lent::whole(&mut size_a));
-                    assert_eq!(first_write(rows, lengths, room, size), 9000);
+                    let answer = first_write(made.edition, &made.rows, &made.lengths, room, size);
+                    assert_eq!(answer, 9000);
                 },
                 |lists| {
-                    let RowLists { rows, lengths, .. } = black_box(lists);
-                    assert_eq!(write(rows, lengths, &mut [], &mut size_b), 9000);
+                    let made = black_box(lists);
+                    assert_eq!(made.write(&mut [], &mut size_b), 9000);
                 },
             );
         }

@@ -14,14 +14,15 @@ mod run {
     use second::ffi::judge::first_judge;
     use second::inputs;
     use second::judge::{judge, Verdict};
+    use second::kinds::COUNTS_ROOM;
     use second::lent::Lent;
     use second::rng::Rng;
     use second::sweep::Case;
     use std::process::ExitCode;
 
     /// The room in our memory; at most `MOST_LENT` of it is lent.
-    const ROOM: usize = 12;
-    const MOST_LENT: usize = 8;
+    const ROOM: usize = 14;
+    const MOST_LENT: usize = 10;
 
     pub fn main() -> ExitCode {
         let Some(arguments) = Arguments::from_command("compare") else {
@@ -29,7 +30,7 @@ mod run {
         };
         let plan = Plan {
             name: "judge",
-            inputs: 250_000,
+            inputs: inputs::least(),
             least: inputs::least(),
             often: &[0, 1, 2, 3, 4, 5, 6, 7, 8, 9],
         };
@@ -47,13 +48,13 @@ mod run {
         let lent = rng.below(MOST_LENT + 1);
 
         // "Lent room too short" is tried last; a refusal leaves the room as it
-        // was, and acceptance writes four elements at its front.
+        // was, and acceptance writes the edition and the counts at its front.
         let mut room_due = before;
         let expected = match judge(&case.bytes) {
             Verdict::Refused(refusal) => refusal.answer(),
-            Verdict::Accepted(_) if lent < 4 => 9000,
+            Verdict::Accepted(_) if lent < COUNTS_ROOM => 9000,
             Verdict::Accepted(counts) => {
-                room_due[..4].copy_from_slice(&counts);
+                room_due[..COUNTS_ROOM].copy_from_slice(&counts.numbers());
                 0
             }
         };
@@ -71,7 +72,7 @@ mod run {
             difference = ask(&shifted, shift, case, (before, lent), (expected, room_due));
         }
         Outcome {
-            number: expected / 1000,
+            answer: expected,
             difference,
         }
     }

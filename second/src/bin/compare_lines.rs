@@ -3,7 +3,7 @@
 //!
 //! `compare_lines [SEED [INPUTS]]`. Every input is asked for with a room of the
 //! text's length, one shorter, none at all and one of any length, and for its
-//! numbers with a room of 51, one shorter or longer, or of any length; all of
+//! numbers with a room of 57, one shorter or longer, or of any length; all of
 //! our memory is looked at afterwards, the guard behind the room included.
 
 #[cfg(door_missing)]
@@ -16,7 +16,7 @@ mod run {
     use second::drive::{exit, first_of, memory_difference, run, Arguments, Outcome, Plan};
     use second::ffi::lines::{first_figures, first_lines};
     use second::inputs;
-    use second::judge::{judge, Verdict};
+    use second::judge::judge;
     use second::lent::{Lent, Placed};
     use second::rng::Rng;
     use second::sheets::{figures, lines, NUMBERS};
@@ -24,7 +24,8 @@ mod run {
     use std::process::ExitCode;
 
     const GUARD: usize = 24;
-    const MOST_LENT: usize = 700;
+    /// More than the 50 bytes for each figure that are always enough.
+    const MOST_LENT: usize = 1_000;
     const MEMORY: usize = MOST_LENT + GUARD;
     const MOST_NUMBERS: usize = NUMBERS + 9;
     const NUMBER_MEMORY: usize = MOST_NUMBERS + GUARD;
@@ -35,7 +36,7 @@ mod run {
         };
         let plan = Plan {
             name: "lines",
-            inputs: 250_000,
+            inputs: inputs::least(),
             least: inputs::least(),
             often: &[0, 1, 2, 3, 4, 5, 6, 7, 8],
         };
@@ -60,11 +61,10 @@ mod run {
             ask(placed.bytes(), case, before, lent)
         }))
         .or_else(|| ask_figures(placed.bytes(), case, rng, calls));
-        let number = match judge(&case.bytes) {
-            Verdict::Accepted(_) => 0,
-            Verdict::Refused(refusal) => refusal.number,
-        };
-        Outcome { number, difference }
+        Outcome {
+            answer: judge(&case.bytes).answer(),
+            difference,
+        }
     }
 
     /// The figures as numbers, in a room long enough and in one that may not be.

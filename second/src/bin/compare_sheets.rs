@@ -7,8 +7,9 @@
 
 use second::drive::{exit, memory_difference, run, Arguments, Outcome, Plan};
 use second::inputs;
-use second::judge::{judge, Verdict};
+use second::judge::judge;
 use second::make::Rows;
+use second::order_sweeps::{request, REQUEST};
 use second::rng::Rng;
 use second::sheets::text;
 use second::sweep::Case;
@@ -16,13 +17,14 @@ use std::io::{ErrorKind, Read, Write};
 use std::process::{ChildStdin, Command, ExitCode, Stdio};
 use std::time::Duration;
 
-/// "at most 5,121 bytes are taken"
-const TAKEN: usize = 5_121;
+/// "`sheets` takes one byte beyond the longest", which is 13 blocks.
+const TAKEN: usize = 6_657;
 const INPUTS: usize = 2_000;
-const LENGTHS: [usize; 14] = [
-    0, 1, 2, 511, 512, 513, 1_024, 5_119, 5_120, 5_121, 5_122, 5_632, 9_000, 20_480,
+const LENGTHS: [usize; 19] = [
+    0, 1, 2, 511, 512, 513, 1_024, 5_119, 5_120, 5_121, 5_122, 5_632, 6_655, 6_656, 6_657, 6_658,
+    7_168, 9_000, 20_480,
 ];
-const FILLINGS: usize = 4;
+const FILLINGS: usize = 5;
 
 fn main() -> ExitCode {
     let Some(arguments) = Arguments::from_command("compare_sheets") else {
@@ -54,10 +56,13 @@ fn main() -> ExitCode {
     exit(good)
 }
 
-/// The named lengths first, in every filling; then the inputs of the other
-/// comparisons.
+/// The named lengths first, in every filling; then the request's refusals, and
+/// the inputs of the other comparisons.
 fn make(index: usize, rng: &mut Rng) -> Case {
-    if index >= LENGTHS.len() * FILLINGS {
+    if let Some(index) = index.checked_sub(LENGTHS.len() * FILLINGS) {
+        if index < REQUEST {
+            return request(index, rng);
+        }
         // The sweeps begin with thousands of lengths: a few of their inputs,
         // from all over them, have to do.
         let from = rng.below(inputs::least());
@@ -69,6 +74,7 @@ fn make(index: usize, rng: &mut Rng) -> Case {
         // A full return, cut or with more behind it.
         1 => Rows::good(rng, [32; 3]).to_bytes(),
         2 => Rows::good(rng, [0; 3]).to_bytes(),
+        3 => Rows::good_in(rng, 2, [32; 4]).to_bytes(),
         _ => (0..length).map(|_| rng.byte()).collect(),
     };
     bytes.resize(length, 0);
@@ -80,10 +86,6 @@ fn make(index: usize, rng: &mut Rng) -> Case {
 
 fn try_one(mut command: Command, case: &Case, rng: &mut Rng) -> Outcome {
     let taken = &case.bytes[..case.bytes.len().min(TAKEN)];
-    let number = match judge(taken) {
-        Verdict::Accepted(_) => 0,
-        Verdict::Refused(refusal) => refusal.number,
-    };
     let due = text(taken);
     let difference = match output(&mut command, &case.bytes, rng.one_in(8)) {
         Err(error) => Some(format!("the program could not be run: {error}")),
@@ -95,7 +97,10 @@ fn try_one(mut command: Command, case: &Case, rng: &mut Rng) -> Outcome {
             })
         }
     };
-    Outcome { number, difference }
+    Outcome {
+        answer: judge(taken).answer(),
+        difference,
+    }
 }
 
 /// The whole standard output, and the exit status if there is one. The paper

@@ -12,6 +12,7 @@ extern "C" {
     ) -> u32;
 
     fn niloferq_write(
+        edition: u32,
         rows: *const u32,
         rows_len: usize,
         lengths: *const u32,
@@ -23,7 +24,8 @@ extern "C" {
     ) -> u32;
 }
 
-/// The first program's rows of `bytes` in `rows`, and their numbers in `counts`.
+/// The first program's rows of `bytes` in `rows`, and the edition and their
+/// numbers in `counts`.
 #[inline]
 pub fn first_read(bytes: &[u8], rows: Lent<u32>, counts: Lent<u32>) -> u32 {
     let (rows, rows_len) = rows.parts();
@@ -44,12 +46,19 @@ pub fn first_read(bytes: &[u8], rows: Lent<u32>, counts: Lent<u32>) -> u32 {
 
 /// The first program's blocks of these rows in `room`, their length in `size`.
 #[inline]
-pub fn first_write(rows: &[u32], lengths: &[u32], room: Lent<u8>, size: Lent<u32>) -> u32 {
+pub fn first_write(
+    edition: u32,
+    rows: &[u32],
+    lengths: &[u32],
+    room: Lent<u8>,
+    size: Lent<u32>,
+) -> u32 {
     let (room, room_len) = room.parts();
     let (size, size_len) = size.parts();
     // As above.
     unsafe {
         niloferq_write(
+            edition,
             rows.as_ptr(),
             rows.len(),
             lengths.as_ptr(),

@@ -25,8 +25,14 @@ byte-at-requires-2 c κs = search needs
 kind-falls-requires : tie.Need-kind-falls-requires
 kind-falls-requires c κs = search needs
 
-wrong-end-requires : tie.Need-wrong-end-requires
-wrong-end-requires c κs = search needs
+low-behind-requires : tie.Need-low-behind-requires
+low-behind-requires c κs = search needs
+
+ends-low-requires : tie.Need-ends-low-requires
+ends-low-requires c κs = search needs
+
+none-before-requires : tie.Need-none-before-requires
+none-before-requires c κs = search needs
 
 bad-count-requires : tie.Need-bad-count-requires
 bad-count-requires c κs = search needs
@@ -64,7 +70,9 @@ bad-block-spec =
     add-byte-at
     byte-at-requires-2
     kind-falls-requires
-    wrong-end-requires
+    low-behind-requires
+    ends-low-requires
+    none-before-requires
     bad-count-requires
     not-filled-requires
     over-filled-requires

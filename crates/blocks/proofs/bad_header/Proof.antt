@@ -52,12 +52,16 @@ two-at-requires-3 c κs = search needs
 cast-result-2 : tie.Need-cast-result-2
 cast-result-2 c = search needs
 
+two-at-requires-4 : tie.Need-two-at-requires-4
+two-at-requires-4 c κs = search needs
+
 returns : tie.Need-returns
 unfolding badHeader
 returns c =
-    let l = c .before .before in
+    let t = c .before in
+    let l = t .before .before in
     let e = l .before in
-    rw (e .before .byte-at .ensures .0, l .last-kind .ensures, e .two-at .ensures .0, c .before .two-at2 .ensures .0, c .two-at3 .ensures .0) refl
+    rw (e .before .byte-at .ensures .0, l .last-kind .ensures, e .two-at .ensures .0, t .before .two-at2 .ensures .0, t .two-at3 .ensures .0, c .two-at4 .ensures .0) refl
 
 pub bad-header-spec : {M : Type 1} → statement M
 bad-header-spec =
@@ -77,4 +81,5 @@ bad-header-spec =
     add-two-at-3
     two-at-requires-3
     cast-result-2
+    two-at-requires-4
     returns)

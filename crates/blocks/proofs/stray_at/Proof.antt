@@ -21,6 +21,9 @@ stray-fields-requires-4 c κs = search needs
 stray-fields-requires-5 : tie.Need-stray-fields-requires-5
 stray-fields-requires-5 c κs = search needs
 
+stray-fields-requires-6 : tie.Need-stray-fields-requires-6
+stray-fields-requires-6 c κs = search needs
+
 returns : tie.Need-returns
 returns c = rw (c .before .match .keys1) (c .stray-fields .ensures)
 
@@ -34,7 +37,10 @@ returns-4 : tie.Need-returns-4
 returns-4 c = rw (c .before .match .keys4) (c .stray-fields4 .ensures)
 
 returns-5 : tie.Need-returns-5
-returns-5 c = rw (no-kind (c .before .before .before .args .kind) (λ l h. omega (arith, kinds-are))) (c .stray-fields5 .ensures)
+returns-5 c = rw (c .before .match .keys5) (c .stray-fields5 .ensures)
+
+returns-6 : tie.Need-returns-6
+returns-6 c = rw (no-kind (c .before .before .before .args .kind) (λ l h. omega (arith, kinds-are))) (c .stray-fields6 .ensures)
 
 pub stray-at-spec : {M : Type 1} → statement M
 stray-at-spec =
@@ -45,8 +51,10 @@ stray-at-spec =
     stray-fields-requires-3
     stray-fields-requires-4
     stray-fields-requires-5
+    stray-fields-requires-6
     returns
     returns-2
     returns-3
     returns-4
-    returns-5)
+    returns-5
+    returns-6)

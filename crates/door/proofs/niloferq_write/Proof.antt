@@ -16,7 +16,7 @@ returns : tie.Need-returns
 returns c =
     let t = c .before in
     let a = t .before .before .before .before .before .args in
-    unsized-out (now (a .rows)) (now (a .lengths)) (now (a .room)) (now (a .size)) (t .if1 .taken) (c .without-size .ensures)
+    unsized-out (a .edition) (now (a .rows)) (now (a .lengths)) (now (a .room)) (now (a .size)) (t .if1 .taken) (c .without-size .ensures)
 
 write-requires : tie.Need-write-requires
 write-requires c κs = search needs
@@ -27,7 +27,7 @@ enum-known-number c = search needs
 refusal-requires : tie.Need-refusal-requires
 refusal-requires c κs =
     let w = c .before .before .before .before .before in
-    write-small _ _ _ (sym (w .write .ensures .0) ∙ c .before .number .given .1)
+    write-small _ _ _ _ (sym (w .write .ensures .0) ∙ c .before .number .given .1)
 
 enum-known-n : tie.Need-enum-known-n
 enum-known-n c = search needs
@@ -35,7 +35,7 @@ enum-known-n c = search needs
 cast-size : tie.Need-cast-size
 cast-size c =
     let w = c .before .before .before .before .before in
-    omega (arith, done-small _ _ _ (sym (w .write .ensures .0) ∙ c .before .n .given .1))
+    omega (arith, done-small _ _ _ _ (sym (w .write .ensures .0) ∙ c .before .n .given .1))
 
 slice-write-size : tie.Need-slice-write-size
 slice-write-size c = search needs
@@ -49,7 +49,7 @@ returns-2 c =
     let t = w .before .before in
     let a = t .before .before .before .before .before .args in
     let e = c .before .before .number .given .1 in
-    written-out (now (a .rows)) (now (a .lengths)) (now (a .room)) (now (a .size)) _ (t .if1 .left) (w .write .ensures .0) (c .refusal .ensures ∙ ap codeBy (sym e))
+    written-out (a .edition) (now (a .rows)) (now (a .lengths)) (now (a .room)) (now (a .size)) _ (t .if1 .left) (w .write .ensures .0) (c .refusal .ensures ∙ ap codeBy (sym e))
     (w .write .ensures .1) (ap (sizeBy (now (a .size))) (sym e))
 
 same-length-2 : tie.Need-same-length-2
@@ -64,7 +64,7 @@ returns-3 c =
     let t = w .before .before in
     let a = t .before .before .before .before .before .args in
     let e = c .before .n .given .1 in
-    written-out (now (a .rows)) (now (a .lengths)) (now (a .room)) (now (a .size)) _ (t .if1 .left) (w .write .ensures .0) (ap codeBy (sym e))
+    written-out (a .edition) (now (a .rows)) (now (a .lengths)) (now (a .room)) (now (a .size)) _ (t .if1 .left) (w .write .ensures .0) (ap codeBy (sym e))
     (w .write .ensures .1) (sets-front (now (a .size)) (_ ∷ []) (t .if1 .left) ∙ ap (sizeBy (now (a .size))) (sym e))
 
 pub niloferq-write-spec : {M : Type 1} → statement M

@@ -1,10 +1,9 @@
 -- `door::put_counts` meets its contract. Assumes nothing.
-use Prim.Native.Nat.{_+_, _-_, _≤_, _<_}
+use Prim.Native.Nat.{suc, _-_}
 use mathlib.Core.Path.{_≡_, _∙_}
-use native.Mathlib.Numerals.{add-one}
 use lib.ListN.{length, getD}
 use Rattle.form.specs.Layout.{kinds}
-use Rattle.form.specs.Verdict.{countList}
+use Rattle.door.specs.Door.{held}
 use Rattle.form.proofs.EachKind.{kinds-are, few-kinds}
 use Rattle.door.proofs.Rooms.{Handing, handing-none, handing-more, handing-all}
 use borrow.Author.Needs.{needs}
@@ -13,19 +12,16 @@ use Rattle.door.proofs.put_counts.Statement.{statement}
 use Rattle.door.proofs.put_counts.Tie as tie
 
 abbrev Inv-loop : tie.InvT-loop
-Inv-loop c room₀ k₀ room k = Handing (countList c) room₀ room k
+Inv-loop c room₀ k₀ room k = Handing (held c) room₀ room k
 
 abbrev μ-loop : tie.MeasureT-loop
-μ-loop c room₀ k₀ room k = kinds - k
+μ-loop c room₀ k₀ room k = suc kinds - k
 
 loop-holds : tie.Need-loop-holds Inv-loop μ-loop
 loop-holds c = handing-none
 
-add-count-of : tie.Need-add-count-of Inv-loop μ-loop
-add-count-of c = omega (arith, few-kinds)
-
-count-of-requires : tie.Need-count-of-requires Inv-loop μ-loop
-count-of-requires c κs = search needs
+held-at-requires : tie.Need-held-at-requires Inv-loop μ-loop
+held-at-requires c κs = search needs
 
 mul-room : tie.Need-mul-room Inv-loop μ-loop
 mul-room c = search needs
@@ -42,13 +38,13 @@ loop-less c = omega (arith, kinds-are)
 loop-again : tie.Need-loop-again Inv-loop μ-loop
 loop-again c =
     let v = c .before .before .loop in
-    handing-more (v .inv) (c .before .loop-test .taken) (rw (add-one (v .k)) at (c .count-of .ensures))
+    handing-more (v .inv) (omega (arith, kinds-are, c .before .loop-test .taken)) (c .held-at .ensures)
 
 same-length : tie.Need-same-length Inv-loop μ-loop
 same-length c = c .before .loop .inv .same
 
 returns : tie.Need-returns Inv-loop μ-loop
-returns c = handing-all (c .before .loop .inv) (c .loop-test .left) (omega (arith, kinds-are, c .before .before .before .pre))
+returns c = handing-all (c .before .loop .inv) (omega (arith, kinds-are, c .loop-test .left)) (omega (arith, kinds-are, c .before .before .before .pre))
 
 pub put-counts-spec : {M : Type 1} → statement M
 put-counts-spec =
@@ -57,8 +53,7 @@ put-counts-spec =
     Inv-loop
     μ-loop
     loop-holds
-    add-count-of
-    count-of-requires
+    held-at-requires
     mul-room
     slice-write-room
     add-k

@@ -19,7 +19,7 @@ enum-known-number c = search needs
 refusal-requires : tie.Need-refusal-requires
 refusal-requires c κs =
     let w = c .before .before .before .before in
-    write-small _ _ _ (sym (w .write .ensures .0) ∙ c .before .number .given .1)
+    write-small _ _ _ _ (sym (w .write .ensures .0) ∙ c .before .number .given .1)
 
 enum-told : tie.Need-enum-told
 enum-told c = search needs
@@ -31,13 +31,13 @@ returns : tie.Need-returns
 returns c =
     let w = c .before .before .before .before .before in
     let a = w .before .before .before .before .args in
-    tried (now (a .rows)) (now (a .lengths)) _ _ (w .write .ensures .0) (c .refusal .ensures ∙ ap unsized (sym (c .before .before .number .given .1)))
+    tried (a .edition) (now (a .rows)) (now (a .lengths)) _ _ (w .write .ensures .0) (c .refusal .ensures ∙ ap unsized (sym (c .before .before .number .given .1)))
 
 returns-2 : tie.Need-returns-2
 returns-2 c =
     let w = c .before .before .before .before in
     let a = w .before .before .before .before .args in
-    tried (now (a .rows)) (now (a .lengths)) _ _ (w .write .ensures .0) (c .refusal2 .ensures ∙ ap unsized (sym (c .before .enum-told .given .1)))
+    tried (a .edition) (now (a .rows)) (now (a .lengths)) _ _ (w .write .ensures .0) (c .refusal2 .ensures ∙ ap unsized (sym (c .before .enum-told .given .1)))
 
 pub without-size-spec : {M : Type 1} → statement M
 without-size-spec =

@@ -17,7 +17,10 @@ decode-rows-requires-4 : tie.Need-decode-rows-requires-4
 decode-rows-requires-4 c κs = rw (c .before .match .keys4) at (c .before .before .before .before .pre)
 
 decode-rows-requires-5 : tie.Need-decode-rows-requires-5
-decode-rows-requires-5 c κs = search needs
+decode-rows-requires-5 c κs = rw (c .before .match .keys5) at (c .before .before .before .before .pre)
+
+decode-rows-requires-6 : tie.Need-decode-rows-requires-6
+decode-rows-requires-6 c κs = search needs
 
 same-length : tie.Need-same-length
 same-length c = search needs
@@ -47,7 +50,13 @@ same-length-5 : tie.Need-same-length-5
 same-length-5 c = search needs
 
 returns-5 : tie.Need-returns-5
-returns-5 c = search needs
+returns-5 c = rw (c .before .before .before .before .match .keys5) (c .before .before .decode-rows5 .ensures)
+
+same-length-6 : tie.Need-same-length-6
+same-length-6 c = search needs
+
+returns-6 : tie.Need-returns-6
+returns-6 c = search needs
 
 pub decode-kind-spec : {M : Type 1} → statement M
 decode-kind-spec =
@@ -58,6 +67,7 @@ decode-kind-spec =
     decode-rows-requires-3
     decode-rows-requires-4
     decode-rows-requires-5
+    decode-rows-requires-6
     same-length
     returns
     same-length-2
@@ -67,4 +77,6 @@ decode-kind-spec =
     same-length-4
     returns-4
     same-length-5
-    returns-5)
+    returns-5
+    same-length-6
+    returns-6)

@@ -1,6 +1,6 @@
 -- `filing::decode_rows` meets its contract. Assumes nothing.
-use Prim.Native.Nat.{_+_, _-_, _*_, _≤_}
-use mathlib.Core.Path.{_≡_}
+use Prim.Native.Nat.{ℕ, _+_, _-_, _*_, _≤_}
+use mathlib.Core.Path.{_≡_, sym, ap, _∙_}
 use native.Mathlib.Nat.{mul-add}
 use lib.ListN.{length}
 use Rattle.form.specs.Layout.{numbersOf}
@@ -67,9 +67,9 @@ loop-again c =
     let turn = at-row .before .before in
     let a = turn .before .before .before .before .before .args in
     let v = turn .before .loop in
-    let w = turn .before .before .numbers .ensures .0 in
+    let w = turn .before .before .numbers .ensures .0 ∙ sym (length-rowOn (a .kind) (a .bytes .now) _) in
     let place = mul-add (numbersOf (a .kind)) (v .i) 1 in
-    (filling-more (v .inv .0) (turn .loop-test .taken) (at-row .decode-row .ensures) (rw (w, length-rowOn (a .kind) (a .bytes .now))), omega arith)
+    (filling-more (v .inv .0) (turn .loop-test .taken) (at-row .decode-row .ensures) (ap (λ (x : ℕ). v .to + x) w), omega arith)
 
 same-length : tie.Need-same-length Inv-loop μ-loop
 same-length c = search needs

@@ -17,7 +17,10 @@ write-fields-requires-4 : tie.Need-write-fields-requires-4
 write-fields-requires-4 c κs = rw (c .before .match .keys4) at (c .before .before .before .before .pre)
 
 write-fields-requires-5 : tie.Need-write-fields-requires-5
-write-fields-requires-5 c κs = search needs
+write-fields-requires-5 c κs = rw (c .before .match .keys5) at (c .before .before .before .before .pre)
+
+write-fields-requires-6 : tie.Need-write-fields-requires-6
+write-fields-requires-6 c κs = search needs
 
 same-length : tie.Need-same-length
 same-length c = search needs
@@ -47,7 +50,13 @@ same-length-5 : tie.Need-same-length-5
 same-length-5 c = search needs
 
 returns-5 : tie.Need-returns-5
-returns-5 c = search needs
+returns-5 c = rw (c .before .before .before .before .match .keys5) (c .before .before .write-fields5 .ensures)
+
+same-length-6 : tie.Need-same-length-6
+same-length-6 c = search needs
+
+returns-6 : tie.Need-returns-6
+returns-6 c = search needs
 
 pub write-record-spec : {M : Type 1} → statement M
 write-record-spec =
@@ -58,6 +67,7 @@ write-record-spec =
     write-fields-requires-3
     write-fields-requires-4
     write-fields-requires-5
+    write-fields-requires-6
     same-length
     returns
     same-length-2
@@ -67,4 +77,6 @@ write-record-spec =
     same-length-4
     returns-4
     same-length-5
-    returns-5)
+    returns-5
+    same-length-6
+    returns-6)

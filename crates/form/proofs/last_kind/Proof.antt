@@ -7,10 +7,14 @@ use Rattle.form.proofs.last_kind.Tie as tie
 
 returns : tie.Need-returns
 unfolding lastKind
-returns c = rw (c .if1 .taken)
+returns c = rw (c .match .keys1)
 
 returns-2 : tie.Need-returns-2
-returns-2 c = sym (no-edition _ (c .if1 .left))
+unfolding lastKind
+returns-2 c = rw (c .match .keys2)
+
+returns-3 : tie.Need-returns-3
+returns-3 c = let r = c .match .rest in sym (no-edition _ (r .0 .1) (r .1))
 
 pub last-kind-spec : {M : Type 1} → statement M
-last-kind-spec = tie.close (tie.spec returns returns-2)
+last-kind-spec = tie.close (tie.spec returns returns-2 returns-3)

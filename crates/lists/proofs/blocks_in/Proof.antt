@@ -4,8 +4,7 @@ use mathlib.Core.Path.{_≡_, _∙_}
 use lib.ListN.{getD, drop}
 use native.Mathlib.Numerals.{add-one}
 use Rattle.form.specs.Layout.{kinds}
-use Rattle.form.proofs.EachKind.{kinds-are}
-use Rattle.lists.proofs.Scan.{KindsAre}
+use Rattle.form.proofs.EachKind.{KindsAre, kinds-are}
 use Rattle.filing.specs.Lists.{blocksOf}
 use Rattle.lists.specs.Rules.{blocksFrom}
 use Rattle.lists.proofs.Numbers.{blocks-next, blocks-end}

@@ -4,8 +4,8 @@ use Prim.Native.Nat.{ℕ, _+_, _-_, _*_, _≤_, _<_}
 use mathlib.Core.Path.{ap}
 use lib.ListN.{length}
 use Rattle.form.specs.Layout.{kinds}
-use Rattle.form.proofs.EachKind.{kinds-are}
-use Rattle.lists.proofs.Scan.{KindsAre, Scanning, scan-none, part-in, scan-few, scan-found, scan-more, scan-all}
+use Rattle.form.proofs.EachKind.{KindsAre, kinds-are}
+use Rattle.lists.proofs.Scan.{Scanning, scan-none, part-in, scan-few, scan-found, scan-more, scan-all}
 use borrow.Author.Needs.{needs}
 use native.Mathlib.Omega.{arith}
 use Rattle.lists.proofs.first_broken.Statement.{statement}

@@ -21,6 +21,9 @@ above-fields-requires-4 c κs = search needs
 above-fields-requires-5 : tie.Need-above-fields-requires-5
 above-fields-requires-5 c κs = search needs
 
+above-fields-requires-6 : tie.Need-above-fields-requires-6
+above-fields-requires-6 c κs = search needs
+
 returns : tie.Need-returns
 returns c = rw (c .before .match .keys1) (c .above-fields .ensures)
 
@@ -34,7 +37,10 @@ returns-4 : tie.Need-returns-4
 returns-4 c = rw (c .before .match .keys4) (c .above-fields4 .ensures)
 
 returns-5 : tie.Need-returns-5
-returns-5 c = rw (no-kind (c .before .before .before .args .kind) (λ l h. omega (arith, kinds-are))) (c .above-fields5 .ensures)
+returns-5 c = rw (c .before .match .keys5) (c .above-fields5 .ensures)
+
+returns-6 : tie.Need-returns-6
+returns-6 c = rw (no-kind (c .before .before .before .args .kind) (λ l h. omega (arith, kinds-are))) (c .above-fields6 .ensures)
 
 pub above-at-spec : {M : Type 1} → statement M
 above-at-spec =
@@ -45,8 +51,10 @@ above-at-spec =
     above-fields-requires-3
     above-fields-requires-4
     above-fields-requires-5
+    above-fields-requires-6
     returns
     returns-2
     returns-3
     returns-4
-    returns-5)
+    returns-5
+    returns-6)

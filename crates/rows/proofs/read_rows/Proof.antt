@@ -9,8 +9,7 @@ use Rattle.form.specs.Block.{blocks}
 use Rattle.form.specs.Layout.{kinds, numbersOf}
 use Rattle.form.specs.Verdict.{rowCount}
 use Rattle.form.specs.Standing.{blocksFor, startBlock}
-use Rattle.form.proofs.EachKind.{kinds-are}
-use Rattle.lists.proofs.Scan.{KindsAre}
+use Rattle.form.proofs.EachKind.{KindsAre, kinds-are}
 use Rattle.form.proofs.Accepted.{counted, few-rows, whole-blocks}
 use Rattle.filing.specs.Written.{inTurn}
 use Rattle.filing.specs.Tables.{rowOn}

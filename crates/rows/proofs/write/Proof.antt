@@ -22,13 +22,13 @@ write-whole-requires : tie.Need-write-whole-requires
 write-whole-requires c κs =
     let told = c .before in
     let at-list = told .before .before in
-    good _ _ (first-none _ (sym (at-list .first-bad-list .ensures) ∙ told .enum-told .given .1))
+    good _ _ _ (first-none _ (sym (at-list .first-bad-list .ensures) ∙ told .enum-told .given .1))
 
 returns : tie.Need-returns
 returns c =
     let at-list = c .before .before .before in
     let a = at-list .before .before .before .before .args in
-    (list-broken 1 (a .lengths .now) (a .rows .now) (now (a .room)) (sym (at-list .first-bad-list .ensures) ∙ c .before .place .given .1), refl)
+    (list-broken (a .edition) (a .lengths .now) (a .rows .now) (now (a .room)) (sym (at-list .first-bad-list .ensures) ∙ c .before .place .given .1), refl)
 
 same-length : tie.Need-same-length
 same-length c = search needs
@@ -39,7 +39,7 @@ returns-2 c =
     let told = at-whole .before .before in
     let at-list = told .before .before in
     let a = at-list .before .before .before .before .args in
-    (lists-kept 1 (a .lengths .now) (a .rows .now) (now (a .room)) (sym (at-list .first-bad-list .ensures) ∙ told .enum-told .given .1) (at-whole .write-whole .ensures .0), at-whole .write-whole .ensures .1)
+    (lists-kept (a .edition) (a .lengths .now) (a .rows .now) (now (a .room)) (sym (at-list .first-bad-list .ensures) ∙ told .enum-told .given .1) (at-whole .write-whole .ensures .0), at-whole .write-whole .ensures .1)
 
 pub write-spec : {M : Type 1} → statement M
 write-spec =

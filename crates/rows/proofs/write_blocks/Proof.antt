@@ -3,9 +3,9 @@ use Prim.Native.Nat.{_+_, _-_, _≤_, _<_}
 use native.Mathlib.Numerals.{add-one}
 use lib.ListN.{length}
 use Rattle.form.specs.Layout.{kinds}
-use Rattle.form.proofs.EachKind.{kinds-are}
+use Rattle.form.proofs.EachKind.{KindsAre, kinds-are}
 use Rattle.rows.proofs.Return.{Storing, storing-none, storing-room, storing-more, storing-all}
-use Rattle.lists.proofs.Scan.{KindsAre, part-in}
+use Rattle.lists.proofs.Scan.{part-in}
 use borrow.Author.Needs.{needs}
 use native.Mathlib.Omega.{arith}
 use Rattle.rows.proofs.write_blocks.Statement.{statement}

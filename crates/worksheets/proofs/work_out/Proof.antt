@@ -15,8 +15,8 @@ read-parameters-requires c κs = search needs
 sum-conversion-requires : tie.Need-sum-conversion-requires
 sum-conversion-requires c κs = search needs
 
-sum-uptake-requires : tie.Need-sum-uptake-requires
-sum-uptake-requires c κs = search needs
+sum-stocks-requires : tie.Need-sum-stocks-requires
+sum-stocks-requires c κs = search needs
 
 sum-harvest-requires : tie.Need-sum-harvest-requires
 sum-harvest-requires c κs = search needs
@@ -43,11 +43,21 @@ work-gases-requires c κs =
     let w = columns-small (now (s .args .bytes)) (s .args .c) (s .pre) in
     (omega (arith, w .3, c .before .before .before .before .sum-conversion .ensures .onsite .number), within-limits (c .before .before .before .before .before))
 
+sum-abandoned-requires : tie.Need-sum-abandoned-requires
+sum-abandoned-requires c κs = c .before .before .before .before .before .before .before .before .pre
+
+work-abandoned-requires : tie.Need-work-abandoned-requires
+work-abandoned-requires c κs =
+    let s = c .before .before .before .before .before .before .before .before .before in
+    omega (arith, columns-small (now (s .args .bytes)) (s .args .c) (s .pre) .6, c .sum-abandoned .ensures .number)
+
 returns : tie.Need-returns
 returns c =
-    figures-are (now (c .before .before .before .before .before .before .before .before .args .bytes)) _ (c .before .before .before .before .before .sum-conversion .ensures) (c .before .before .before .before .before .before .read-parameters .ensures)
-    (c .before .before .before .before .sum-uptake .ensures .number) (c .before .before .before .sum-harvest .ensures .number)
-    (c .before .before .work-stocks .ensures) (c .before .work-conversion .ensures) (c .work-gases .ensures)
+    let g = c .before .before in
+    let t = g .before .before .before .before .before in
+    figures-are (now (t .before .before .before .args .bytes)) _ (t .sum-conversion .ensures) (t .before .read-parameters .ensures)
+    (g .before .before .before .before .sum-stocks .ensures .number) (g .before .before .before .sum-harvest .ensures .number) (c .before .sum-abandoned .ensures .number)
+    (g .before .before .work-stocks .ensures) (g .before .work-conversion .ensures) (g .work-gases .ensures) (c .work-abandoned .ensures)
 
 pub work-out-spec : {M : Type 1} → statement M
 work-out-spec =
@@ -55,9 +65,11 @@ work-out-spec =
     (tie.spec
     read-parameters-requires
     sum-conversion-requires
-    sum-uptake-requires
+    sum-stocks-requires
     sum-harvest-requires
     work-stocks-requires
     work-conversion-requires
     work-gases-requires
+    sum-abandoned-requires
+    work-abandoned-requires
     returns)

@@ -22,7 +22,7 @@ mod writing;
 mod run {
     use second::drive::{exit, Arguments};
     use second::kinds::KINDS;
-    use second::make::Rows;
+    use second::make::{RowCounts, Rows};
     use second::rng::Rng;
     use std::process::ExitCode;
 
@@ -31,9 +31,17 @@ mod run {
     pub const LONGER: usize = 20;
     /// Rooms that are tried beside the exact ones.
     const DRAWN: usize = 2;
-    /// Row counts that are tried with rooms of every length: a full return, one
-    /// with a kind left out, and the parameters alone.
-    const EVERY_LENGTH: [[usize; 3]; 4] = [[32, 32, 32], [2, 0, 3], [0, 1, 12], [0, 0, 0]];
+    /// Editions and row counts that are tried with rooms of every length: full
+    /// returns, some with kinds left out, and the parameters alone.
+    const EVERY_LENGTH: [(u16, RowCounts); 7] = [
+        (1, [32, 32, 32, 0]),
+        (1, [2, 0, 3, 0]),
+        (1, [0, 1, 12, 0]),
+        (1, [0, 0, 0, 0]),
+        (2, [32, 32, 32, 32]),
+        (2, [1, 0, 0, 13]),
+        (2, [0, 0, 0, 0]),
+    ];
 
     pub fn main() -> ExitCode {
         let Some(arguments) = Arguments::from_command("compare_rows") else {
@@ -91,7 +99,10 @@ mod run {
         try_one: impl Fn(&Rows, &mut Rng) -> Result<usize, String>,
     ) -> bool {
         let mut rng = Rng::new(seed);
-        let calls = EVERY_LENGTH.map(|counts| try_one(&Rows::good(&mut rng, counts), &mut rng));
+        let calls = EVERY_LENGTH.map(|(edition, counts)| {
+            let rows = Rows::good_in(&mut rng, edition, counts);
+            try_one(&rows, &mut rng)
+        });
         let calls: Result<Vec<usize>, String> = calls.into_iter().collect();
         match calls {
             Ok(calls) => {

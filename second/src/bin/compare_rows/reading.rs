@@ -4,8 +4,8 @@ use crate::run::{every_length, exact_and_drawn, Tally, GUARD, LONGER};
 use second::drive::{first_of, memory_difference, run, Arguments, Outcome, Plan};
 use second::ffi::rows::{first_read, first_write};
 use second::inputs;
-use second::judge::{judge, Verdict};
-use second::kinds::{KINDS, ROWS_ROOM};
+use second::judge::{judge, Counts, Verdict};
+use second::kinds::{COUNTS_ROOM, KINDS, ROWS_ROOM};
 use second::lent::{Lent, Placed};
 use second::make::Rows;
 use second::reader::{ends, read};
@@ -49,7 +49,7 @@ impl Memory {
         };
         Memory {
             rows: words(ROWS_ROOM),
-            counts: words(KINDS.len()),
+            counts: words(COUNTS_ROOM),
         }
     }
 
@@ -97,17 +97,17 @@ fn try_one(case: &Case, rng: &mut Rng, tally: &mut Tally) -> Outcome {
         Verdict::Refused(_) => None,
     };
     let rooms = match &accepted {
-        Some(counts) => rooms_for(&ends(counts), rng),
+        Some(counts) => rooms_for(&ends(&counts.rows), rng),
         None => vec![any_rooms(rng)],
     };
     let drawn = rng.below(rooms.len());
-    let mut number = 0;
+    let mut answer = 0;
     let mut difference = None;
     for (turn, lent) in rooms.into_iter().enumerate() {
         let (expected, memory, found) = call(&before, bytes, lent);
         tally.note(expected, 9);
         if turn == drawn {
-            number = expected / 1000;
+            answer = expected;
         }
         let input = memory_difference("the input itself", bytes, &case.bytes);
         difference = first_of([difference, found, input]);
@@ -116,18 +116,18 @@ fn try_one(case: &Case, rng: &mut Rng, tally: &mut Tally) -> Outcome {
             difference = written_again(&memory.rows[..lent.rows], counts, bytes);
         }
     }
-    Outcome { number, difference }
+    Outcome { answer, difference }
 }
 
 /// For bytes that are refused: long enough for any return, none, or any.
 fn any_rooms(rng: &mut Rng) -> Rooms {
     let any = Rooms {
         rows: rng.below(ROWS_ROOM + LONGER + 1),
-        counts: rng.below(KINDS.len() + LONGER + 1),
+        counts: rng.below(COUNTS_ROOM + LONGER + 1),
     };
     let full = Rooms {
         rows: ROWS_ROOM,
-        counts: KINDS.len(),
+        counts: COUNTS_ROOM,
     };
     rng.pick(&[any, full, Rooms { rows: 0, counts: 0 }])
 }
@@ -137,7 +137,7 @@ fn any_rooms(rng: &mut Rng) -> Rooms {
 fn rooms_for(ends: &[usize; KINDS.len()], rng: &mut Rng) -> Vec<Rooms> {
     let exact = Rooms {
         rows: ends[KINDS.len() - 1],
-        counts: KINDS.len(),
+        counts: COUNTS_ROOM,
     };
     let longer = Rooms {
         rows: exact.rows + 1 + rng.below(LONGER),
@@ -177,7 +177,7 @@ fn every_room(rows: &Rows, rng: &mut Rng) -> Result<usize, String> {
     let (bytes, before) = (rows.to_bytes(), Memory::random(rng));
     let needed = rows.lists().concat().len();
     let mut calls = 0;
-    for counts in 0..KINDS.len() + 2 {
+    for counts in 0..COUNTS_ROOM + 2 {
         for rows in 0..needed + 3 {
             let (.., found) = call(&before, &bytes, Rooms { rows, counts });
             calls += 1;
@@ -187,16 +187,17 @@ fn every_room(rows: &Rows, rng: &mut Rng) -> Result<usize, String> {
     Ok(calls)
 }
 
-/// Read then written by the first program: the same bytes.
-fn written_again(rows: &[u32], counts: &[u32; KINDS.len()], bytes: &[u8]) -> Option<String> {
-    let lengths = KINDS.iter().zip(counts);
+/// Read then written by the first program in the same edition: the same bytes.
+fn written_again(rows: &[u32], counts: &Counts, bytes: &[u8]) -> Option<String> {
+    let lengths = KINDS.iter().zip(&counts.rows);
     let lengths: Vec<u32> = lengths
         .map(|(kind, &count)| kind.numbers as u32 * count)
         .collect();
     let mut room = vec![0xA5; bytes.len() + GUARD];
     let mut size = [7];
     let lent = Lent::front(&mut room, bytes.len());
-    let answer = first_write(rows, &lengths, lent, Lent::whole(&mut size));
+    let edition = u32::from(counts.edition);
+    let answer = first_write(edition, rows, &lengths, lent, Lent::whole(&mut size));
     let (blocks, guard) = room.split_at(bytes.len());
     let difference = first_of([
         (answer != 0).then(|| format!("answer {answer}")),

@@ -4,13 +4,12 @@ use crate::reading::Memory;
 use crate::run::{every_length, exact_and_drawn, Tally, GUARD, LONGER};
 use second::drive::{first_of, memory_difference, run, Arguments, Outcome, Plan};
 use second::ffi::rows::first_write;
-use second::kinds::{KINDS, RETURN_ROOM};
+use second::kinds::{COUNTS_ROOM, KINDS, RETURN_ROOM};
 use second::lent::Lent;
 use second::make::Rows;
 use second::rng::Rng;
 use second::row_sweeps;
 use second::rowlists::{self, RowLists};
-use second::writer::write;
 
 /// One input in this many comes from the sweeps.
 const SWEEP_EVERY: usize = 4;
@@ -71,16 +70,13 @@ impl Paper {
 /// it or its answer differs.
 fn call(before: &Paper, lists: &RowLists, lent: Rooms) -> (u32, Paper, Option<String>) {
     let mut due = before.clone();
-    let expected = write(
-        &lists.rows,
-        &lists.lengths,
-        &mut due.blocks[..lent.blocks],
-        &mut due.sizes[..lent.sizes],
-    );
+    let room = &mut due.blocks[..lent.blocks];
+    let expected = lists.write(room, &mut due.sizes[..lent.sizes]);
     // Copied, so that their end is the allocation's end.
     let (rows, lengths) = (lists.rows.clone(), lists.lengths.clone());
     let mut paper = before.clone();
     let answer = first_write(
+        lists.edition,
         &rows,
         &lengths,
         Lent::front(&mut paper.blocks, lent.blocks),
@@ -103,13 +99,13 @@ fn try_one(lists: &RowLists, rng: &mut Rng, tally: &mut Tally) -> Outcome {
     let accepted = bytes_of(lists);
     let rooms = rooms_for(accepted, rng);
     let drawn = rng.below(rooms.len());
-    let mut number = 0;
+    let mut answer = 0;
     let mut difference = None;
     for (turn, lent) in rooms.into_iter().enumerate() {
         let (expected, paper, found) = call(&before, lists, lent);
         tally.note(expected, 10);
         if turn == drawn {
-            number = expected / 1000;
+            answer = expected;
         }
         difference = difference.or(found);
         if let (0, Some(bytes), None) = (turn, accepted, &difference) {
@@ -117,14 +113,13 @@ fn try_one(lists: &RowLists, rng: &mut Rng, tally: &mut Tally) -> Outcome {
             difference = read_again(&paper.blocks[..bytes], lists, rng);
         }
     }
-    Outcome { number, difference }
+    Outcome { answer, difference }
 }
 
 /// The bytes that these rows take, if they are good.
 fn bytes_of(lists: &RowLists) -> Option<usize> {
     let mut size = [0];
-    let mut room = [0; RETURN_ROOM];
-    let answer = write(&lists.rows, &lists.lengths, &mut room, &mut size);
+    let answer = lists.write(&mut [0; RETURN_ROOM], &mut size);
     (answer == 0).then_some(size[0] as usize)
 }
 
@@ -165,16 +160,17 @@ fn every_room(rows: &Rows, rng: &mut Rng) -> Result<usize, String> {
     Ok(calls)
 }
 
-/// Written then read by the first program: the same rows.
+/// Written then read by the first program: the same edition and rows.
 fn read_again(bytes: &[u8], lists: &RowLists, rng: &mut Rng) -> Option<String> {
     let before = Memory::random(rng);
     let mut due = before.clone();
     due.rows[..lists.rows.len()].copy_from_slice(&lists.rows);
+    due.counts[0] = lists.edition;
     for (at, kind) in KINDS.iter().enumerate() {
-        due.counts[at] = lists.lengths[at] / kind.numbers as u32;
+        due.counts[at + 1] = lists.lengths[at] / kind.numbers as u32;
     }
     let mut memory = before;
-    let answer = memory.first(bytes, lists.rows.len(), KINDS.len());
+    let answer = memory.first(bytes, lists.rows.len(), COUNTS_ROOM);
     let difference = first_of([
         (answer != 0).then(|| format!("answer {answer}")),
         memory.difference(&due),

@@ -9,12 +9,11 @@ use second::ffi::judge::first_judge;
 use second::ffi::lines::{first_figures, first_lines};
 use second::ffi::rows::{first_read, first_write};
 use second::judge::{judge, Verdict};
-use second::kinds::KINDS;
+use second::kinds::COUNTS_ROOM;
 use second::lent::Lent;
 use second::reader::read;
 use second::rowlists::RowLists;
 use second::sheets::{figures, lines};
-use second::writer::write;
 
 /// The most areas that one function is lent.
 const AREAS: usize = 4;
@@ -33,9 +32,9 @@ pub fn judge_at(fences: &mut Fences, place: Place, bytes: &[u8], before: &[u32])
     let mut room_due = before.to_vec();
     let due = match judge(bytes) {
         Verdict::Refused(refusal) => refusal.answer(),
-        Verdict::Accepted(_) if before.len() < KINDS.len() => 9000,
+        Verdict::Accepted(_) if before.len() < COUNTS_ROOM => 9000,
         Verdict::Accepted(counts) => {
-            room_due[..KINDS.len()].copy_from_slice(&counts);
+            room_due[..COUNTS_ROOM].copy_from_slice(&counts.numbers());
             0
         }
     };
@@ -132,13 +131,14 @@ pub fn write_at(
     (before, size_before): (&[u8], &[u32]),
 ) -> Found {
     let (mut room_due, mut size_due) = (before.to_vec(), size_before.to_vec());
-    let due = write(&lists.rows, &lists.lengths, &mut room_due, &mut size_due);
+    let due = lists.write(&mut room_due, &mut size_due);
     let [rows, lengths, room, size] = fences;
     let rows = rows.area(place, &lists.rows);
     let lengths = lengths.area(place, &lists.lengths);
     let mut room = room.area(place, before);
     let mut size = size.area(place, size_before);
     let answer = first_write(
+        lists.edition,
         &rows,
         &lengths,
         Lent::whole(&mut room),

@@ -28,7 +28,7 @@ mod run {
     use crate::cross::{cross_on_purpose, fences_stop};
     use crate::rooms::{Fit, Rooms};
     use crate::tally::Tally;
-    use second::drive::{exit, Arguments};
+    use second::drive::{exit, Arguments, Input};
     use second::fence::Place;
     use second::rng::Rng;
     use second::row_sweeps;
@@ -89,8 +89,11 @@ mod run {
                         ),
                         write_at(&mut fences, place, &lists, (&lent.blocks, &lent.size)),
                     ];
-                    for (tally, (number, difference)) in tallies.iter_mut().zip(found) {
-                        tally.given[number as usize] += 1;
+                    let returned = case.edition();
+                    let editions = [returned; 5].into_iter().chain([lists.edition]);
+                    let found = found.into_iter().zip(editions);
+                    for (tally, ((number, difference), edition)) in tallies.iter_mut().zip(found) {
+                        tally.note(edition, number);
                         if let Some(difference) = difference {
                             let (name, seed) = (tally.name, arguments.seed);
                             println!("{name}, input {index} of seed {seed}, {fit:?}, {place:?}:");

@@ -1,12 +1,12 @@
 //! The rooms of a call: how long they are, and what stands in them before it.
 
 use second::judge::{judge, Verdict};
-use second::kinds::{KINDS, RETURN_ROOM, ROWS_ROOM};
+use second::kinds::{COUNTS_ROOM, KINDS, RETURN_ROOM, ROWS_ROOM};
+use second::make::MOST_BLOCKS;
 use second::reader::ends;
 use second::rng::Rng;
 use second::rowlists::RowLists;
 use second::sheets::{text, NUMBERS as FIGURES};
-use second::writer::write;
 
 /// How much longer than needed a room may be.
 const LONGER: usize = 20;
@@ -55,7 +55,7 @@ impl Rooms {
         let (rows, row_counts) = row_lengths(bytes, fit, rng);
         let (blocks, size) = block_lengths(lists, fit, rng);
         Rooms {
-            counts: words(fit.length(KINDS.len(), rng), rng),
+            counts: words(fit.length(COUNTS_ROOM, rng), rng),
             figures: {
                 let length = fit.length(FIGURES, rng);
                 (0..length).map(|_| rng.draw()).collect()
@@ -85,8 +85,8 @@ fn any_bytes(length: usize, rng: &mut Rng) -> Vec<u8> {
 /// refused fits no rooms and gets a full one's, or none.
 fn row_lengths(bytes: &[u8], fit: Fit, rng: &mut Rng) -> (usize, usize) {
     let (rows, counts) = match judge(bytes) {
-        Verdict::Accepted(counts) => (ends(&counts)[KINDS.len() - 1], KINDS.len()),
-        Verdict::Refused(_) => rng.pick(&[(ROWS_ROOM, KINDS.len()), (0, 0)]),
+        Verdict::Accepted(counts) => (ends(&counts.rows)[KINDS.len() - 1], COUNTS_ROOM),
+        Verdict::Refused(_) => rng.pick(&[(ROWS_ROOM, COUNTS_ROOM), (0, 0)]),
     };
     match fit {
         Fit::Short if rng.one_in(4) => (rows, fit.length(counts, rng)),
@@ -99,14 +99,9 @@ fn row_lengths(bytes: &[u8], fit: Fit, rng: &mut Rng) -> (usize, usize) {
 /// no blocks and get room for any number of them.
 fn block_lengths(lists: &RowLists, fit: Fit, rng: &mut Rng) -> (usize, usize) {
     let mut size = [0];
-    let needed = match write(
-        &lists.rows,
-        &lists.lengths,
-        &mut [0; RETURN_ROOM],
-        &mut size,
-    ) {
+    let needed = match lists.write(&mut [0; RETURN_ROOM], &mut size) {
         0 => size[0] as usize,
-        _ => 512 * rng.below(11),
+        _ => 512 * rng.below(MOST_BLOCKS + 1),
     };
     match fit {
         Fit::Exact => (needed, 1),

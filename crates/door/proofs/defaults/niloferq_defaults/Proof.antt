@@ -1,13 +1,10 @@
 -- `door::niloferq_defaults` meets its contract. Assumes nothing.
 use denote.Ref.{now}
 use mathlib.Core.Path.{refl}
-use mathlib.Core.List.{[]}
-use lib.ListN.{length, length-set}
+use lib.ListN.{length-set}
 use native.Mathlib.Omega.{arith}
 use borrow.Author.Needs.{needs}
-use borrow.Author.Tests.{lt-ltb, le-ltb}
-use Rattle.form.specs.Ruling.{ruling}
-use Rattle.form.proofs.Order.{one-broken, one-kept}
+use Rattle.door.proofs.Rooms.{too-short, long-enough}
 use Rattle.filing.proofs.Stores.{sets-front}
 use Rattle.worksheets.specs.Sheets.{standard, parameterNumbers}
 use Rattle.door.proofs.defaults.niloferq_defaults.Statement.{statement}
@@ -19,7 +16,7 @@ refusal-requires c κs = search needs
 returns : tie.Need-returns
 returns c =
     let room = now (c .before .before .before .args .room) in
-    rw (one-broken 9 _ [] (lt-ltb (length room) 6 (c .before .if1 .taken))) (c .refusal .ensures, refl)
+    rw (too-short 6 room (c .before .if1 .taken)) (c .refusal .ensures, refl)
 
 defaults-requires : tie.Need-defaults-requires
 defaults-requires c κs = search needs
@@ -46,11 +43,10 @@ same-length : tie.Need-same-length
 same-length c = search needs
 
 returns-2 : tie.Need-returns-2
-unfolding ruling
 returns-2 c =
     let d = c .before in
     let room = now (d .before .before .args .room) in
-    rw (one-kept 9 _ [] (le-ltb (length room) 6 (d .if1 .left)), c .defaults .ensures) (refl, sets-front room (parameterNumbers standard) (d .if1 .left))
+    rw (long-enough 6 room (d .if1 .left), c .defaults .ensures) (refl, sets-front room (parameterNumbers standard) (d .if1 .left))
 
 pub niloferq-defaults-spec : {M : Type 1} → statement M
 niloferq-defaults-spec =

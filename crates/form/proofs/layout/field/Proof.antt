@@ -20,6 +20,9 @@ harvest-requires c κs = rw (c .match .keys3) at (c .before .pre)
 parameters-requires : tie.Need-parameters-requires
 parameters-requires c κs = rw (c .match .keys4) at (c .before .pre)
 
+abandoned-requires : tie.Need-abandoned-requires
+abandoned-requires c κs = rw (c .match .keys5) at (c .before .pre)
+
 returns : tie.Need-returns
 returns c = search needs
 
@@ -33,7 +36,10 @@ returns-4 : tie.Need-returns-4
 returns-4 c = search needs
 
 returns-5 : tie.Need-returns-5
-returns-5 c = let a = c .before .args in sym (ap (λ (l : Layout). fieldAt l (a .i)) (no-kind (a .kind) (λ l h. omega (arith, kinds-are))))
+returns-5 c = search needs
+
+returns-6 : tie.Need-returns-6
+returns-6 c = let a = c .before .args in sym (ap (λ (l : Layout). fieldAt l (a .i)) (no-kind (a .kind) (λ l h. omega (arith, kinds-are))))
 
 pub field-spec : {M : Type 1} → statement M
 field-spec =
@@ -43,8 +49,10 @@ field-spec =
     stock-requires
     harvest-requires
     parameters-requires
+    abandoned-requires
     returns
     returns-2
     returns-3
     returns-4
-    returns-5)
+    returns-5
+    returns-6)

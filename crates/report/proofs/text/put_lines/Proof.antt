@@ -46,7 +46,7 @@ there c =
     let l = c .before .before .before .before .before .before .before in
     let s = l .before .before .before .before in
     let v = figuresSaid (s .args .f) in
-    omega (arith, value-there (listed v) _ _ _ _ _ _ _ (omega arith) refl (l .loop .inv .2 v (s .pre .1) (l .before .list .ensures)) (c .if1 .taken), counted v)
+    omega (arith, value-there (listed v) _ _ _ _ _ _ _ (c .before .before .before .before .before .before .loop-test .taken) refl (l .loop .inv .2 v (s .pre .1) (l .before .list .ensures)) (c .if1 .taken), counted v)
 
 mul-put-value : tie.Need-mul-put-value Inv-loop μ-loop
 mul-put-value c = omega (arith, there c)

@@ -1,13 +1,13 @@
--- `totals::uptake_at` meets its contract. Assumes nothing.
+-- `totals::stock_at` meets its contract. Assumes nothing.
 use Prim.Native.Nat.{_*_}
 use mathlib.Core.Path.{_∙_}
 use Rattle.form.specs.Layout.{rowFrom}
-use Rattle.totals.specs.Columns.{uptakePart}
+use Rattle.totals.specs.Columns.{stockPart}
 use Rattle.totals.proofs.Limits.{four-two, four-two-two}
 use native.Mathlib.Omega.{arith}
 use borrow.Author.Needs.{needs}
-use Rattle.totals.proofs.uptake_at.Statement.{statement}
-use Rattle.totals.proofs.uptake_at.Tie as tie
+use Rattle.totals.proofs.stock_at.Statement.{statement}
+use Rattle.totals.proofs.stock_at.Tie as tie
 
 add-four-at : tie.Need-add-four-at
 add-four-at c = search needs
@@ -40,11 +40,11 @@ carbon-of-requires : tie.Need-carbon-of-requires
 carbon-of-requires c κs = four-two-two _ _ _ (search needs) (search needs) (search needs)
 
 returns : tie.Need-returns
-unfolding uptakePart rowFrom
+unfolding stockPart rowFrom
 returns c = c .carbon-of .ensures ∙ (λ i. c .before .before .before .four-at .ensures i * c .before .before .two-at .ensures .0 i * c .before .two-at2 .ensures .0 i)
 
-pub uptake-at-spec : {M : Type 1} → statement M
-uptake-at-spec =
+pub stock-at-spec : {M : Type 1} → statement M
+stock-at-spec =
     tie.close
     (tie.spec
     add-four-at

@@ -1,7 +1,8 @@
--- `totals::sum_uptake` meets its contract. Assumes nothing.
+-- `totals::abandoned::sum_abandoned` meets its contract. Assumes nothing.
 use Rattle.totals.proofs.Accepted.{Stands, kind-row, columns-small, next, whole}
 use Rattle.totals.proofs.Sums.{sum-le}
 use Prim.Native.Nat.{_-_, _≤_}
+use mathlib.Core.Path.{refl}
 use denote.Ref.{now}
 use lib.Dec.{lit<, lit≤}
 use lib.ListN.{take}
@@ -10,22 +11,23 @@ use Rattle.form.proofs.Accepted.{few-counted}
 use Rattle.form.specs.Verdict.{rows}
 use Rattle.wide.specs.Numbers.{Is}
 use Rattle.wide.proofs.Laws.{is-as}
-use Rattle.totals.specs.Columns.{sumOf, uptakePart}
+use Rattle.totals.specs.Columns.{sumOf}
+use Rattle.totals.specs.Abandoned.{abandonedPart}
 use borrow.Author.Needs.{needs}
 use native.Mathlib.Omega.{arith}
-use Rattle.totals.proofs.sum_uptake.Statement.{statement}
-use Rattle.totals.proofs.sum_uptake.Tie as tie
+use Rattle.totals.proofs.abandoned.sum_abandoned.Statement.{statement}
+use Rattle.totals.proofs.abandoned.sum_abandoned.Tie as tie
 
 abbrev Inv-loop : tie.InvT-loop
-Inv-loop bytes first n sum₀ i₀ sum i = (i ≤ n) × Is (sum .0) (sumOf uptakePart (take i (rows 2 bytes)))
+Inv-loop bytes first n sum₀ i₀ sum i = (i ≤ n) × Is (sum .0) (sumOf abandonedPart (take i (rows 5 bytes)))
 
 abbrev μ-loop : tie.MeasureT-loop
 μ-loop bytes first n sum₀ i₀ sum i = n - i
 
-row : (c : tie.After-row-start Inv-loop μ-loop) → Stands (now (c .before .before .before .before .before .before .before .args .bytes)) 2 (c .before .before .loop .i) (c .row-start .result)
+row : (c : tie.After-row-start Inv-loop μ-loop) → Stands (now (c .before .before .before .before .before .before .before .args .bytes)) 5 (c .before .before .loop .i) (c .row-start .result)
 row c =
     let s = c .before .before .before .before .before .before .before in
-    kind-row (now (s .args .bytes)) (s .args .c) (s .pre) 2 (lit≤ tt) (omega (arith, kinds-are)) (c .before .before .before .before .before .first-block .ensures .0) (search needs) (c .row-start .ensures)
+    kind-row (now (s .args .bytes)) (s .args .c) (s .pre) 5 (lit≤ tt) (omega (arith, kinds-are)) (c .before .before .before .before .before .first-block .ensures .0) (search needs) (c .row-start .ensures)
 
 first-block-requires : tie.Need-first-block-requires Inv-loop μ-loop
 first-block-requires c κs = let s = c .before in (lit< tt, lit< tt, few-counted (now (s .args .bytes)) (s .args .c) (s .pre))
@@ -43,13 +45,10 @@ loop-holds c = (search needs, c .of .ensures)
 row-start-requires : tie.Need-row-start-requires Inv-loop μ-loop
 row-start-requires c κs = search needs
 
-uptake-at-requires : tie.Need-uptake-at-requires Inv-loop μ-loop
-uptake-at-requires c κs = row c .inside
-
-plus-carbon-requires : tie.Need-plus-carbon-requires Inv-loop μ-loop
-plus-carbon-requires c κs =
-    let s = c .before .before .before .before .before .before .before .before in
-    omega (arith, columns-small (now (s .args .bytes)) (s .args .c) (s .pre) .0, sum-le uptakePart (rows 2 (now (s .args .bytes))) (c .before .before .before .loop .i))
+plus-row-requires : tie.Need-plus-row-requires Inv-loop μ-loop
+plus-row-requires c κs =
+    let s = c .before .before .before .before .before .before .before in
+    (omega (arith, columns-small (now (s .args .bytes)) (s .args .c) (s .pre) .6, sum-le abandonedPart (rows 5 (now (s .args .bytes))) (c .before .before .loop .i)), row c .inside)
 
 add-i : tie.Need-add-i Inv-loop μ-loop
 add-i c = search needs
@@ -58,15 +57,15 @@ loop-less : tie.Need-loop-less Inv-loop μ-loop
 loop-less c = search needs
 
 loop-again : tie.Need-loop-again Inv-loop μ-loop
-loop-again c = (search needs, is-as (c .plus-carbon .ensures) (next uptakePart (row (c .before .before)) (c .before .before .before .before .loop .inv .1 .number) (c .before .uptake-at .ensures)))
+loop-again c = (search needs, is-as (c .plus-row .ensures) (next abandonedPart (row (c .before)) (c .before .before .before .loop .inv .1 .number) refl))
 
 returns : tie.Need-returns Inv-loop μ-loop
 returns c =
     let s = c .before .before .before .before .before .before in
-    is-as (c .before .loop .inv .1) (whole (now (s .args .bytes)) (s .args .c) (s .pre) uptakePart 1 (c .before .loop .i) (omega (arith, kinds-are)) (search needs))
+    is-as (c .before .loop .inv .1) (whole (now (s .args .bytes)) (s .args .c) (s .pre) abandonedPart 4 (c .before .loop .i) (omega (arith, kinds-are)) (search needs))
 
-pub sum-uptake-spec : {M : Type 1} → statement M
-sum-uptake-spec =
+pub sum-abandoned-spec : {M : Type 1} → statement M
+sum-abandoned-spec =
     tie.close
     (tie.spec
     Inv-loop
@@ -76,8 +75,7 @@ sum-uptake-spec =
     of-requires
     loop-holds
     row-start-requires
-    uptake-at-requires
-    plus-carbon-requires
+    plus-row-requires
     add-i
     loop-less
     loop-again

@@ -1,0 +1,36 @@
+-- What an accepted return says of its edition, and an edition 1 return of abandoned land. Assumes nothing.
+use Prim.Native.Nat.{ℕ}
+use mathlib.Core.Path.{_≡_, refl, ap, _∙_}
+use mathlib.Core.List.{List, [], _∷_}
+use native.Mathlib.Omega.{arith}
+use lib.Dec.{lit≤}
+use lib.ListN.{length}
+use Rattle.form.specs.Edition.{lastKind}
+use Rattle.form.specs.Block.{edition}
+use Rattle.form.specs.Verdict.{rowCount, rows, verdictOf}
+use Rattle.form.specs.declared.Counts.{Counts}
+use Rattle.form.specs.declared.Verdict.the-variants.{Accepted}
+use Rattle.form.proofs.Accepted.{accepted-counts, rows-length, no-rows}
+use Rattle.wide.specs.Rounding.{settled}
+use Rattle.totals.specs.Columns.{sumOf}
+use Rattle.worksheets.specs.Sheets.{abandonedOf, figuresOf}
+
+none-left : (l : List (List ℕ)) → length l ≡ 0 → l ≡ []
+none-left [] e = refl
+none-left (x ∷ l) e = absurd (omega arith)
+
+module _ (s : List ℕ) (c : Counts) (acc : verdictOf s ≡ Accepted c) where
+  pub edition-told : c .edition ≡ edition s 0
+  edition-told = ap (λ (x : Counts). x .edition) (accepted-counts s c acc)
+
+  module _ (one : edition s 0 ≡ 1) where
+    no-row : rowCount 5 s ≡ 0
+    unfolding lastKind
+    no-row = no-rows s c acc 5 (rw one (lit≤ tt))
+
+    pub no-land : c .abandoned ≡ 0
+    no-land = ap (λ (x : Counts). x .abandoned) (accepted-counts s c acc) ∙ no-row
+
+    pub no-uptake : (figuresOf s .abandoned .uptake ≡ 0) × (figuresOf s .abandoned .co2 ≡ 0)
+    unfolding abandonedOf sumOf settled
+    no-uptake = rw (none-left (rows 5 s) (rows-length s c acc 5 ∙ no-row)) (refl, refl)
