@@ -12,7 +12,7 @@ use lib.Seq.{sets}
 use borrow.Author.Tests.{eq-eqb, ne-eqb}
 use Rattle.wide.specs.Numbers.{value}
 use Rattle.wide.specs.Signs.{sized, amount, Canonical}
-use Rattle.decimal.specs.Digits.{digitOf, digits, decimal, padded, signText, marked, Written}
+use Rattle.decimal.specs.Digits.{digitOf, digits, decimal, padded, signText, marked, WrittenAt}
 use Rattle.wide.specs.declared.signed.Signed.{Signed}
 
 -- text after text, and the room after one store
@@ -20,10 +20,10 @@ pub sets-append : (d : List ℕ) (i : ℕ) (s t : List ℕ) → sets d i (s ++ t
 sets-append d i [] t = rw add-zero
 sets-append d i (a ∷ s) t = rw (add-suc i (length s), ← suc-add i (length s)) (sets-append (set d i a) (suc i) s t)
 
-pub written-one : (room : List ℕ) (at v : ℕ) → Written (v ∷ []) room (set room at v) at (at + 1)
+pub written-one : (room : List ℕ) (at v : ℕ) → WrittenAt (v ∷ []) room (set room at v) at (at + 1)
 written-one room at v = record { room = refl; place = refl }
 
-pub written-more : {s t d e f : List ℕ} {i j k : ℕ} → Written s d e i j → Written t e f j k → Written (s ++ t) d f i k
+pub written-more : {s t d e f : List ℕ} {i j k : ℕ} → WrittenAt s d e i j → WrittenAt t e f j k → WrittenAt (s ++ t) d f i k
 written-more {s} {t} {d} {e} {f} {i} {j} {k} p q = record {
   room = cc (p .room, p .place, q .room, sets-append d i s t);
   place = omega (arith, p .place, q .place, length-append s t);
@@ -124,13 +124,13 @@ pub pair-length : (n : ℕ) → 10 ≤ n → n < 100 → length (decimal n) ≡ 
 pair-length n h g = ap length (decimal-pair n h g) ∙ padded-length 2 n
 
 -- in the room: a digit, two digits, and a group after what stands above it
-pub put-digit : (n d : ℕ) (room : List ℕ) (at : ℕ) → n < 10 → d ≡ 48 + n → Written (decimal n) room (set room at d) at (at + 1)
+pub put-digit : (n d : ℕ) (room : List ℕ) (at : ℕ) → n < 10 → d ≡ 48 + n → WrittenAt (decimal n) room (set room at d) at (at + 1)
 put-digit n d room at h e =
     let f : 48 + n % 10 ≡ d = omega arith in
     rw (decimal-last n _ refl (omega arith), f) (written-one room at d)
 
 pub put-pair : (n a b : ℕ) (room : List ℕ) (at : ℕ) → n < 100 → a ≡ 48 + n / 10 → b ≡ 48 + n % 10
-    → Written (padded 2 n) room (set (set room at a) (at + 1) b) at (at + 2)
+    → WrittenAt (padded 2 n) room (set (set room at a) (at + 1) b) at (at + 2)
 unfolding padded
 put-pair n a b room at h e f =
     let g : 48 + n / 10 % 10 ≡ a = omega arith in
@@ -149,11 +149,11 @@ module _ (k n : ℕ) {q r : ℕ} (a : q ≡ n / 10 ^ k) (b : r ≡ n % 10 ^ k) w
   whole = omega (arith, div-add-mod' n (10 ^ k), ap (λ (x : ℕ). x * 10 ^ k) a)
 
   pub put-after : (j : ℕ) {before middle after : List ℕ} {at next last : ℕ}
-      → Written (padded j q) before middle at next → Written (padded k r) middle after next last → Written (padded (j + k) n) before after at last
+      → WrittenAt (padded j q) before middle at next → WrittenAt (padded k r) middle after next last → WrittenAt (padded (j + k) n) before after at last
   put-after j v w = rw (padded-split j k q r n below whole) (written-more v w)
 
   pub write-after : {before middle after : List ℕ} {at next last : ℕ} → 0 < q
-      → Written (decimal q) before middle at next → Written (padded k r) middle after next last → Written (decimal n) before after at last
+      → WrittenAt (decimal q) before middle at next → WrittenAt (padded k r) middle after next last → WrittenAt (decimal n) before after at last
   write-after h v w = rw (decimal-split k q r n h below whole) (written-more v w)
 
   pub length-after : 0 < q → length (decimal n) ≡ length (decimal q) + k

@@ -38,6 +38,6 @@ marked (pos n) = decimal n
 marked (negsuc n) = 45 ∷ decimal (suc n)
 
 -- the room `after` is the room `before` with the text at a place, and the next place follows the text
-pub record Written (text before after : List ℕ) (at next : ℕ) : Type 0 where
+pub record WrittenAt (text before after : List ℕ) (at next : ℕ) : Type 0 where
   pub room : after ≡ sets before at text
   pub place : next ≡ at + length text

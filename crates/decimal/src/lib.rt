@@ -4,7 +4,7 @@ ghost use Prim.Native.Nat.{_+_, _^_, _<_, _≤_};
 ghost use lib.ListN.{length};
 ghost use Rattle.wide.specs.Numbers.{value};
 ghost use Rattle.wide.specs.Signs.{amount, Canonical};
-ghost use Rattle.decimal.specs.Digits.{decimal, padded, signText, marked, Written};
+ghost use Rattle.decimal.specs.Digits.{decimal, padded, signText, marked, WrittenAt};
 use wide::Wide;
 use wide::divide;
 use wide::signed::Signed;
@@ -19,7 +19,7 @@ fn digit(d: u32) -> u8
 // Digits in groups, split in halves: the two halves of a group do not wait for each other, as digits from the last would.
 fn put_two(d: u32, out: &mut [u8], at: usize) -> usize
     requires { ⌜ (d < 10 ^ 2) × (at + 2 ≤ length (now out)) ⌝ }
-    ensures { λ r. ⌜ Written (padded 2 d) (now (out .entry)) (now (out .exit)) at r ⌝ }
+    ensures { λ r. ⌜ WrittenAt (padded 2 d) (now (out .entry)) (now (out .exit)) at r ⌝ }
 {
     out[at] = digit(d / 10);
     out[at + 1] = digit(d % 10);
@@ -28,7 +28,7 @@ fn put_two(d: u32, out: &mut [u8], at: usize) -> usize
 
 fn put_four(d: u32, out: &mut [u8], at: usize) -> usize
     requires { ⌜ (d < 10 ^ 4) × (at + 4 ≤ length (now out)) ⌝ }
-    ensures { λ r. ⌜ Written (padded 4 d) (now (out .entry)) (now (out .exit)) at r ⌝ }
+    ensures { λ r. ⌜ WrittenAt (padded 4 d) (now (out .entry)) (now (out .exit)) at r ⌝ }
 {
     let next = put_two(d / 100, out, at);
     put_two(d % 100, out, next)
@@ -36,7 +36,7 @@ fn put_four(d: u32, out: &mut [u8], at: usize) -> usize
 
 fn put_eight(d: u32, out: &mut [u8], at: usize) -> usize
     requires { ⌜ (d < 10 ^ 8) × (at + 8 ≤ length (now out)) ⌝ }
-    ensures { λ r. ⌜ Written (padded 8 d) (now (out .entry)) (now (out .exit)) at r ⌝ }
+    ensures { λ r. ⌜ WrittenAt (padded 8 d) (now (out .entry)) (now (out .exit)) at r ⌝ }
 {
     let next = put_four(d / 10000, out, at);
     put_four(d % 10000, out, next)
@@ -44,7 +44,7 @@ fn put_eight(d: u32, out: &mut [u8], at: usize) -> usize
 
 fn write_two(d: u32, out: &mut [u8], at: usize) -> usize
     requires { ⌜ (d < 10 ^ 2) × (at + length (decimal d) ≤ length (now out)) ⌝ }
-    ensures { λ r. ⌜ Written (decimal d) (now (out .entry)) (now (out .exit)) at r ⌝ }
+    ensures { λ r. ⌜ WrittenAt (decimal d) (now (out .entry)) (now (out .exit)) at r ⌝ }
 {
     if d < 10 {
         out[at] = digit(d);
@@ -55,7 +55,7 @@ fn write_two(d: u32, out: &mut [u8], at: usize) -> usize
 
 fn write_four(d: u32, out: &mut [u8], at: usize) -> usize
     requires { ⌜ (d < 10 ^ 4) × (at + length (decimal d) ≤ length (now out)) ⌝ }
-    ensures { λ r. ⌜ Written (decimal d) (now (out .entry)) (now (out .exit)) at r ⌝ }
+    ensures { λ r. ⌜ WrittenAt (decimal d) (now (out .entry)) (now (out .exit)) at r ⌝ }
 {
     if d < 100 {
         return write_two(d, out, at);
@@ -66,7 +66,7 @@ fn write_four(d: u32, out: &mut [u8], at: usize) -> usize
 
 fn write_eight(d: u32, out: &mut [u8], at: usize) -> usize
     requires { ⌜ (d < 10 ^ 8) × (at + length (decimal d) ≤ length (now out)) ⌝ }
-    ensures { λ r. ⌜ Written (decimal d) (now (out .entry)) (now (out .exit)) at r ⌝ }
+    ensures { λ r. ⌜ WrittenAt (decimal d) (now (out .entry)) (now (out .exit)) at r ⌝ }
 {
     if d < 10000 {
         return write_four(d, out, at);
@@ -77,7 +77,7 @@ fn write_eight(d: u32, out: &mut [u8], at: usize) -> usize
 
 fn write_twelve(d: u64, out: &mut [u8], at: usize) -> usize
     requires { ⌜ (d < 10 ^ 12) × (at + length (decimal d) ≤ length (now out)) ⌝ }
-    ensures { λ r. ⌜ Written (decimal d) (now (out .entry)) (now (out .exit)) at r ⌝ }
+    ensures { λ r. ⌜ WrittenAt (decimal d) (now (out .entry)) (now (out .exit)) at r ⌝ }
 {
     if d < 100000000 {
         return write_eight(d as u32, out, at);
@@ -89,7 +89,7 @@ fn write_twelve(d: u64, out: &mut [u8], at: usize) -> usize
 // A whole word: at most twenty digits.
 fn write_word(d: u64, out: &mut [u8], at: usize) -> usize
     requires { ⌜ at + length (decimal d) ≤ length (now out) ⌝ }
-    ensures { λ r. ⌜ Written (decimal d) (now (out .entry)) (now (out .exit)) at r ⌝ }
+    ensures { λ r. ⌜ WrittenAt (decimal d) (now (out .entry)) (now (out .exit)) at r ⌝ }
 {
     if d < 100000000 {
         return write_eight(d as u32, out, at);
@@ -101,7 +101,7 @@ fn write_word(d: u64, out: &mut [u8], at: usize) -> usize
 // Eight digits at a time, until one word holds what is left.
 fn write_long(x: Wide, out: &mut [u8], at: usize) -> usize
     requires { ⌜ at + length (decimal (value x)) ≤ length (now out) ⌝ }
-    ensures { λ r. ⌜ Written (decimal (value x)) (now (out .entry)) (now (out .exit)) at r ⌝ }
+    ensures { λ r. ⌜ WrittenAt (decimal (value x)) (now (out .entry)) (now (out .exit)) at r ⌝ }
 {
     if x.hi == 0 {
         return write_word(x.lo, out, at);
@@ -114,7 +114,7 @@ fn write_long(x: Wide, out: &mut [u8], at: usize) -> usize
 // Writes x's digits at a place, the upper ones first, and answers the next place. Most figures are one word.
 pub fn write(x: Wide, out: &mut [u8], at: usize) -> usize
     requires { ⌜ at + length (decimal (value x)) ≤ length (now out) ⌝ }
-    ensures { λ r. ⌜ Written (decimal (value x)) (now (out .entry)) (now (out .exit)) at r ⌝ }
+    ensures { λ r. ⌜ WrittenAt (decimal (value x)) (now (out .entry)) (now (out .exit)) at r ⌝ }
 {
     if x.hi == 0 {
         return write_word(x.lo, out, at);
@@ -124,7 +124,7 @@ pub fn write(x: Wide, out: &mut [u8], at: usize) -> usize
 
 fn put_sign(below: bool, out: &mut [u8], at: usize) -> usize
     requires { ⌜ at + length (signText below) ≤ length (now out) ⌝ }
-    ensures { λ r. ⌜ Written (signText below) (now (out .entry)) (now (out .exit)) at r ⌝ }
+    ensures { λ r. ⌜ WrittenAt (signText below) (now (out .entry)) (now (out .exit)) at r ⌝ }
 {
     if below {
         out[at] = 45;
@@ -136,7 +136,7 @@ fn put_sign(below: bool, out: &mut [u8], at: usize) -> usize
 // The same with a minus sign in front where s is below zero.
 pub fn write_signed(s: Signed, out: &mut [u8], at: usize) -> usize
     requires { ⌜ Canonical s × (at + length (marked (amount s)) ≤ length (now out)) ⌝ }
-    ensures { λ r. ⌜ Written (marked (amount s)) (now (out .entry)) (now (out .exit)) at r ⌝ }
+    ensures { λ r. ⌜ WrittenAt (marked (amount s)) (now (out .entry)) (now (out .exit)) at r ⌝ }
 {
     let next = put_sign(s.below, out, at);
     write(s.size, out, next)

@@ -10,7 +10,7 @@ use Rattle.form.specs.Bytes.{littleEndian}
 use Rattle.form.specs.Layout.{kinds}
 use Rattle.form.specs.Verdict.{rules, rows, countsOf, countList}
 use Rattle.rows.specs.Reading.{onFront}
-use Rattle.report.specs.Lines.{printed, putOf, roomAfter}
+use Rattle.report.specs.Lines.{printed, putOf, textAfter}
 use Rattle.report.specs.declared.Put.{Put}
 use Rattle.report.specs.declared.Put.the-variants.{Done, Short}
 use Rattle.doubles.specs.Subtotals.{subtotalsOf}
@@ -65,7 +65,7 @@ bitsAfter s code room (Broken n p) = room
 
 -- the room after the lines from C
 abbrev pub linesAfter : List ℕ → List ℕ → List ℕ
-linesAfter s room = roomAfter (printed s) room (putOf (printed s) room)
+linesAfter s room = textAfter (printed s) room (putOf (printed s) room)
 
 -- the lines from C: the text's length, which is never 0, or 0 for a room too short
 abbrev pub sizeOf : Put → ℕ

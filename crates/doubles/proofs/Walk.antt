@@ -21,7 +21,7 @@ use Rattle.form.specs.declared.Verdict.the-variants.{Accepted}
 use Rattle.form.proofs.EachKind.{one-kind}
 use Rattle.form.proofs.Accepted as form
 use Rattle.doubles.specs.Subtotals.{addRows, addAll}
-use Rattle.doubles.specs.Steps.{partsOf, plusOf}
+use Rattle.doubles.specs.Steps.{doublePartsOf, plusOf}
 use Rattle.doubles.specs.declared.Doubles.{Doubles}
 
 -- where conversion row i stands
@@ -62,7 +62,7 @@ module _ (rs : List (List ℕ)) where
   onward-start t = refl
 
   pub onward-next : (i : ℕ) (t : Doubles) {r : List ℕ} {p q u : Doubles} → i < length rs → getD rs i [] ≡ r
-      → onward rs i t ≡ u → p ≡ partsOf r → q ≡ plusOf t p → onward rs (i + 1) q ≡ u
+      → onward rs i t ≡ u → p ≡ doublePartsOf r → q ≡ plusOf t p → onward rs (i + 1) q ≡ u
   unfolding onward addRows
   onward-next i t l e o f g = rw (g, f, ← e, add-one i) (rw (drop-cons rs i [] l) at o)
 

@@ -10,8 +10,8 @@ use Rattle.doubles.specs.declared.Doubles.{Doubles}
 abbrev pub burntOf : List ℕ → ℕ → ℕ → ℕ → Float
 burntOf s at area difference = partOf area difference (number 2 s at) (number 2 s (at + 2)) (number 2 s (at + 4))
 
-abbrev pub partsOf : List ℕ → Doubles
-partsOf r = record { onsite = onsiteDouble r; offsite = offsiteDouble r; decay = decayDouble r }
+abbrev pub doublePartsOf : List ℕ → Doubles
+doublePartsOf r = record { onsite = onsiteDouble r; offsite = offsiteDouble r; decay = decayDouble r }
 
 abbrev pub plusOf : Doubles → Doubles → Doubles
 plusOf t p = record {

@@ -8,7 +8,7 @@ ghost use Rattle.form.specs.Records.{grown};
 ghost use Rattle.form.specs.Verdict.{rows, verdictOf};
 ghost use Rattle.form.specs.declared.Verdict.the-variants.{Accepted};
 ghost use Rattle.doubles.specs.Subtotals.{partOf, decayDouble, subtotalsOf, answerOf};
-ghost use Rattle.doubles.specs.Steps.{burntOf, partsOf, plusOf};
+ghost use Rattle.doubles.specs.Steps.{burntOf, doublePartsOf, plusOf};
 use form::Counts;
 use form::Verdict;
 use form::four_at;
@@ -66,7 +66,7 @@ fn decay_at(bytes: &[u8], at: usize) -> f64
 // The three parts of the record at `at`, whose densities do not grow.
 fn parts_at(bytes: &[u8], at: usize) -> Doubles
     requires { ⌜ (at + 40 ≤ length (now bytes)) × (grown (rowAt conversion (now bytes) at) ≡ false) ⌝ }
-    ensures { λ r. ⌜ r ≡ partsOf (rowAt conversion (now (bytes .entry)) at) ⌝ }
+    ensures { λ r. ⌜ r ≡ doublePartsOf (rowAt conversion (now (bytes .entry)) at) ⌝ }
 {
     let area = four_at(bytes, at + 4);
     let difference = two_at(bytes, at + 8) - two_at(bytes, at + 10);

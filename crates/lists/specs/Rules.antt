@@ -40,15 +40,15 @@ listRules edition lengths area = rule 10 (suc kinds) (badAt edition lengths (len
 -- ---- as the code has them
 
 -- at most 32 rows of each kind
-abbrev pub Few : List ℕ → Type 0
-Few lengths = (k : ℕ) → k < kinds → rowsIn (suc k) (getD lengths k 0) ≤ 32
+abbrev pub FewRows : List ℕ → Type 0
+FewRows lengths = (k : ℕ) → k < kinds → rowsIn (suc k) (getD lengths k 0) ≤ 32
 
 -- what 10 has found
 pub record Good (lengths : List ℕ) (m : ℕ) : Type 0 where
   pub each : length lengths ≡ kinds
   pub all : total lengths ≡ m
   pub whole : (k : ℕ) → k < kinds → getD lengths k 0 % numbersOf (suc k) ≡ 0
-  pub few : Few lengths
+  pub few : FewRows lengths
   pub one : rowsIn parametersKind (getD lengths (parametersKind - 1) 0) ≡ 1
 
 -- the blocks that lists of these lengths take, from a kind on

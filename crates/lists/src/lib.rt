@@ -7,7 +7,7 @@ ghost use Rattle.form.specs.Ruling.{ruling};
 ghost use Rattle.form.specs.Layout.{kinds, layout, numbersOf, aboveLimit};
 ghost use Rattle.form.specs.Records.{overspent, grown, badId, recordRules, testNumbered, testOf};
 ghost use Rattle.filing.specs.Lists.{cut, total, rowsIn, rowOf, blocksOf, filedList, filedLists};
-ghost use Rattle.lists.specs.Rules.{badList, badLengths, notAllowed, badAt, Good, Few, blocksFrom, shifted, firstOf};
+ghost use Rattle.lists.specs.Rules.{badList, badLengths, notAllowed, badAt, Good, FewRows, blocksFrom, shifted, firstOf};
 use form::KINDS;
 use form::PARAMETERS;
 use form::Ruling;
@@ -244,7 +244,7 @@ pub fn rule_records(edition: u32, lengths: &[u32], area: &[u32]) -> Ruling
 
 // How many blocks the lists take.
 pub fn blocks_in(lengths: &[u32]) -> usize
-    requires { ⌜ (length (now lengths) ≡ kinds) × Few (now lengths) ⌝ }
+    requires { ⌜ (length (now lengths) ≡ kinds) × FewRows (now lengths) ⌝ }
     ensures { λ r. ⌜ (r ≡ blocksFrom 1 (now (lengths .entry))) × (r ≤ 60) ⌝ }
 {
     let mut n: usize = 0;

@@ -20,7 +20,7 @@ use Rattle.worksheets.specs.Answers.{worked, refusal, outcomeBy, outcomeOf}
 use Rattle.doubles.specs.Subtotals.{subtotalsOf, answerBy, answerOf}
 use Rattle.doubles.specs.declared.Answer.the-variants as doubles
 use Rattle.listed.specs.Listed.{listed}
-use Rattle.report.specs.Lines.{lineOf, refusedLine, textOf, printed, roomAfter as textAfter}
+use Rattle.report.specs.Lines.{lineOf, refusedLine, textOf, printed, textAfter}
 use Rattle.report.specs.declared.Put.the-variants.{Short}
 use Rattle.tabled.specs.Figures.{figuresRules, figuresAnswer, figuresAfter}
 use Rattle.door.specs.Door.{codeOf, judgeRules, judgeCall, countsAfter, subtotalRules, subtotalCall, bitsAfter}

@@ -18,14 +18,14 @@ use Rattle.rows.specs.declared.Written.the-variants.{Done}
 use Rattle.trips.proofs.Again.{returned, read-accepted, read-edition, read-counts, read-rows, leftBehind, write-done, write-same}
 use Rattle.wide.specs.Rounding.{nearest}
 use Rattle.wide.specs.Signs.{nearestZ}
-use Rattle.totals.specs.Columns.{sumOf, rate, amount, stockCarbon, commercial, tonnesPerM3, fuelwood, otherUse, stockPart, harvestPart, clearedPart, onsitePart, offsitePart, decayPart}
+use Rattle.totals.specs.Columns.{sumOf, rate, stockAmount, stockCarbon, commercial, tonnesPerM3, fuelwood, otherUse, stockPart, harvestPart, clearedPart, onsitePart, offsitePart, decayPart}
 use Rattle.totals.specs.Abandoned.{youngArea, youngRate, youngCarbon, olderArea, olderRate, olderCarbon, abandonedPart}
 use Rattle.worksheets.specs.Sheets.{Sheets, figuresOf, given, stocksOf, conversionOf, gasesOf, abandonedOf}
 use Rattle.steps.proofs.Rounds.{nearest-between}
 
 -- "5-1", as 01 has it; the parameter row gives N
 pub record Sheet5-1 (s : List ℕ) (v : Sheets) : Type 0 where
-  pub E : v .stocks .e ≡ sumOf (λ r. amount r * rate r * stockCarbon r) (rows 2 s)
+  pub E : v .stocks .e ≡ sumOf (λ r. stockAmount r * rate r * stockCarbon r) (rows 2 s)
   pub K : v .stocks .k ≡ sumOf (λ r. commercial r * tonnesPerM3 r + 1000 * (fuelwood r + otherUse r)) (rows 3 s)
   pub L : v .stocks .l ≡ sumOf (λ r. areaOf r * (before r - after r) * offsite r) (rows 1 s)
   pub M : v .stocks .m ≡ pos (100 * v .stocks .k) -ℤ pos (v .stocks .l)

@@ -11,7 +11,7 @@ use lib.Dec.{eqb}
 use lib.IntN.{ℤ}
 use lib.ListN.{length, drop, getD, length-append}
 use lib.Seq.{sets, drop-cons, drop-drop, drop-length, getD-drop, length-sets}
-use Rattle.decimal.specs.Digits.{Written}
+use Rattle.decimal.specs.Digits.{WrittenAt}
 use Rattle.decimal.proofs.DigitLaws.{written-more}
 use Rattle.worksheets.specs.Sheets.{Sheets}
 use Rattle.listed.specs.Listed.{Figure, listed51, listed52, listed53, listed54, listed}
@@ -68,7 +68,7 @@ names-counted v = refl
 -- while k bytes of the names and i values are written, up to a place: what is written, with what is left, is all lines
 pub record Left (fs : List Figure) (names room : List ℕ) (k i at : ℕ) (out : List ℕ) : Type 0 where
   pub done : List ℕ
-  pub so-far : Written done room out 0 at
+  pub so-far : WrittenAt done room out 0 at
   pub rest : done ++ filled (drop k names) (drop i fs) ≡ flatMap lineOf fs
   pub count : i + spaces (drop k names) ≡ length fs
 
@@ -84,12 +84,12 @@ none-written v names room e = record {
   count = omega (arith, ap spaces e, names-counted v);
 }
 
-pub all-written : (fs : List Figure) (names room : List ℕ) (k i at : ℕ) (out : List ℕ) → k ≡ length names → Left fs names room k i at out → Written (flatMap lineOf fs) room out 0 at
+pub all-written : (fs : List Figure) (names room : List ℕ) (k i at : ℕ) (out : List ℕ) → k ≡ length names → Left fs names room k i at out → WrittenAt (flatMap lineOf fs) room out 0 at
 unfolding filled
 all-written fs names room k i at out e l =
     let n : drop k names ≡ [] = ap (λ (j : ℕ). drop j names) e ∙ drop-length names in
     let d : l .done ≡ flatMap lineOf fs = sym (append-nil (l .done)) ∙ ap (λ (x : List ℕ). l .done ++ filled x (drop i fs)) (sym n) ∙ l .rest in
-    subst (λ (x : List ℕ). Written x room out 0 at) d (l .so-far)
+    subst (λ (x : List ℕ). WrittenAt x room out 0 at) d (l .so-far)
 
 -- what comes next has room where all lines have
 room-for : (fs : List Figure) (names room : List ℕ) (k i at : ℕ) (out next more : List ℕ) → Left fs names room k i at out
@@ -116,7 +116,7 @@ module _ (fs : List Figure) (names room : List ℕ) (k i at : ℕ) (out : List �
   counts = ap spaces opened
 
   module _ (l : Left fs names room k i at out) where
-    pub letter-written : {out′ : List ℕ} {next : ℕ} → (b ≡ 32 → ⊥) → Written (b ∷ []) out out′ at next → Left fs names room (k + 1) i next out′
+    pub letter-written : {out′ : List ℕ} {next : ℕ} → (b ≡ 32 → ⊥) → WrittenAt (b ∷ []) out out′ at next → Left fs names room (k + 1) i next out′
     letter-written n w = record {
       done = l .done ++ b ∷ [];
       so-far = written-more (l .so-far) w;
@@ -124,11 +124,11 @@ module _ (fs : List Figure) (names room : List ℕ) (k i at : ℕ) (out : List �
       count = omega (arith, rw (ne-eqb b 32 n) at counts, l .count);
     }
 
-    pub value-written : {mid out′ : List ℕ} {m next : ℕ} (z : ℤ) → b ≡ 32 → z ≡ figureAt fs i .value → Written (b ∷ []) out mid at m → Written (ended z) mid out′ m next
+    pub value-written : {mid out′ : List ℕ} {m next : ℕ} (z : ℤ) → b ≡ 32 → z ≡ figureAt fs i .value → WrittenAt (b ∷ []) out mid at m → WrittenAt (ended z) mid out′ m next
         → Left fs names room (k + 1) (i + 1) next out′
     value-written {mid} {out′} {m} {next} z n q w v = record {
       done = l .done ++ (b ∷ ended (figureAt fs i .value));
-      so-far = written-more (l .so-far) (written-more w (subst (λ (y : ℤ). Written (ended y) mid out′ m next) q v));
+      so-far = written-more (l .so-far) (written-more w (subst (λ (y : ℤ). WrittenAt (ended y) mid out′ m next) q v));
       rest = append-assoc (l .done) (b ∷ ended (figureAt fs i .value)) _ ∙ ap (λ (x : List ℕ). l .done ++ x) (sym (space n)) ∙ l .rest;
       count = omega (arith, rw (eq-eqb b 32 n) at counts, l .count);
     }

@@ -11,8 +11,8 @@ use native.Mathlib.Omega.{arith}
 use lib.ListN.{length, getD, take, drop, set, length-append}
 use lib.Seq.{sets, take-suc, take-length, take-at, length-take-le, sets-eq}
 use lib.IntN.{ℤ, pos}
-use Rattle.decimal.specs.Digits.{decimal, marked, Written}
-use Rattle.report.specs.Lines.{endedBy, line, refusedLine, textOf, putOf, roomAfter}
+use Rattle.decimal.specs.Digits.{decimal, marked, WrittenAt}
+use Rattle.report.specs.Lines.{endedBy, line, refusedLine, textOf, putOf, textAfter}
 use Rattle.worksheets.specs.Answers.{Outcome}
 use Rattle.report.specs.declared.Put.the-variants.{Done, Short}
 use Rattle.form.proofs.Tests.{taken, left}
@@ -28,11 +28,11 @@ put-more d text at i l =
 
 -- "refused ", the number, a space, the place and a line feed, one after the other, are a refusal's line
 pub as-refused : (n p : ℕ) (y z : ℤ) {d e : List ℕ} {i j : ℕ} → y ≡ pos n → z ≡ pos p
-    → Written (((114 ∷ 101 ∷ 102 ∷ 117 ∷ 115 ∷ 101 ∷ 100 ∷ 32 ∷ []) ++ endedBy 32 y) ++ endedBy 10 z) d e i j → Written (refusedLine n p) d e i j
+    → WrittenAt (((114 ∷ 101 ∷ 102 ∷ 117 ∷ 115 ∷ 101 ∷ 100 ∷ 32 ∷ []) ++ endedBy 32 y) ++ endedBy 10 z) d e i j → WrittenAt (refusedLine n p) d e i j
 unfolding refusedLine
 as-refused n p y z {d} {e} {i} {j} u v w =
     let q = ap (λ (x : List ℕ). 114 ∷ 101 ∷ 102 ∷ 117 ∷ 115 ∷ 101 ∷ 100 ∷ 32 ∷ x) (append-assoc (decimal n) (32 ∷ []) (endedBy 10 (pos p))) in
-    subst (λ (x : List ℕ). Written x d e i j) (rw (u, v) q) w
+    subst (λ (x : List ℕ). WrittenAt x d e i j) (rw (u, v) q) w
 
 pub ended-length : (b : ℕ) {z : ℤ} {n : ℕ} → z ≡ pos n → length (endedBy b z) ≡ length (decimal n) + 1
 ended-length b {z} {n} e = rw e (length-append (decimal n) (b ∷ []))
@@ -46,28 +46,28 @@ front : (d t : List ℕ) → length t ≤ length d → sets d 0 t ≡ t ++ drop 
 front d t l = sets-eq t d 0 (omega arith) ∙ ap (λ (k : ℕ). t ++ drop k d) (zero-add (length t))
 
 -- the ways out of `lines`: the text went straight to the lent room, or it stands in room of our own and the lent room is too short or not
-pub straight-out : (text room room′ : List ℕ) (n : ℕ) → Written text room room′ 0 n → length text ≤ length room → (Done n ≡ putOf text room) × (room′ ≡ roomAfter text room (Done n))
+pub straight-out : (text room room′ : List ℕ) (n : ℕ) → WrittenAt text room room′ 0 n → length text ≤ length room → (Done n ≡ putOf text room) × (room′ ≡ textAfter text room (Done n))
 straight-out text room room′ n w l =
     let size : n ≡ length text = w .place ∙ zero-add (length text) in
     (left _ (le-ltb (length room) (length text) l) (ap Done size), w .room ∙ front room text l ∙ ap (λ (k : ℕ). text ++ drop k room) (sym size))
 
-module _ (text own own′ room : List ℕ) (n : ℕ) (w : Written text own own′ 0 n) where
+module _ (text own own′ room : List ℕ) (n : ℕ) (w : WrittenAt text own own′ 0 n) where
   size : n ≡ length text
   size = w .place ∙ zero-add (length text)
 
-  pub short-out : length room < n → (Short ≡ putOf text room) × (room ≡ roomAfter text room Short)
+  pub short-out : length room < n → (Short ≡ putOf text room) × (room ≡ textAfter text room Short)
   short-out l = (taken _ (lt-ltb (length room) (length text) (omega (arith, size))) refl, refl)
 
-  pub done-out : (room′ : List ℕ) (m : ℕ) → n ≤ length own → n ≤ length room → Written (take n own′) room room′ 0 m
-      → (Done n ≡ putOf text room) × (room′ ≡ roomAfter text room (Done n))
+  pub done-out : (room′ : List ℕ) (m : ℕ) → n ≤ length own → n ≤ length room → WrittenAt (take n own′) room room′ 0 m
+      → (Done n ≡ putOf text room) × (room′ ≡ textAfter text room (Done n))
   done-out room′ m h l p =
       let e : take n own′ ≡ text =
       ap (take n) (w .room ∙ front own text (omega (arith, size))) ∙ take-at text (drop (length text) own) n (sym size) in
       straight-out text room room′ n (record { room = p .room ∙ ap (λ (x : List ℕ). sets room 0 x) e; place = w .place }) (omega (arith, size))
 
 -- the text of an outcome that another one equals
-pub as-text : {o p : Outcome} {d e : List ℕ} {i j : ℕ} → o ≡ p → Written (textOf o) d e i j → Written (textOf p) d e i j
-as-text {d = d} {e} {i} {j} q w = subst (λ (x : Outcome). Written (textOf x) d e i j) q w
+pub as-text : {o p : Outcome} {d e : List ℕ} {i j : ℕ} → o ≡ p → WrittenAt (textOf o) d e i j → WrittenAt (textOf p) d e i j
+as-text {d = d} {e} {i} {j} q w = subst (λ (x : Outcome). WrittenAt (textOf x) d e i j) q w
 
 -- a text that was put fits the room
 fits-by : (b : Bool) (n k m : ℕ) → (b ≡ false → n ≤ m) → cond b Short (Done n) ≡ Done k → k ≤ m

@@ -56,6 +56,6 @@ abbrev pub putOf : List ℕ → List ℕ → Put
 putOf text room = cond (ltb (length room) (length text)) Short (Done (length text))
 
 -- the text at the front and the rest as it was; a room too short is unchanged
-abbrev pub roomAfter : List ℕ → List ℕ → Put → List ℕ
-roomAfter text room (Done n) = text ++ drop n room
-roomAfter text room Short = room
+abbrev pub textAfter : List ℕ → List ℕ → Put → List ℕ
+textAfter text room (Done n) = text ++ drop n room
+textAfter text room Short = room

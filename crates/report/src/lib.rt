@@ -3,7 +3,7 @@ mod text;
 
 ghost use mathlib.Core.Path.{_≡_};
 ghost use lib.ListN.{length};
-ghost use Rattle.report.specs.Lines.{printed, putOf, roomAfter};
+ghost use Rattle.report.specs.Lines.{printed, putOf, textAfter};
 use listed::FIGURES;
 
 // Room that is always enough for the lines.
@@ -18,7 +18,7 @@ pub enum Put {
 // The lines of any bytes at the front of the room, and the text's length; a room too short for them is left as it was.
 pub fn lines(bytes: &[u8], room: &mut [u8]) -> Put
     ensures { λ r. ⌜ r ≡ putOf (printed (now (bytes .entry))) (now (room .entry)) ⌝ }
-    ensures { λ r. ⌜ now (room .exit) ≡ roomAfter (printed (now (bytes .entry))) (now (room .entry)) r ⌝ }
+    ensures { λ r. ⌜ now (room .exit) ≡ textAfter (printed (now (bytes .entry))) (now (room .entry)) r ⌝ }
 {
     // room for any text is written to as it is, and only shorter room needs the text elsewhere first
     if LINES_ROOM <= room.len() {

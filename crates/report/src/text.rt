@@ -5,7 +5,7 @@ ghost use mathlib.Core.List.{[], _∷_};
 ghost use lib.ListN.{length, take};
 ghost use lib.IntN.{pos};
 ghost use Rattle.wide.specs.Signs.{amount, Canonical, Holds};
-ghost use Rattle.decimal.specs.Digits.{Written};
+ghost use Rattle.decimal.specs.Digits.{WrittenAt};
 ghost use Rattle.worksheets.specs.Answers.{InForm, figuresSaid};
 ghost use Rattle.report.specs.Lines.{endedBy, namesOf, linesOf, refusedLine, printed};
 use decimal::write_signed;
@@ -19,7 +19,7 @@ use worksheets::sheets::Figures;
 // The first n bytes of a text, to a place; answers the next place.
 pub fn put(text: &[u8], n: usize, out: &mut [u8], at: usize) -> usize
     requires { ⌜ (n ≤ length (now text)) × (at + n ≤ length (now out)) ⌝ }
-    ensures { λ r. ⌜ Written (take n (now (text .entry))) (now (out .entry)) (now (out .exit)) at r ⌝ }
+    ensures { λ r. ⌜ WrittenAt (take n (now (text .entry))) (now (out .entry)) (now (out .exit)) at r ⌝ }
 {
     let mut i: usize = 0;
     while i < n {
@@ -31,7 +31,7 @@ pub fn put(text: &[u8], n: usize, out: &mut [u8], at: usize) -> usize
 
 fn put_byte(b: u8, out: &mut [u8], at: usize) -> usize
     requires { ⌜ at < length (now out) ⌝ }
-    ensures { λ r. ⌜ Written (b ∷ []) (now (out .entry)) (now (out .exit)) at r ⌝ }
+    ensures { λ r. ⌜ WrittenAt (b ∷ []) (now (out .entry)) (now (out .exit)) at r ⌝ }
 {
     out[at] = b;
     at + 1
@@ -40,7 +40,7 @@ fn put_byte(b: u8, out: &mut [u8], at: usize) -> usize
 // A value and the byte behind it.
 fn put_value(z: Signed, end: u8, out: &mut [u8], at: usize) -> usize
     requires { ⌜ (Canonical z) × (at + length (endedBy end (amount z)) ≤ length (now out)) ⌝ }
-    ensures { λ r. ⌜ Written (endedBy end (amount z)) (now (out .entry)) (now (out .exit)) at r ⌝ }
+    ensures { λ r. ⌜ WrittenAt (endedBy end (amount z)) (now (out .entry)) (now (out .exit)) at r ⌝ }
 {
     let next = write_signed(z, out, at);
     put_byte(end, out, next)
@@ -49,7 +49,7 @@ fn put_value(z: Signed, end: u8, out: &mut [u8], at: usize) -> usize
 // All lines: the names, each with the space behind it, and after each space the next value.
 fn put_lines(names: &[u8], f: Figures, out: &mut [u8]) -> usize
     requires { ⌜ (InForm f) × (now names ≡ namesOf (figuresSaid f)) × (length (linesOf (figuresSaid f)) ≤ length (now out)) ⌝ }
-    ensures { λ r. ⌜ Written (linesOf (figuresSaid f)) (now (out .entry)) (now (out .exit)) 0 r ⌝ }
+    ensures { λ r. ⌜ WrittenAt (linesOf (figuresSaid f)) (now (out .entry)) (now (out .exit)) 0 r ⌝ }
 {
     let values = list(f);
     let mut k: usize = 0;
@@ -70,7 +70,7 @@ fn put_lines(names: &[u8], f: Figures, out: &mut [u8]) -> usize
 // The names stand in the list's order.
 fn put_figures(f: Figures, out: &mut [u8]) -> usize
     requires { ⌜ (InForm f) × (length (linesOf (figuresSaid f)) ≤ length (now out)) ⌝ }
-    ensures { λ r. ⌜ Written (linesOf (figuresSaid f)) (now (out .entry)) (now (out .exit)) 0 r ⌝ }
+    ensures { λ r. ⌜ WrittenAt (linesOf (figuresSaid f)) (now (out .entry)) (now (out .exit)) 0 r ⌝ }
 {
     put_lines(
         b"E K L M O P Q report onsite offsite R decay co2 ch4 co n2o nox uptake uptake_co2 ",
@@ -88,7 +88,7 @@ fn plain(n: u64) -> Signed
 // The one line of a refusal.
 fn put_refused(number: u8, place: u32, out: &mut [u8]) -> usize
     requires { ⌜ length (refusedLine number place) ≤ length (now out) ⌝ }
-    ensures { λ r. ⌜ Written (refusedLine number place) (now (out .entry)) (now (out .exit)) 0 r ⌝ }
+    ensures { λ r. ⌜ WrittenAt (refusedLine number place) (now (out .entry)) (now (out .exit)) 0 r ⌝ }
 {
     let a = put(b"refused ", 8, out, 0);
     let b = put_value(plain(number as u64), 32, out, a);
@@ -98,7 +98,7 @@ fn put_refused(number: u8, place: u32, out: &mut [u8]) -> usize
 // The text of any bytes, at the front of long enough room.
 pub fn write_lines(bytes: &[u8], out: &mut [u8]) -> usize
     requires { ⌜ length (printed (now bytes)) ≤ length (now out) ⌝ }
-    ensures { λ r. ⌜ Written (printed (now (bytes .entry))) (now (out .entry)) (now (out .exit)) 0 r ⌝ }
+    ensures { λ r. ⌜ WrittenAt (printed (now (bytes .entry))) (now (out .entry)) (now (out .exit)) 0 r ⌝ }
 {
     match worksheets::figures(bytes) {
         Answer::Figures(f) => put_figures(f, out),

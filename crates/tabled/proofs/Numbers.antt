@@ -23,7 +23,7 @@ use Rattle.form.proofs.Accepted.{accepted-ruling}
 use Rattle.wide.specs.Numbers.{value, wordsOf}
 use Rattle.wide.proofs.Laws.{words, is-itself}
 use Rattle.wide.specs.Signs.{sized, amount, Canonical}
-use Rattle.decimal.specs.Digits.{Written}
+use Rattle.decimal.specs.Digits.{WrittenAt}
 use Rattle.decimal.proofs.DigitLaws.{written-more}
 use Rattle.wide.specs.declared.signed.Signed.{Signed}
 use Rattle.rows.specs.Reading.{onFront}
@@ -31,7 +31,7 @@ use Rattle.worksheets.specs.Sheets.{Sheets, figuresOf}
 use Rattle.worksheets.specs.Answers.{Outcome, worked, refusal, outcomeBy, outcomeOf}
 use Rattle.listed.specs.Listed.{Figure, listed}
 use Rattle.listed.proofs.Laws.{figureAt, counted, flat-next}
-use Rattle.tabled.specs.Figures.{threeOf, numbersOf, figureNumbers, numbersRoom, roomRule, figuresAnswer, figuresAfter}
+use Rattle.tabled.specs.Figures.{threeOf, numbersIn, figureNumbers, numbersRoom, figuresRoom, figuresAnswer, figuresAfter}
 
 three-sized : (t : Bool) (n : ℕ) → (t ≡ true → 0 < n) → cond t 1 0 ∷ n / 2 ^ 64 ∷ n % 2 ^ 64 ∷ [] ≡ threeOf (sized t n)
 three-sized false n h = refl
@@ -45,7 +45,7 @@ three s f l b e =
     (λ i. e i ∷ w i .hi ∷ w i .lo ∷ []) ∙ three-sized (s .below) (value (s .size)) f
 
 -- three stores in a row
-pub three-stores : (d : List ℕ) (at a b c : ℕ) (t : List ℕ) → a ∷ b ∷ c ∷ [] ≡ t → Written t d (set (set (set d at a) (at + 1) b) (at + 2) c) at (at + 3)
+pub three-stores : (d : List ℕ) (at a b c : ℕ) (t : List ℕ) → a ∷ b ∷ c ∷ [] ≡ t → WrittenAt t d (set (set (set d at a) (at + 1) b) (at + 2) c) at (at + 3)
 three-stores d at a b c t e =
     let i : at + 2 ≡ suc (suc at) = omega arith in
     rw (← e) (record { room = rw (add-one, i); place = refl })
@@ -78,19 +78,19 @@ three-length : (z : ℤ) → length (threeOf z) ≡ 3
 three-length (pos n) = refl
 three-length (negsuc n) = refl
 
-numbers-length : (fs : List Figure) → length (flatMap numbersOf fs) ≡ 3 * length fs
+numbers-length : (fs : List Figure) → length (flatMap numbersIn fs) ≡ 3 * length fs
 unfolding flatMap
 numbers-length [] = refl
 numbers-length (f ∷ fs) = rw length-append (omega (arith, three-length (f .value), numbers-length fs))
 
 -- one figure more, and all of them
 pub one-more : (fs : List Figure) (i : ℕ) (z : ℤ) {d e g : List ℕ} {at next : ℕ} → i < length fs → z ≡ figureAt fs i .value
-    → Written (flatMap numbersOf (take i fs)) d e 0 at → Written (threeOf z) e g at next → Written (flatMap numbersOf (take (i + 1) fs)) d g 0 next
+    → WrittenAt (flatMap numbersIn (take i fs)) d e 0 at → WrittenAt (threeOf z) e g at next → WrittenAt (flatMap numbersIn (take (i + 1) fs)) d g 0 next
 one-more fs i z {d} {e} {g} {at} {next} h q v w =
-    rw (flat-next numbersOf fs i) (written-more v (subst (λ (y : ℤ). Written (threeOf y) e g at next) q w))
+    rw (flat-next numbersIn fs i) (written-more v (subst (λ (y : ℤ). WrittenAt (threeOf y) e g at next) q w))
 
-pub all-of : (fs : List Figure) (i : ℕ) {d e : List ℕ} {at : ℕ} → i ≡ length fs → Written (flatMap numbersOf (take i fs)) d e 0 at → Written (flatMap numbersOf fs) d e 0 at
-all-of fs i {d} {e} {at} q w = subst (λ (x : List Figure). Written (flatMap numbersOf x) d e 0 at) (ap (λ (k : ℕ). take k fs) q ∙ take-length fs) w
+pub all-of : (fs : List Figure) (i : ℕ) {d e : List ℕ} {at : ℕ} → i ≡ length fs → WrittenAt (flatMap numbersIn (take i fs)) d e 0 at → WrittenAt (flatMap numbersIn fs) d e 0 at
+all-of fs i {d} {e} {at} q w = subst (λ (x : List Figure). WrittenAt (flatMap numbersIn x) d e 0 at) (ap (λ (k : ℕ). take k fs) q ∙ take-length fs) w
 
 module _ (s room : List ℕ) where
   -- what the answer r and the room l are
@@ -98,19 +98,19 @@ module _ (s room : List ℕ) where
   Out r l = (r ≡ figuresAnswer s room) × (l ≡ figuresAfter s room r)
 
   pub refused-out : (n p : ℕ) → refusal n p ≡ outcomeOf s → Out (Broken n p) room
-  refused-out n p e = (sym (ruled-before (rules s) (roomRule room ∷ []) (refused-ruling s n p (refused-verdict s n p e))), refl)
+  refused-out n p e = (sym (ruled-before (rules s) (figuresRoom room ∷ []) (refused-ruling s n p (refused-verdict s n p e))), refl)
 
   pub short-out : (v : Sheets) → worked v ≡ outcomeOf s → length room < numbersRoom → Out (Broken 9 0) room
   short-out v e l =
       let w = worked-out s v e in
-      (sym (kept-before (rules s) (roomRule room ∷ []) (accepted-ruling s (w .counts) (w .accepted)) ∙ one-broken 9 _ [] (lt-ltb (length room) numbersRoom l)), refl)
+      (sym (kept-before (rules s) (figuresRoom room ∷ []) (accepted-ruling s (w .counts) (w .accepted)) ∙ one-broken 9 _ [] (lt-ltb (length room) numbersRoom l)), refl)
 
-  pub done-out : (v : Sheets) (l : List ℕ) (n : ℕ) → worked v ≡ outcomeOf s → numbersRoom ≤ length room → Written (figureNumbers v) room l 0 n → Out Clean l
+  pub done-out : (v : Sheets) (l : List ℕ) (n : ℕ) → worked v ≡ outcomeOf s → numbersRoom ≤ length room → WrittenAt (figureNumbers v) room l 0 n → Out Clean l
   unfolding ruling
   done-out v l n e h p =
       let w = worked-out s v e in
       let t = figureNumbers v in (
-        sym (kept-before (rules s) (roomRule room ∷ []) (accepted-ruling s (w .counts) (w .accepted)) ∙ one-kept 9 _ [] (le-ltb (length room) numbersRoom h)),
+        sym (kept-before (rules s) (figuresRoom room ∷ []) (accepted-ruling s (w .counts) (w .accepted)) ∙ one-kept 9 _ [] (le-ltb (length room) numbersRoom h)),
         p .room
             ∙ sets-eq t room 0 (omega (arith, numbers-length (listed v), counted v))
             ∙ ap (λ (k : ℕ). t ++ drop k room) (zero-add (length t))

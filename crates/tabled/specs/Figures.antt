@@ -17,24 +17,24 @@ abbrev pub threeOf : ℤ → List ℕ
 threeOf (pos n) = 0 ∷ n / 2 ^ 64 ∷ n % 2 ^ 64 ∷ []
 threeOf (negsuc n) = 1 ∷ suc n / 2 ^ 64 ∷ suc n % 2 ^ 64 ∷ []
 
-abbrev pub numbersOf : Figure → List ℕ
-numbersOf f = threeOf (f .value)
+abbrev pub numbersIn : Figure → List ℕ
+numbersIn f = threeOf (f .value)
 
 -- those of all figures, in the list's order
 abbrev pub figureNumbers : Sheets → List ℕ
-figureNumbers v = flatMap numbersOf (listed v)
+figureNumbers v = flatMap numbersIn (listed v)
 
 -- how many they are: three a figure
 abbrev pub numbersRoom : ℕ
 numbersRoom = 3 * figureCount
 
 -- 9: "lent room too short", "C: 0"
-abbrev pub roomRule : List ℕ → Rule
-roomRule room = rule 9 1 (λ p. ltb (length room) numbersRoom)
+abbrev pub figuresRoom : List ℕ → Rule
+figuresRoom room = rule 9 1 (λ p. ltb (length room) numbersRoom)
 
 -- the return's rules, last the room
 abbrev pub figuresRules : List ℕ → List ℕ → List Rule
-figuresRules s room = rules s ++ (roomRule room ∷ [])
+figuresRules s room = rules s ++ (figuresRoom room ∷ [])
 
 abbrev pub figuresAnswer : List ℕ → List ℕ → Ruling
 figuresAnswer s room = ruling (figuresRules s room)

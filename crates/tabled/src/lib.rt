@@ -4,7 +4,7 @@ ghost use mathlib.Core.Bool.{cond};
 ghost use Prim.Native.Nat.{_+_, _≤_};
 ghost use lib.ListN.{length};
 ghost use Rattle.wide.specs.Signs.{amount, Canonical};
-ghost use Rattle.decimal.specs.Digits.{Written};
+ghost use Rattle.decimal.specs.Digits.{WrittenAt};
 ghost use Rattle.worksheets.specs.Answers.{InForm, figuresSaid};
 ghost use Rattle.tabled.specs.Figures.{threeOf, figureNumbers, numbersRoom, figuresAnswer, figuresAfter};
 use form::Ruling;
@@ -26,7 +26,7 @@ fn sign_of(below: bool) -> u64
 // A figure's sign, upper and lower word at a place; answers the next place.
 fn put_three(z: Signed, room: &mut [u64], at: usize) -> usize
     requires { ⌜ (Canonical z) × (at + 3 ≤ length (now room)) ⌝ }
-    ensures { λ r. ⌜ (Written (threeOf (amount z)) (now (room .entry)) (now (room .exit)) at r) × (r ≡ at + 3) ⌝ }
+    ensures { λ r. ⌜ (WrittenAt (threeOf (amount z)) (now (room .entry)) (now (room .exit)) at r) × (r ≡ at + 3) ⌝ }
 {
     room[at] = sign_of(z.below);
     room[at + 1] = z.size.hi;
@@ -37,7 +37,7 @@ fn put_three(z: Signed, room: &mut [u64], at: usize) -> usize
 // Figure after figure, from the front of the room.
 fn put_figures(f: Figures, room: &mut [u64]) -> usize
     requires { ⌜ (InForm f) × (numbersRoom ≤ length (now room)) ⌝ }
-    ensures { λ r. ⌜ Written (figureNumbers (figuresSaid f)) (now (room .entry)) (now (room .exit)) 0 r ⌝ }
+    ensures { λ r. ⌜ WrittenAt (figureNumbers (figuresSaid f)) (now (room .entry)) (now (room .exit)) 0 r ⌝ }
 {
     let values = list(f);
     let mut i: usize = 0;

@@ -15,7 +15,7 @@ use Rattle.form.specs.Layout.{field, conversion, stock, harvest, abandoned, abo
 use Rattle.form.specs.Records.{areaOf, before, after, onsite, onsiteOxidised, onsiteCarbon, offsite, offsiteOxidised, offsiteCarbon, tenYearArea, tenYearBefore, tenYearAfter, decay, decayCarbon}
 use Rattle.form.proofs.Tests.{or-none}
 use Rattle.form.proofs.Accepted.{limit-of}
-use Rattle.totals.specs.Columns.{rate, amount, stockCarbon, commercial, tonnesPerM3, fuelwood, otherUse, stockPart, harvestPart, clearedPart, onsitePart, offsitePart, decayPart}
+use Rattle.totals.specs.Columns.{rate, stockAmount, stockCarbon, commercial, tonnesPerM3, fuelwood, otherUse, stockPart, harvestPart, clearedPart, onsitePart, offsitePart, decayPart}
 use Rattle.totals.specs.Abandoned.{abandonedPart}
 use Rattle.totals.specs.Sums.{Sound}
 
@@ -77,7 +77,7 @@ module _ (r : List ℕ) (h : aboveLimit conversion r ≡ false) where
   unfolding decayPart
   decay-below = five _ _ (tenYearAfter r) _ _ _ (ten-years .0) (ten-years .1) (decays .0) (lit≤ tt) (decays .1)
 
-pub stocks : (r : List ℕ) → aboveLimit stock r ≡ false → (rate r ≤ 10000) × (amount r ≤ 10000000) × (stockCarbon r ≤ 1000)
+pub stocks : (r : List ℕ) → aboveLimit stock r ≡ false → (rate r ≤ 10000) × (stockAmount r ≤ 10000000) × (stockCarbon r ≤ 1000)
 stocks r h = (limit-of stock r 2 (field 0 0 0) (lit< tt) h, limit-of stock r 3 (field 0 0 0) (lit< tt) h, limit-of stock r 4 (field 0 0 0) (lit< tt) h)
 
 pub stock-below : (r : List ℕ) → aboveLimit stock r ≡ false → stockPart r ≤ 10 ^ 14

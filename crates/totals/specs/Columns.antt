@@ -10,12 +10,12 @@ unfoldable pub sumOf : (List ℕ → ℕ) → List (List ℕ) → ℕ
 sumOf f [] = 0
 sumOf f (r ∷ rs) = f r + sumOf f rs
 
--- the numbers of a stock row: id, unit code, rate, amount, carbon fraction
+-- the numbers of a stock row: id, unit code, rate, stockAmount, carbon fraction
 abbrev pub rate : List ℕ → ℕ
 rate r = getD r 2 0
 
-abbrev pub amount : List ℕ → ℕ
-amount r = getD r 3 0
+abbrev pub stockAmount : List ℕ → ℕ
+stockAmount r = getD r 3 0
 
 abbrev pub stockCarbon : List ℕ → ℕ
 stockCarbon r = getD r 4 0
@@ -35,7 +35,7 @@ otherUse r = getD r 4 0
 
 -- one row's part in a column
 unfoldable pub stockPart : List ℕ → ℕ
-stockPart r = amount r * rate r * stockCarbon r
+stockPart r = stockAmount r * rate r * stockCarbon r
 
 unfoldable pub harvestPart : List ℕ → ℕ
 harvestPart r = commercial r * tonnesPerM3 r + 1000 * (fuelwood r + otherUse r)
@@ -53,7 +53,7 @@ offsitePart r = areaOf r * (before r - after r) * offsite r * offsiteOxidised r 
 unfoldable pub decayPart : List ℕ → ℕ
 decayPart r = tenYearArea r * (tenYearBefore r - tenYearAfter r) * decay r * 1000 * decayCarbon r
 
--- 5-1: "E = sum of amount x rate x carbon fraction (10^-7 kt C)"
+-- 5-1: "E = sum of stockAmount x rate x carbon fraction (10^-7 kt C)"
 abbrev pub columnE : List ℕ → ℕ
 columnE s = sumOf stockPart (rows 2 s)
 
@@ -71,10 +71,6 @@ onsiteTotal s = sumOf onsitePart (rows 1 s)
 
 abbrev pub offsiteTotal : List ℕ → ℕ
 offsiteTotal s = sumOf offsitePart (rows 1 s)
-
--- "R is their sum."
-abbrev pub columnR : List ℕ → ℕ
-columnR s = onsiteTotal s + offsiteTotal s
 
 abbrev pub decayTotal : List ℕ → ℕ
 decayTotal s = sumOf decayPart (rows 1 s)

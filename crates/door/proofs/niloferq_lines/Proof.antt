@@ -1,7 +1,7 @@
 -- `door::niloferq_lines` meets its contract. Assumes nothing.
 use mathlib.Core.Path.{sym, ap, _∙_}
 use denote.Ref.{now}
-use Rattle.report.specs.Lines.{printed, roomAfter}
+use Rattle.report.specs.Lines.{printed, textAfter}
 use Rattle.door.specs.Door.{sizeOf}
 use native.Mathlib.Omega.{arith}
 use borrow.Author.Needs.{needs}
@@ -25,7 +25,7 @@ returns c =
     let l = c .before .before .before .before .before in
     let a = l .before .before .before .before .args in (
       ap sizeOf (sym (c .before .n .given .1) ∙ l .lines .ensures .0),
-      l .lines .ensures .1 ∙ ap (roomAfter (printed (now (a .bytes))) (now (a .room))) (l .lines .ensures .0),
+      l .lines .ensures .1 ∙ ap (textAfter (printed (now (a .bytes))) (now (a .room))) (l .lines .ensures .0),
     )
 
 same-length-2 : tie.Need-same-length-2
@@ -36,7 +36,7 @@ returns-2 c =
     let l = c .before .before .before .before in
     let a = l .before .before .before .before .args in (
       ap sizeOf (sym (c .enum-told .given .1) ∙ l .lines .ensures .0),
-      l .lines .ensures .1 ∙ ap (roomAfter (printed (now (a .bytes))) (now (a .room))) (l .lines .ensures .0),
+      l .lines .ensures .1 ∙ ap (textAfter (printed (now (a .bytes))) (now (a .room))) (l .lines .ensures .0),
     )
 
 pub niloferq-lines-spec : {M : Type 1} → statement M

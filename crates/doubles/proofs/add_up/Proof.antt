@@ -7,7 +7,7 @@ use Rattle.form.specs.Layout.{conversion, rowAt}
 use Rattle.form.specs.Block.{recordAt}
 use Rattle.form.specs.Verdict.{rows}
 use Rattle.doubles.specs.Subtotals.{subtotalsOf}
-use Rattle.doubles.specs.Steps.{partsOf}
+use Rattle.doubles.specs.Steps.{doublePartsOf}
 use Rattle.doubles.proofs.Walk.{counted, standing, onward, onward-start, onward-next, onward-end}
 use borrow.Author.Needs.{needs}
 use native.Mathlib.Omega.{arith}
@@ -54,7 +54,7 @@ loop-again c =
     let g = c .before .before .before .before .before .before .before in
     let l = c .before .before .before .before .before .loop in
     let s = now (g .args .bytes) in
-    (search needs, onward-next (rows 1 s) (l .i) (l .t) (omega (arith, counted s (g .args .c) (g .pre))) (standing s (g .args .c) (g .pre) (l .i) (omega arith) .row) (l .inv .1) (c .before .parts-at .ensures ∙ ap (λ (x : ℕ). partsOf (rowAt conversion s x)) (start (c .before .before))) (c .plus .ensures))
+    (search needs, onward-next (rows 1 s) (l .i) (l .t) (omega (arith, counted s (g .args .c) (g .pre))) (standing s (g .args .c) (g .pre) (l .i) (omega arith) .row) (l .inv .1) (c .before .parts-at .ensures ∙ ap (λ (x : ℕ). doublePartsOf (rowAt conversion s x)) (start (c .before .before))) (c .plus .ensures))
 
 returns : tie.Need-returns Inv-loop μ-loop
 returns c =

@@ -5,12 +5,12 @@ use mathlib.Core.List.{flatMap}
 use native.Mathlib.Omega.{arith}
 use lib.ListN.{length, take}
 use borrow.Author.Needs.{needs}
-use Rattle.decimal.specs.Digits.{Written}
+use Rattle.decimal.specs.Digits.{WrittenAt}
 use Rattle.worksheets.specs.Sheets.{Sheets}
 use Rattle.worksheets.specs.Answers.{figuresSaid}
 use Rattle.listed.specs.Listed.{listed, valuesOf, figureCount}
 use Rattle.listed.proofs.Laws.{lists-at, counted}
-use Rattle.tabled.specs.Figures.{numbersOf}
+use Rattle.tabled.specs.Figures.{numbersIn}
 use Rattle.tabled.proofs.Numbers.{one-more, all-of}
 use Rattle.tabled.proofs.put_figures.Statement.{statement}
 use Rattle.tabled.proofs.put_figures.Tie as tie
@@ -20,7 +20,7 @@ use Rattle.tabled.proofs.put_figures.Lts as lts
 abbrev Inv-loop : tie.InvT-loop
 Inv-loop room₀ values i₀ at₀ room i at =
     (i ≤ figureCount) × (at ≡ 3 * i) × (length room ≡ length room₀)
-    × ((v : Sheets) → values ≡ valuesOf (listed v) → Written (flatMap numbersOf (take i (listed v))) room₀ room 0 at)
+    × ((v : Sheets) → values ≡ valuesOf (listed v) → WrittenAt (flatMap numbersIn (take i (listed v))) room₀ room 0 at)
 
 abbrev μ-loop : tie.MeasureT-loop
 μ-loop room₀ values i₀ at₀ room i at = figureCount - i
