@@ -62,8 +62,8 @@ badLength s = eqb (length s) 0 || ltb longest (length s) || not (eqb (length s %
 unfoldable pub badCheck : List ℕ → ℕ → Bool
 badCheck s b = not (eqb (checkSaid s b) (checkDue s b))
 
--- 3: "wrong block number, wrong number of blocks"; "an edition other than 1 or 2, an edition unlike block 0's, or a kind above 4 in edition 1": the edition
--- says which kinds there are
+-- 3: "kind not 1 to" the edition's last, 4 in edition 1 and 5 in edition 2, "wrong block number, wrong number of blocks"; "an edition other than 1 or 2, an edition
+-- unlike block 0's, or a kind above 4 in edition 1"
 unfoldable pub badHeader : List ℕ → ℕ → Bool
 badHeader s b =
     ltb (kindOf s b) 1
@@ -78,14 +78,15 @@ badHeader s b =
 unfoldable pub kindFalls : List ℕ → ℕ → Bool
 kindFalls s b = ltb 0 b && ltb (kindOf s b) (kindOf s (b - 1))
 
--- §1: "kind 4 before a kind below 5", the next block's; "a last block below kind 4"; "a kind above 4 with no kind 4 before it", wherever. With no kind above 4
--- these are 01's "which is kind 4 and not last, or last and not kind 4" (promises/Editions)
+-- §1, in place of 01's "which is kind 4 and not last, or last and not kind 4", which it says where no kind is above 4 (promises/Editions):
+-- "kind 4 before a kind below 5", the next block's
 unfoldable pub lowBehind : List ℕ → ℕ → Bool
 lowBehind s b = ltb (b + 1) (blocks s) && (eqb (kindOf s b) parametersKind && leb (kindOf s (b + 1)) parametersKind)
 
 abbrev pub isLast : List ℕ → ℕ → Bool
 isLast s b = eqb (b + 1) (blocks s)
 
+-- "a last block below kind 4"
 unfoldable pub endsLow : List ℕ → ℕ → Bool
 endsLow s b = isLast s b && ltb (kindOf s b) parametersKind
 
@@ -94,6 +95,7 @@ unfoldable pub blocksBelow : ℕ → List ℕ → ℕ → ℕ
 blocksBelow k s zero = 0
 blocksBelow k s (suc n) = blocksBelow k s n + cond (eqb (kindOf s n) k) 1 0
 
+-- "a kind above 4 with no kind 4 before it", anywhere before
 unfoldable pub noneBefore : List ℕ → ℕ → Bool
 noneBefore s b = ltb parametersKind (kindOf s b) && eqb (blocksBelow parametersKind s b) 0
 

@@ -10,7 +10,7 @@ unfoldable pub sumOf : (List ℕ → ℕ) → List (List ℕ) → ℕ
 sumOf f [] = 0
 sumOf f (r ∷ rs) = f r + sumOf f rs
 
--- the numbers of a stock row: id, unit code, rate, stockAmount, carbon fraction
+-- the numbers of a stock row: id, unit code, rate, amount, carbon fraction
 abbrev pub rate : List ℕ → ℕ
 rate r = getD r 2 0
 
@@ -53,7 +53,7 @@ offsitePart r = areaOf r * (before r - after r) * offsite r * offsiteOxidised r 
 unfoldable pub decayPart : List ℕ → ℕ
 decayPart r = tenYearArea r * (tenYearBefore r - tenYearAfter r) * decay r * 1000 * decayCarbon r
 
--- 5-1: "E = sum of stockAmount x rate x carbon fraction (10^-7 kt C)"
+-- 5-1: "E = sum of amount x rate x carbon fraction (10^-7 kt C)"
 abbrev pub columnE : List ℕ → ℕ
 columnE s = sumOf stockPart (rows 2 s)
 
