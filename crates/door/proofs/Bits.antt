@@ -8,7 +8,7 @@ use borrow.Author.Tests.{lt-ltb, le-ltb}
 use lib.Dec.{T, eqb}
 use lib.Ieee.{Float, binary64, isNan, toBits}
 use lib.ListN.{length}
-use Rattle.form.specs.Ruling.{ruling}
+use Rattle.form.specs.Ruling.{tooShort, ruling}
 use Rattle.form.specs.Bytes.{littleEndian}
 use Rattle.form.specs.Verdict.{rules, rows, verdictOf}
 use Rattle.form.specs.declared.Counts.{Counts}
@@ -16,7 +16,7 @@ use Rattle.form.specs.declared.Ruling.{Ruling}
 use Rattle.form.specs.declared.Ruling.the-variants.{Broken}
 use Rattle.form.specs.declared.Verdict.{Verdict}
 use Rattle.form.specs.declared.Verdict.the-variants as verdict
-use Rattle.form.proofs.Order.{ruled-before, kept-before, one-broken, one-kept}
+use Rattle.form.proofs.Order.{ruled-before, kept-before, one-broken, one-kept, too-short, long-enough}
 use Rattle.form.proofs.Meaning.{refused-ruling}
 use Rattle.form.proofs.Accepted.{accepted-ruling}
 use Rattle.doubles.specs.declared.Doubles.{Doubles}
@@ -25,8 +25,7 @@ use Rattle.doubles.specs.Subtotals.{subtotalsOf, answerBy, answerOf}
 use Rattle.doubles.proofs.Wholes.{no-nan}
 use Rattle.doubles.proofs.Demand.{onsite-demand, offsite-demand, decay-demand}
 use Rattle.rows.specs.Reading.{onFront}
-use Rattle.door.proofs.Rooms.{too-short, long-enough}
-use Rattle.door.specs.Door.{codeOf, wrongCode, tooShort, subtotalRules, byCode, bitsAfter}
+use Rattle.door.specs.Door.{codeOf, wrongCode, subtotalRules, byCode, bitsAfter}
 
 -- what the answer says of the verdict
 refused-by : (s : List ℕ) (v : Verdict) (n p : ℕ) → answerBy s v ≡ Refused n p → v ≡ verdict.Refused n p

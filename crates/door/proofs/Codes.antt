@@ -9,7 +9,7 @@ use mathlib.Core.List.{List, [], _∷_, _++_}
 use native.Mathlib.Omega.{arith}
 use lib.ListN.{length}
 use Rattle.form.specs.Layout.{kinds}
-use Rattle.form.specs.Ruling.{Rule, rule}
+use Rattle.form.specs.Ruling.{Rule, rule, tooShort}
 use Rattle.form.specs.Verdict.{blockRules, rules, verdictBy}
 use Rattle.form.specs.declared.Ruling.{Ruling}
 use Rattle.form.specs.declared.Ruling.the-variants.{Clean, Broken}
@@ -24,7 +24,7 @@ use Rattle.lists.specs.Rules.{badAt, listRules, blocksFrom}
 use Rattle.lists.proofs.Numbers.{good, good-few}
 use Rattle.rows.specs.Writing.{written}
 use Rattle.rows.proofs.Return.{places-from, length-written}
-use Rattle.tabled.specs.Figures.{figuresRoom, figuresAnswer}
+use Rattle.tabled.specs.Figures.{numbersRoom, figuresAnswer}
 use Rattle.door.specs.Door.{codeOf}
 
 rulingIn : Verdict → Ruling
@@ -61,7 +61,7 @@ bounded-bytes s _ _ (this l e h) = (omega arith, omega arith)
 bounded-bytes s n p (later k m) = let f = bytes.few-blocks s (k 0 (omega arith)) in bounded (omega (arith, few-kinds)) n p m
 
 pub figures-small : (s room : List ℕ) {n p : ℕ} → figuresAnswer s room ≡ Broken n p → p < 1000
-figures-small s room e = bounded-then (rules s) (figuresRoom room ∷ []) (bounded-bytes s) (bounded (omega arith)) _ _ (ruling-least e) .1
+figures-small s room e = bounded-then (rules s) (tooShort numbersRoom room ∷ []) (bounded-bytes s) (bounded (omega arith)) _ _ (ruling-least e) .1
 
 module _ (ed : ℕ) (lengths area : List ℕ) where
   -- where 10 is kept, three blocks of a kind at most

@@ -6,7 +6,7 @@ use native.Mathlib.Omega.{arith}
 use borrow.Author.Tests.{lt-ltb, le-ltb}
 use lib.ListN.{length}
 use Rattle.form.specs.Layout.{kinds}
-use Rattle.form.specs.Ruling.{rule, refuse, ruling}
+use Rattle.form.specs.Ruling.{rule, tooShort, refuse, ruling}
 use Rattle.form.specs.Verdict.{rules, verdictBy}
 use Rattle.form.specs.declared.Spot.{Spot}
 use Rattle.form.specs.declared.Ruling.{Ruling}
@@ -14,13 +14,12 @@ use Rattle.form.specs.declared.Ruling.the-variants.{Clean, Broken}
 use Rattle.form.specs.declared.Verdict.{Verdict}
 use Rattle.form.specs.declared.Verdict.the-variants.{Accepted, Refused}
 use Rattle.form.proofs.Search.{first-zero, first-found, first-same}
-use Rattle.form.proofs.Order.{orRule, ruling-append, ruled, ruling-least}
+use Rattle.form.proofs.Order.{orRule, ruling-append, ruled, too-short, ruling-least}
 use Rattle.form.proofs.EachKind.{few-kinds}
 use Rattle.rows.specs.Reading as rows
 use Rattle.rows.proofs.Rows.{need-none}
-use Rattle.door.specs.Door.{codeOf, held, tooShort, judgeCall, countsAfter}
+use Rattle.door.specs.Door.{codeOf, held, judgeCall, countsAfter}
 use Rattle.door.specs.Rows.{shortAt, readCall, rowsAfter}
-use Rattle.door.proofs.Rooms.{too-short}
 use Rattle.door.proofs.Codes.{verdict-told, bounded, bounded-then, bounded-bytes}
 
 -- the code and the counts' room by the verdict that the code has at hand

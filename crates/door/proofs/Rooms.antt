@@ -1,25 +1,24 @@
--- Stores at the front of a room, and the last rule, the room itself. Assumes nothing.
+-- Stores at the front of a room, and the ways out of the judge for C. Assumes nothing.
 use Prim.Native.Nat.{ℕ, suc, _+_, _*_, _≤_, _<_}
 use mathlib.Core.Path.{_≡_, refl, ap, _∙_}
 use mathlib.Core.List.{List, [], _∷_}
 use native.Mathlib.Omega.{arith}
-use borrow.Author.Tests.{lt-ltb, le-ltb}
 use lib.ListN.{length, getD, drop, set, length-set, drop-of-length-le}
 use lib.Seq.{sets, drop-cons}
 use native.Mathlib.Numerals.{add-one}
 use Rattle.filing.proofs.Stores.{sets-front}
-use Rattle.form.specs.Ruling.{ruling}
+use Rattle.form.specs.Ruling.{tooShort, ruling}
 use Rattle.form.specs.Layout.{kinds}
 use Rattle.form.specs.Verdict.{rules, verdictOf}
 use Rattle.form.specs.declared.Counts.{Counts}
 use Rattle.form.specs.declared.Ruling.{Ruling}
 use Rattle.form.specs.declared.Ruling.the-variants.{Clean, Broken}
 use Rattle.form.specs.declared.Verdict.the-variants.{Accepted, Refused}
-use Rattle.form.proofs.Order.{ruled-before, kept-before, one-broken, one-kept}
+use Rattle.form.proofs.Order.{ruled-before, kept-before, too-short, long-enough}
 use Rattle.form.proofs.Meaning.{refused-ruling}
 use Rattle.form.proofs.Accepted.{accepted-ruling, accepted-counts}
 use Rattle.rows.specs.Reading.{onFront}
-use Rattle.door.specs.Door.{codeOf, held, tooShort, judgeCall, countsAfter}
+use Rattle.door.specs.Door.{codeOf, held, judgeCall, countsAfter}
 
 -- numbers handed over one by one: the first k stand at the front
 pub record Handing (vs d₀ d : List ℕ) (k : ℕ) : Type 0 where
@@ -36,14 +35,6 @@ handing-more {vs} {d₀} {d} {k} {v} h l e =
 
 pub handing-all : {vs d₀ d : List ℕ} {k : ℕ} → Handing vs d₀ d k → length vs ≤ k → length vs ≤ length d₀ → d ≡ onFront vs d₀
 handing-all {vs} {d₀} {d} {k} h l r = rw (drop-of-length-le vs {i = k} l) at (h .whole) ∙ sets-front d₀ vs r
-
--- the last rule: 9, or none
-pub too-short : (n : ℕ) (room : List ℕ) → length room < n → ruling (tooShort n room ∷ []) ≡ Broken 9 0
-too-short n room l = one-broken 9 _ [] (lt-ltb (length room) n l)
-
-pub long-enough : (n : ℕ) (room : List ℕ) → n ≤ length room → ruling (tooShort n room ∷ []) ≡ Clean
-unfolding ruling
-long-enough n room l = one-kept 9 _ [] (le-ltb (length room) n l)
 
 -- the three ways out of the judge for C
 module _ (s room : List ℕ) where

@@ -18,6 +18,7 @@ use Rattle.rows.specs.Reading.{onFront}
 use Rattle.rows.specs.Writing as rows
 use Rattle.rows.specs.declared.Written.{Written}
 use Rattle.rows.specs.declared.Written.the-variants.{Done, Refused}
+use Rattle.rows.proofs.Return.{done-by}
 use Rattle.door.specs.Door.{codeOf}
 use Rattle.door.specs.Rows.{writeCall, blocksAfter, sizeAfter}
 use Rattle.door.proofs.Codes.{bounded, bounded-then, few-blocks, bounded-lists}
@@ -121,12 +122,8 @@ module _ (ed : ℕ) (lengths area room : List ℕ) where
   unfolding listRules
   clean-small (more k _) = few-blocks ed lengths area k .1
 
-  done-of : (u : Ruling) {n : ℕ} → rows.writtenBy ed (cut lengths area) u ≡ Done n → (u ≡ Clean) × (n ≡ length (rows.written ed (cut lengths area)))
-  done-of Clean e = (refl, cc)
-  done-of (Broken m q) e = let z : _≡_ {A = ℕ} 0 1 = cc in absurd (omega arith)
-
   pub done-small : {n : ℕ} → rows.writeAnswer ed lengths area room ≡ Done n → n ≤ 30720
   unfolding rows.writeAnswer
   done-small e =
-      let d = done-of (ruling (rows.writeRules ed lengths area room)) e in
+      let d = done-by ed (cut lengths area) (ruling (rows.writeRules ed lengths area room)) e in
       omega (arith, clean-small (ruling-clean (d .0)), d .1)

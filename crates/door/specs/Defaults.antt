@@ -1,12 +1,11 @@
 -- "The workbook's default ratios stand with the parameter type itself .. offered to callers and never put in unasked."
 use mathlib.Core.List.{List, [], _∷_}
 use Prim.Native.Nat.{ℕ}
-use Rattle.form.specs.Ruling.{ruling}
+use Rattle.form.specs.Ruling.{tooShort, ruling}
 use Rattle.form.specs.declared.Ruling.{Ruling}
 use Rattle.form.specs.declared.Ruling.the-variants.{Clean, Broken}
 use Rattle.rows.specs.Reading.{onFront}
 use Rattle.worksheets.specs.Sheets.{standard, parameterNumbers}
-use Rattle.door.specs.Door.{tooShort}
 
 -- 9, place 0, where the room has fewer than the six numbers of a parameter row
 abbrev pub defaultsCall : List ℕ → Ruling

@@ -2,10 +2,9 @@
 use Prim.Native.Nat.{ℕ, suc, _+_, _*_}
 use mathlib.Core.Bool.{cond}
 use mathlib.Core.List.{List, [], _∷_, _++_}
-use lib.ListN.{length}
 use lib.Dec.{ltb, eqb}
 use lib.Ieee.{Float, binary64, toBits}
-use Rattle.form.specs.Ruling.{Rule, rule, ruling}
+use Rattle.form.specs.Ruling.{Rule, rule, tooShort, ruling}
 use Rattle.form.specs.Bytes.{littleEndian}
 use Rattle.form.specs.Layout.{kinds}
 use Rattle.form.specs.Verdict.{rules, rows, countsOf, countList}
@@ -23,10 +22,6 @@ use Rattle.form.specs.declared.Ruling.the-variants.{Clean, Broken}
 abbrev pub codeOf : Ruling → ℕ
 codeOf Clean = 0
 codeOf (Broken n p) = 1000 * n + p
-
--- 9: "lent room too short", "C: 0", for n elements
-abbrev pub tooShort : ℕ → List ℕ → Rule
-tooShort n room = rule 9 1 (λ p. ltb (length room) n)
 
 -- what a return holds: its edition, then a count for each kind, so that a count's place is its kind
 abbrev pub held : Counts → List ℕ

@@ -1,17 +1,19 @@
 -- Laws of `ruling`. Assumes nothing.
 --     ruled, kept       by which the code's proof goes from rule to rule; stopped, passed, the same behind rules that are kept
 --     ruling-append     one list of rules tried after another; ruled-before, kept-before, by what the first list says
---     one-broken, one-kept    a rule of one place
+--     one-broken, one-kept    a rule of one place; too-short, long-enough, the last rule, the room itself
 --     ruling-least      what it refuses is broken there, at no lower place, and no earlier rule is broken anywhere; least-ruling, the other way
 --     ruling-clean      where it is clean, no rule is broken anywhere; clean-ruling, the other way
 --     same-ruling       an answer from which its ruling can be found again is one ruling's alone
-use Prim.Native.Nat.{ℕ, _<_}
+use Prim.Native.Nat.{ℕ, _≤_, _<_}
 use mathlib.Core.Path.{_≡_, refl, sym, ap, subst, _∙_}
 use mathlib.Core.Bool.{Bool, true, false}
 use mathlib.Core.List.{List, [], _∷_, _++_}
 use native.Mathlib.Omega.{arith}
+use borrow.Author.Tests.{lt-ltb, le-ltb}
+use lib.ListN.{length}
 use Rattle.form.specs.First.{first}
-use Rattle.form.specs.Ruling.{Rule, rule, refuse, ruling}
+use Rattle.form.specs.Ruling.{Rule, rule, tooShort, refuse, ruling}
 use Rattle.form.proofs.Search.{first-zero, first-more, first-found, first-at, first-none, first-is, first-is-none}
 use Rattle.form.specs.declared.Spot.{Spot}
 use Rattle.form.specs.declared.Spot.the-variants.{At, Nowhere}
@@ -73,6 +75,14 @@ one-broken n q rs e = sym (ruled (rule n 1 (λ p. q)) rs (first-found (λ p. q) 
 
 pub one-kept : (n : ℕ) (q : Bool) (rs : List Rule) → q ≡ false → ruling (rule n 1 (λ p. q) ∷ rs) ≡ ruling rs
 one-kept n q rs e = sym (kept (rule n 1 (λ p. q)) rs (first-more (λ p. q) 0 (first-zero _) e) refl)
+
+-- the last rule: 9, or none
+pub too-short : (n : ℕ) (room : List ℕ) → length room < n → ruling (tooShort n room ∷ []) ≡ Broken 9 0
+too-short n room l = one-broken 9 _ [] (lt-ltb (length room) n l)
+
+pub long-enough : (n : ℕ) (room : List ℕ) → n ≤ length room → ruling (tooShort n room ∷ []) ≡ Clean
+unfolding ruling
+long-enough n room l = one-kept 9 _ [] (le-ltb (length room) n l)
 
 unfoldable pub Kept : Rule → Type 0
 Kept r = (k : ℕ) → k < r .places → r .broken k ≡ false

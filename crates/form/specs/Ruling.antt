@@ -2,6 +2,8 @@
 use Prim.Native.Nat.{ℕ}
 use mathlib.Core.Bool.{Bool}
 use mathlib.Core.List.{List, [], _∷_}
+use lib.ListN.{length}
+use lib.Dec.{ltb}
 use Rattle.form.specs.First.{first}
 use Rattle.form.specs.declared.Spot.{Spot}
 use Rattle.form.specs.declared.Spot.the-variants.{At, Nowhere}
@@ -16,6 +18,10 @@ pub record Rule : Type 0 where
 
 abbrev pub rule : ℕ → ℕ → (ℕ → Bool) → Rule
 rule n m p = record { number = n; places = m; broken = p }
+
+-- 9: "lent room too short", for n elements; place 0
+abbrev pub tooShort : ℕ → List ℕ → Rule
+tooShort n room = rule 9 1 (λ p. ltb (length room) n)
 
 abbrev pub refuse : ℕ → Spot → Ruling → Ruling
 refuse n (At i) rest = Broken n i

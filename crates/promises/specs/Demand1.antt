@@ -5,6 +5,7 @@ use mathlib.Core.Path.{_≡_, refl, ap}
 use mathlib.Core.List.{List, [], _∷_, flatMap}
 use native.Mathlib.Omega.{arith}
 use lib.ListN.{length}
+use Rattle.form.specs.Ruling.{tooShort}
 use Rattle.form.specs.Verdict.{blockRules, rules, rows, countsOf, verdictBy, verdictOf}
 use Rattle.form.specs.declared.Ruling.{Ruling}
 use Rattle.form.specs.declared.Ruling.the-variants.{Broken}
@@ -25,6 +26,7 @@ use Rattle.report.specs.declared.Put.the-variants.{Short}
 use Rattle.tabled.specs.Figures.{figuresRules, figuresAnswer, figuresAfter}
 use Rattle.door.specs.Door.{codeOf, judgeRules, judgeCall, countsAfter, subtotalRules, subtotalCall, bitsAfter}
 use Rattle.door.specs.Rows.{readRulesC, readCall, rowsAfter, writeRulesC, writeCall, blocksAfter, sizeAfter}
+use Rattle.door.specs.Defaults.{defaultsCall, defaultsAfter}
 use Rattle.door.proofs.Codes.{verdict-told, bounded, bounded-then, bounded-bytes, bounded-lists}
 use Rattle.door.proofs.Writing.{written-told}
 use Rattle.steps.proofs.Told.{figures-told, doubles-told}
@@ -107,6 +109,10 @@ c-subtotal-by-order s code room = by-code (bounded-then (rules s) _ (bounded-byt
 pub c-figures-by-order : (s room : List ℕ) → ByOrder (figuresRules s room) (Coded (codeOf (figuresAnswer s room))) (codeOf (figuresAnswer s room) ≡ 0)
 c-figures-by-order s room = by-code (bounded-then (rules s) _ (bounded-bytes s) (bounded (omega arith)))
 
+-- the default parameters: only the room can be too short
+pub c-defaults-by-order : (room : List ℕ) → ByOrder (tooShort 6 room ∷ []) (Coded (codeOf (defaultsCall room))) (codeOf (defaultsCall room) ≡ 0)
+c-defaults-by-order room = by-code (bounded (omega arith))
+
 pub c-read-by-order : (s rows counts : List ℕ) → ByOrder (readRulesC s rows counts) (Coded (codeOf (readCall s rows counts))) (codeOf (readCall s rows counts) ≡ 0)
 c-read-by-order s rows counts = by-code (bounded-then (rules s) _ (bounded-bytes s) (bounded (omega (arith, few-kinds))))
 
@@ -123,6 +129,9 @@ c-subtotal-unchanged s code room n p = refl
 
 pub c-figures-unchanged : (s room : List ℕ) (n p : ℕ) → figuresAfter s room (Broken n p) ≡ room
 c-figures-unchanged s room n p = refl
+
+pub c-defaults-unchanged : (room : List ℕ) (n p : ℕ) → defaultsAfter room (Broken n p) ≡ room
+c-defaults-unchanged room n p = refl
 
 pub c-read-unchanged : (s rows counts : List ℕ) (n p : ℕ) → (rowsAfter s rows (Broken n p) ≡ rows) × (countsAfter s counts (Broken n p) ≡ counts)
 c-read-unchanged s rows counts n p = (refl, refl)

@@ -1,7 +1,7 @@
 -- The return of some rows: its blocks kind by kind, and its length. Assumes nothing.
 --     length-written    as long as the lists' blocks
 --     Storing           the blocks stored kind after kind
---     no-room, .. lists-kept    the answers, from rule to rule
+--     no-room, .. lists-kept    the answers, from rule to rule; done-by, what an answer that is done comes of
 use Prim.Native.Nat.{ℕ, suc, _+_, _-_, _*_, _/_, _≤_, _<_}
 use mathlib.Core.Path.{_≡_, refl, sym, ap, _∙_}
 use mathlib.Core.List.{List, [], _∷_, _++_, map}
@@ -9,14 +9,14 @@ use native.Mathlib.Numerals.{add-one}
 use native.Mathlib.Omega.{arith}
 use lib.ListN.{length, getD, take, drop, drop-of-length-le}
 use lib.Seq.{sets, length-sets, drop-cons}
-use borrow.Author.Tests.{lt-ltb, le-ltb}
 use Rattle.form.specs.First.{first}
 use Rattle.form.specs.Layout.{kinds}
 use Rattle.form.specs.Ruling.{rule, ruling}
 use Rattle.form.specs.Records.{recordRules}
 use Rattle.form.specs.declared.Spot.the-variants.{At, Nowhere}
+use Rattle.form.specs.declared.Ruling.{Ruling}
 use Rattle.form.specs.declared.Ruling.the-variants.{Clean, Broken}
-use Rattle.form.proofs.Order.{ruled, kept, ruled-before, kept-before, one-broken, one-kept}
+use Rattle.form.proofs.Order.{ruled, kept, ruled-before, kept-before, too-short, long-enough}
 use Rattle.filing.specs.Lists.{Lists, cut, total, blocksOf, filedList, behind, filedFrom, filedLists}
 use Rattle.filing.specs.Written.{inTurn, blockOf, bytesOf, kindBlocks}
 use Rattle.filing.proofs.Stores.{sets-append, sets-front, length-turns}
@@ -128,13 +128,16 @@ module _ (e n : ℕ) (lengths area : List ℕ) (g : Good lengths (length area)) 
 
 -- ---- the answers, from rule to rule
 
+pub done-by : (e : ℕ) (l : Lists) (u : Ruling) {n : ℕ} → writtenBy e l u ≡ Done n → (u ≡ Clean) × (length (written e l) ≡ n)
+done-by e l Clean d = (refl, cc)
+done-by e l (Broken m p) d = let z : _≡_ {A = ℕ} 0 1 = cc in absurd (omega arith)
+
 module _ (e : ℕ) (lengths area room : List ℕ) {n : ℕ} (en : n ≡ length (written e (cut lengths area))) where
   pub no-room : length room < n → Refused 9 0 ≡ answerFrom9 e lengths area room
-  no-room h = ap (writtenBy e (cut lengths area)) (sym (one-broken 9 _ [] (rw (← en) (lt-ltb (length room) n h))))
+  no-room h = ap (writtenBy e (cut lengths area)) (sym (too-short (length (written e (cut lengths area))) room (omega (arith, en))))
 
   pub all-done : n ≤ length room → Done n ≡ answerFrom9 e lengths area room
-  unfolding ruling
-  all-done h = ap Done en ∙ ap (writtenBy e (cut lengths area)) (sym (one-kept 9 _ [] (rw (← en) (le-ltb (length room) n h))))
+  all-done h = ap Done en ∙ ap (writtenBy e (cut lengths area)) (sym (long-enough (length (written e (cut lengths area))) room (omega (arith, en))))
 
   pub on-front : {out : List ℕ} → n ≤ length room → out ≡ sets room 0 (written e (cut lengths area)) → out ≡ bytesAfter e lengths area room (Done n)
   on-front h s = s ∙ sets-front room (written e (cut lengths area)) (omega arith)

@@ -2,8 +2,7 @@
 use Prim.Native.Nat.{ℕ}
 use mathlib.Core.List.{List, [], _∷_, _++_}
 use lib.ListN.{length}
-use lib.Dec.{ltb}
-use Rattle.form.specs.Ruling.{Rule, rule, ruling}
+use Rattle.form.specs.Ruling.{Rule, tooShort, ruling}
 use Rattle.form.specs.Records.{recordRules}
 use Rattle.form.specs.declared.Ruling.{Ruling}
 use Rattle.form.specs.declared.Ruling.the-variants.{Clean, Broken}
@@ -18,9 +17,9 @@ use Rattle.rows.specs.declared.Written.the-variants.{Done, Refused}
 abbrev pub written : ℕ → Lists → List ℕ
 written edition l = bytesOf edition (filedLists l)
 
--- 9: "lent room too short", place 0
+-- room for the whole return
 abbrev pub roomRule : ℕ → Lists → List ℕ → Rule
-roomRule edition l room = rule 9 1 (λ p. ltb (length room) (length (written edition l)))
+roomRule edition l room = tooShort (length (written edition l)) room
 
 abbrev pub writeRules : ℕ → List ℕ → List ℕ → List ℕ → List Rule
 writeRules edition lengths area room = listRules edition lengths area ++ (roomRule edition (cut lengths area) room ∷ [])

@@ -6,18 +6,17 @@ use mathlib.Core.List.{List, [], _∷_, _++_, flatMap}
 use native.Mathlib.Omega.{arith}
 use native.Mathlib.Nat.{zero-add}
 use native.Mathlib.Numerals.{add-one}
-use borrow.Author.Tests.{lt-ltb, le-ltb}
 use lib.ListN.{length, set, take, drop, length-append}
 use lib.Seq.{sets-eq, take-length}
 use lib.IntN.{ℤ, pos, negsuc}
-use Rattle.form.specs.Ruling.{ruling}
+use Rattle.form.specs.Ruling.{tooShort, ruling}
 use Rattle.form.specs.Verdict.{rules, verdictOf}
 use Rattle.form.specs.declared.Counts.{Counts}
 use Rattle.form.specs.declared.Ruling.{Ruling}
 use Rattle.form.specs.declared.Ruling.the-variants.{Clean, Broken}
 use Rattle.form.specs.declared.Verdict.{Verdict}
 use Rattle.form.specs.declared.Verdict.the-variants as verdict
-use Rattle.form.proofs.Order.{ruled-before, kept-before, one-broken, one-kept}
+use Rattle.form.proofs.Order.{ruled-before, kept-before, too-short, long-enough}
 use Rattle.form.proofs.Meaning.{refused-ruling}
 use Rattle.form.proofs.Accepted.{accepted-ruling}
 use Rattle.wide.specs.Numbers.{value, wordsOf}
@@ -31,7 +30,7 @@ use Rattle.worksheets.specs.Sheets.{Sheets, figuresOf}
 use Rattle.worksheets.specs.Answers.{Outcome, worked, refusal, outcomeBy, outcomeOf}
 use Rattle.listed.specs.Listed.{Figure, listed}
 use Rattle.listed.proofs.Laws.{figureAt, counted, flat-next}
-use Rattle.tabled.specs.Figures.{threeOf, numbersIn, figureNumbers, numbersRoom, figuresRoom, figuresAnswer, figuresAfter}
+use Rattle.tabled.specs.Figures.{threeOf, numbersIn, figureNumbers, numbersRoom, figuresAnswer, figuresAfter}
 
 three-sized : (t : Bool) (n : ℕ) → (t ≡ true → 0 < n) → cond t 1 0 ∷ n / 2 ^ 64 ∷ n % 2 ^ 64 ∷ [] ≡ threeOf (sized t n)
 three-sized false n h = refl
@@ -98,19 +97,19 @@ module _ (s room : List ℕ) where
   Out r l = (r ≡ figuresAnswer s room) × (l ≡ figuresAfter s room r)
 
   pub refused-out : (n p : ℕ) → refusal n p ≡ outcomeOf s → Out (Broken n p) room
-  refused-out n p e = (sym (ruled-before (rules s) (figuresRoom room ∷ []) (refused-ruling s n p (refused-verdict s n p e))), refl)
+  refused-out n p e = (sym (ruled-before (rules s) (tooShort numbersRoom room ∷ []) (refused-ruling s n p (refused-verdict s n p e))), refl)
 
   pub short-out : (v : Sheets) → worked v ≡ outcomeOf s → length room < numbersRoom → Out (Broken 9 0) room
   short-out v e l =
       let w = worked-out s v e in
-      (sym (kept-before (rules s) (figuresRoom room ∷ []) (accepted-ruling s (w .counts) (w .accepted)) ∙ one-broken 9 _ [] (lt-ltb (length room) numbersRoom l)), refl)
+      (sym (kept-before (rules s) (tooShort numbersRoom room ∷ []) (accepted-ruling s (w .counts) (w .accepted)) ∙ too-short numbersRoom room l), refl)
 
   pub done-out : (v : Sheets) (l : List ℕ) (n : ℕ) → worked v ≡ outcomeOf s → numbersRoom ≤ length room → WrittenAt (figureNumbers v) room l 0 n → Out Clean l
   unfolding ruling
   done-out v l n e h p =
       let w = worked-out s v e in
       let t = figureNumbers v in (
-        sym (kept-before (rules s) (figuresRoom room ∷ []) (accepted-ruling s (w .counts) (w .accepted)) ∙ one-kept 9 _ [] (le-ltb (length room) numbersRoom h)),
+        sym (kept-before (rules s) (tooShort numbersRoom room ∷ []) (accepted-ruling s (w .counts) (w .accepted)) ∙ long-enough numbersRoom room h),
         p .room
             ∙ sets-eq t room 0 (omega (arith, numbers-length (listed v), counted v))
             ∙ ap (λ (k : ℕ). t ++ drop k room) (zero-add (length t))

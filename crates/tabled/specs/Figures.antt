@@ -2,9 +2,7 @@
 use Prim.Native.Nat.{ℕ, suc, _*_, _/_, _%_, _^_}
 use mathlib.Core.List.{List, [], _∷_, _++_, flatMap}
 use lib.IntN.{ℤ, pos, negsuc}
-use lib.ListN.{length}
-use lib.Dec.{ltb}
-use Rattle.form.specs.Ruling.{Rule, rule, ruling}
+use Rattle.form.specs.Ruling.{Rule, tooShort, ruling}
 use Rattle.form.specs.Verdict.{rules}
 use Rattle.form.specs.declared.Ruling.{Ruling}
 use Rattle.form.specs.declared.Ruling.the-variants.{Clean, Broken}
@@ -28,13 +26,9 @@ figureNumbers v = flatMap numbersIn (listed v)
 abbrev pub numbersRoom : ℕ
 numbersRoom = 3 * figureCount
 
--- 9: "lent room too short", "C: 0"
-abbrev pub figuresRoom : List ℕ → Rule
-figuresRoom room = rule 9 1 (λ p. ltb (length room) numbersRoom)
-
 -- the return's rules, last the room
 abbrev pub figuresRules : List ℕ → List ℕ → List Rule
-figuresRules s room = rules s ++ (figuresRoom room ∷ [])
+figuresRules s room = rules s ++ (tooShort numbersRoom room ∷ [])
 
 abbrev pub figuresAnswer : List ℕ → List ℕ → Ruling
 figuresAnswer s room = ruling (figuresRules s room)

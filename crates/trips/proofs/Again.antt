@@ -15,11 +15,11 @@ use Rattle.form.specs.Block.{edition}
 use Rattle.form.specs.Ruling.{rule, ruling}
 use Rattle.form.specs.Verdict.{rules, countsOf, countIn, verdictBy, verdictOf}
 use Rattle.form.specs.declared.Counts.{Counts}
-use Rattle.form.specs.declared.Ruling.{Ruling}
-use Rattle.form.specs.declared.Ruling.the-variants.{Clean, Broken}
+use Rattle.form.specs.declared.Ruling.the-variants.{Clean}
 use Rattle.form.specs.declared.Verdict.the-variants.{Accepted}
 use Rattle.form.proofs.Search.{first-is-none}
-use Rattle.form.proofs.Order.{ruling-append, kept, kept-before, one-kept, or-clean}
+use Rattle.form.proofs.Order.{ruling-append, kept, kept-before, long-enough, or-clean}
+use Rattle.form.proofs.Meaning.{clean-of}
 use Rattle.form.proofs.Accepted.{accepted-ruling, counted}
 use Rattle.filing.specs.Lists.{cut, total, rowsIn}
 use Rattle.filing.proofs.Cut.{total-flat}
@@ -28,14 +28,11 @@ use Rattle.lists.specs.Rules.{listRules}
 use Rattle.rows.specs.Reading.{rowsOf, areaTo, outgrown, readRules, readAnswer, onFront, roomAfter, rowLists, lengthsOf}
 use Rattle.rows.specs.Writing.{written, roomRule, writeRules, writtenBy, writeAnswer, bytesAfter}
 use Rattle.rows.specs.declared.Written.the-variants.{Done}
+use Rattle.rows.proofs.Return.{done-by}
 use Rattle.trips.proofs.WriteBack.{lengths-are}
 use Rattle.trips.proofs.RoundTrips.{area-is, accepted-again, edition-again, counts-again, rows-again, clean-again, bytes-again}
 
 -- ---- written, then read
-
-done-by : (ed : ℕ) (lengths area : List ℕ) (u : Ruling) (n : ℕ) → writtenBy ed (cut lengths area) u ≡ Done n → (u ≡ Clean) × (length (written ed (cut lengths area)) ≡ n)
-done-by ed lengths area Clean n e = (refl, cc)
-done-by ed lengths area (Broken m p) n e = let z : _≡_ {A = ℕ} 0 1 = cc in absurd (omega arith)
 
 -- the bytes that a write left at the front of its room
 abbrev pub returned : ℕ → List ℕ → List ℕ → List ℕ → ℕ → List ℕ
@@ -48,7 +45,7 @@ module _ (ed : ℕ) (lengths area room : List ℕ) (n : ℕ) (done : writeAnswer
 
   ended : (ruling (writeRules ed lengths area room) ≡ Clean) × (length w ≡ n)
   unfolding writeAnswer
-  ended = done-by ed lengths area (ruling (writeRules ed lengths area room)) n done
+  ended = done-by ed (cut lengths area) (ruling (writeRules ed lengths area room)) done
 
   clean : ruling (listRules ed lengths area) ≡ Clean
   clean = or-clean (ruling (listRules ed lengths area)) _ (sym (ruling-append (listRules ed lengths area) (roomRule ed (cut lengths area) room ∷ [])) ∙ ended .0)
@@ -84,10 +81,6 @@ module _ (ed : ℕ) (lengths area room : List ℕ) (n : ℕ) (done : writeAnswer
 
 -- ---- read, then written
 
-accepted-by : (s : List ℕ) (u : Ruling) (c : Counts) → verdictBy s u ≡ Accepted c → (u ≡ Clean) × (countsOf s ≡ c)
-accepted-by s Clean c e = (refl, cc)
-accepted-by s (Broken n p) c e = let z : _≡_ {A = ℕ} 0 1 = cc in absurd (omega arith)
-
 -- the rows that a read left at the front of its room: as many numbers as its counts say
 abbrev pub leftBehind : List ℕ → List ℕ → Counts → List ℕ
 leftBehind s rows c = take (total (lengthsOf c)) (roomAfter s rows (Accepted c))
@@ -96,9 +89,9 @@ module _ (s rows : List ℕ) (c : Counts) (done : readAnswer s rows ≡ Accepted
   judged : verdictOf s ≡ Accepted c
   unfolding readAnswer verdictOf
   judged =
-      let d = accepted-by s (ruling (readRules s rows)) c done in
+      let d = clean-of s (ruling (readRules s rows)) c done in
       let u = or-clean (ruling (rules s)) _ (sym (ruling-append (rules s) (rule 9 (suc kinds) (outgrown s (length rows)) ∷ [])) ∙ d .0) in
-      ap (verdictBy s) u ∙ ap Accepted (d .1)
+      ap (verdictBy s) u ∙ ap Accepted (sym (d .1))
 
   pub left-is : leftBehind s rows c ≡ areaTo s kinds
   left-is =
@@ -114,7 +107,7 @@ module _ (s rows : List ℕ) (c : Counts) (done : readAnswer s rows ≡ Accepted
     unfolding ruling
     clean-room =
         kept-before (listRules (c .edition) (lengthsOf c) (areaTo s kinds)) (roomRule (c .edition) (cut (lengthsOf c) (areaTo s kinds)) room ∷ []) (clean-again s c judged)
-        ∙ one-kept 9 _ [] (le-ltb (length room) (length (written (c .edition) (cut (lengthsOf c) (areaTo s kinds)))) (rw (ap length same) long))
+        ∙ long-enough (length (written (c .edition) (cut (lengthsOf c) (areaTo s kinds)))) room (rw (ap length same) long)
 
     pub write-done : writeAnswer (c .edition) (lengthsOf c) (leftBehind s rows c) room ≡ Done (length s)
     unfolding writeAnswer

@@ -1,45 +1,34 @@
 -- `lists::rule_records` meets its contract. Assumes nothing.
 use Prim.Native.Nat.{ℕ}
-use mathlib.Core.Path.{_≡_, refl, sym, _∙_}
+use mathlib.Core.Path.{_≡_, refl, sym}
+use mathlib.Core.List.{List}
 use lib.ListN.{drop}
-use Rattle.form.specs.declared.Ruling.{Ruling}
-use Rattle.form.specs.Ruling.{ruling}
+use Rattle.form.specs.Ruling.{Rule, ruling}
 use Rattle.form.specs.Records.{recordRules}
-use Rattle.form.proofs.Order.{ruled, kept}
+use Rattle.form.proofs.Order.{stopped, passed}
 use Rattle.filing.specs.Lists.{cut, filedLists}
-use native.Mathlib.Omega.{arith}
 use borrow.Author.Needs.{needs}
 use Rattle.lists.proofs.rule_records.Statement.{statement}
 use Rattle.lists.proofs.rule_records.Tie as tie
 
--- the ruling of the rules from one on
-abbrev from : ℕ → tie.Start → Ruling
-from k c = ruling (drop k (recordRules (c .args .edition) (filedLists (cut (c .args .lengths .now) (c .args .area .now)))))
+-- the rules, and that those from one on decide, where the rules before are kept
+abbrev all : tie.After-enum-told → List Rule
+all c = let a = c .before .before .before .before .before .args in recordRules (a .edition) (filedLists (cut (a .lengths .now) (a .area .now)))
 
-abbrev start1 : tie.After-enum-told → tie.Start
-start1 c = c .before .before .before .before .before
+abbrev Past : ℕ → tie.After-enum-told → Type 0
+Past k c = ruling (all c) ≡ ruling (drop k (all c))
 
-abbrev start2 : tie.After-enum-told2 → tie.Start
-start2 c = start1 (c .before .before .before)
+past1 : (c : tie.After-enum-told) → Past 1 c
+past1 c = passed _ _ refl (c .before .before .first-broken .ensures) (c .enum-told .given .1)
 
-abbrev start3 : tie.After-enum-told3 → tie.Start
-start3 c = start2 (c .before .before .before)
+past2 : (c : tie.After-enum-told2) → Past 2 (c .before .before .before)
+past2 c = passed _ _ (past1 (c .before .before .before)) (c .before .before .first-broken2 .ensures) (c .enum-told2 .given .1)
 
-abbrev start4 : tie.After-enum-told4 → tie.Start
-start4 c = start3 (c .before .before .before)
+past3 : (c : tie.After-enum-told3) → Past 3 (c .before .before .before .before .before .before)
+past3 c = passed _ _ (past2 (c .before .before .before)) (c .before .before .first-broken3 .ensures) (c .enum-told3 .given .1)
 
--- it is the whole ruling, where the rules before are kept
-past1 : (c : tie.After-enum-told) {v : Ruling} → v ≡ from 1 (start1 c) → v ≡ from 0 (start1 c)
-past1 c q = kept _ _ (sym (c .before .before .first-broken .ensures) ∙ c .enum-told .given .1) q
-
-past2 : (c : tie.After-enum-told2) {v : Ruling} → v ≡ from 2 (start2 c) → v ≡ from 0 (start2 c)
-past2 c q = past1 (c .before .before .before) (kept _ _ (sym (c .before .before .first-broken2 .ensures) ∙ c .enum-told2 .given .1) q)
-
-past3 : (c : tie.After-enum-told3) {v : Ruling} → v ≡ from 3 (start3 c) → v ≡ from 0 (start3 c)
-past3 c q = past2 (c .before .before .before) (kept _ _ (sym (c .before .before .first-broken3 .ensures) ∙ c .enum-told3 .given .1) q)
-
-past4 : (c : tie.After-enum-told4) {v : Ruling} → v ≡ from 4 (start4 c) → v ≡ from 0 (start4 c)
-past4 c q = past3 (c .before .before .before) (kept _ _ (sym (c .before .before .first-broken4 .ensures) ∙ c .enum-told4 .given .1) q)
+past4 : (c : tie.After-enum-told4) → Past 4 (c .before .before .before .before .before .before .before .before .before)
+past4 c = passed _ _ (past3 (c .before .before .before)) (c .before .before .first-broken4 .ensures) (c .enum-told4 .given .1)
 
 first-broken-requires : tie.Need-first-broken-requires
 first-broken-requires c κs = search needs
@@ -48,7 +37,7 @@ enum-known-id : tie.Need-enum-known-id
 enum-known-id c = search needs
 
 returns : tie.Need-returns
-returns c = let e = c .before .before .before in ruled _ _ (sym (e .first-broken .ensures) ∙ c .before .id .given .1)
+returns c = let e = c .before .before .before in stopped _ _ refl (e .first-broken .ensures) (c .before .id .given .1)
 
 enum-told : tie.Need-enum-told
 enum-told c = search needs
@@ -60,7 +49,7 @@ enum-known-field : tie.Need-enum-known-field
 enum-known-field c = search needs
 
 returns-2 : tie.Need-returns-2
-returns-2 c = let e = c .before .before .before in past1 (e .before) (ruled _ _ (sym (e .first-broken2 .ensures) ∙ c .before .field .given .1))
+returns-2 c = let e = c .before .before .before in stopped _ _ (past1 (e .before)) (e .first-broken2 .ensures) (c .before .field .given .1)
 
 enum-told-2 : tie.Need-enum-told-2
 enum-told-2 c = search needs
@@ -72,7 +61,7 @@ enum-known-fractions : tie.Need-enum-known-fractions
 enum-known-fractions c = search needs
 
 returns-3 : tie.Need-returns-3
-returns-3 c = let e = c .before .before .before in past2 (e .before) (ruled _ _ (sym (e .first-broken3 .ensures) ∙ c .before .fractions .given .1))
+returns-3 c = let e = c .before .before .before in stopped _ _ (past2 (e .before)) (e .first-broken3 .ensures) (c .before .fractions .given .1)
 
 enum-told-3 : tie.Need-enum-told-3
 enum-told-3 c = search needs
@@ -84,14 +73,14 @@ enum-known-densities : tie.Need-enum-known-densities
 enum-known-densities c = search needs
 
 returns-4 : tie.Need-returns-4
-returns-4 c = let e = c .before .before .before in past3 (e .before) (ruled _ _ (sym (e .first-broken4 .ensures) ∙ c .before .densities .given .1))
+returns-4 c = let e = c .before .before .before in stopped _ _ (past3 (e .before)) (e .first-broken4 .ensures) (c .before .densities .given .1)
 
 enum-told-4 : tie.Need-enum-told-4
 enum-told-4 c = search needs
 
 returns-5 : tie.Need-returns-5
 unfolding ruling
-returns-5 c = past4 c refl
+returns-5 c = sym (past4 c)
 
 pub rule-records-spec : {M : Type 1} → statement M
 rule-records-spec =

@@ -4,7 +4,7 @@ use mathlib.Core.Path.{refl}
 use lib.ListN.{length-set}
 use native.Mathlib.Omega.{arith}
 use borrow.Author.Needs.{needs}
-use Rattle.door.proofs.Rooms.{too-short, long-enough}
+use Rattle.form.proofs.Order.{too-short, long-enough}
 use Rattle.filing.proofs.Stores.{sets-front}
 use Rattle.worksheets.specs.Sheets.{standard, parameterNumbers}
 use Rattle.door.proofs.defaults.niloferq_defaults.Statement.{statement}
