@@ -1,0 +1,166 @@
+//! Numbers 5 to 8: the ids, and each record by its fields.
+
+use super::{four, two, used_records, Block, Record, Refusal, RECORDS_PER_BLOCK};
+use super::{ABANDONED, CONVERSION, HARVEST, PARAMETERS, STOCK};
+
+/// Which of the numbers 6, 7 and 8 a record is at fault with.
+#[derive(Clone, Copy, PartialEq, Eq)]
+struct Faults {
+    limit: bool,
+    fractions: bool,
+    after: bool,
+}
+
+/// The first place of each of the numbers 6, 7 and 8.
+type FirstPlaces = [Option<u32>; 3];
+
+/// Numbers 5 to 8. Only tried when 1 to 4 are clean, so the blocks of one kind
+/// stand together and every count is good.
+pub(super) fn records_hold(blocks: &[Block]) -> Result<(), Refusal> {
+    let mut first: FirstPlaces = [None; 3];
+    let mut kind_before = 0;
+    let mut least_id = 0;
+    for (b, block) in blocks.iter().enumerate() {
+        let kind = block[0];
+        if kind != kind_before {
+            // "An id not above the id before it, same kind": the first record
+            // of a kind has none before it, and zero is an id like any other.
+            // The blocks of one kind go on with the ids of the one before.
+            kind_before = kind;
+            least_id = 0;
+        }
+        let records = used_records(block, usize::from(block[1]));
+        let place = (RECORDS_PER_BLOCK * b) as u32;
+        if kind != PARAMETERS {
+            // Parameters have "zero 4" in the place of an id.
+            ids_rise(records, place, &mut least_id)?;
+        }
+        match kind {
+            CONVERSION => note(records, place, conversion_faults, &mut first),
+            STOCK => note(records, place, stock_faults, &mut first),
+            HARVEST => note(records, place, harvest_faults, &mut first),
+            ABANDONED => note(records, place, abandoned_faults, &mut first),
+            _ => note(records, place, parameter_faults, &mut first),
+        }
+    }
+    match (6..).zip(first).find_map(|(n, place)| Some((n, place?))) {
+        None => Ok(()),
+        Some((number, place)) => Err(Refusal { number, place }),
+    }
+}
+
+/// Number 5. No lower number is left and places only rise, so the first fault
+/// is the answer. `least_id` is one more than the id before, in a wider word
+/// because 2^32 - 1 is a good id.
+fn ids_rise(records: &[Record], place: u32, least_id: &mut u64) -> Result<(), Refusal> {
+    for (record, place) in records.iter().zip(place..) {
+        let id = u64::from(four(record, 0));
+        if id < *least_id {
+            return Err(Refusal { number: 5, place });
+        }
+        *least_id = id + 1;
+    }
+    Ok(())
+}
+
+fn note(
+    records: &[Record],
+    place: u32,
+    faults_of: impl Fn(&Record) -> Faults,
+    first: &mut FirstPlaces,
+) {
+    for (record, place) in records.iter().zip(place..) {
+        let faults = faults_of(record);
+        if faults.limit | faults.fractions | faults.after {
+            let found = [faults.limit, faults.fractions, faults.after];
+            for (first, _) in first.iter_mut().zip(found).filter(|(_, found)| *found) {
+                first.get_or_insert(place);
+            }
+        }
+    }
+}
+
+const MOST_AREA: u32 = 1_000_000;
+const MOST_DENSITY: u16 = 10_000;
+const MOST_FRACTION: u16 = 1_000;
+/// A stock's amount, a harvest's F, I and J, and both areas of abandoned land.
+const MOST_AMOUNT: u32 = 10_000_000;
+/// A stock's growth rate, a harvest's G, and both rates of abandoned land.
+const MOST_RATE: u16 = 10_000;
+const LAST_UNIT_CODE: u8 = 1;
+
+/// The `N` numbers of two bytes that begin at `at`.
+fn twos<const N: usize>(record: &Record, at: usize) -> [u16; N] {
+    std::array::from_fn(|i| two(record, at + 2 * i))
+}
+
+fn any_above<const N: usize>(fields: [u16; N], limit: u16) -> bool {
+    fields.iter().fold(false, |any, &f| any | (f > limit))
+}
+
+fn conversion_faults(r: &Record) -> Faults {
+    let [area, ten_year_area] = [four(r, 4), four(r, 24)];
+    let [before, after] = twos(r, 8);
+    let shares: [u16; 6] = twos(r, 12);
+    let [ten_year_before, ten_year_after] = twos(r, 28);
+    let [decay, decay_carbon] = twos(r, 32);
+    let [on_site, _, _, off_site, _, _] = shares;
+    Faults {
+        limit: (area > MOST_AREA)
+            | (ten_year_area > MOST_AREA)
+            | any_above(
+                [before, after, ten_year_before, ten_year_after],
+                MOST_DENSITY,
+            )
+            | any_above(shares, MOST_FRACTION)
+            | any_above([decay, decay_carbon], MOST_FRACTION),
+        // Three numbers of two bytes: their sum needs the wider word.
+        fractions: u32::from(on_site) + u32::from(off_site) + u32::from(decay)
+            > u32::from(MOST_FRACTION),
+        // "after above before, either period"
+        after: (after > before) | (ten_year_after > ten_year_before),
+    }
+}
+
+/// "unit code: 0 land, 1 scattered trees" is a field with limit 1, so another
+/// code is number 6.
+fn stock_faults(r: &Record) -> Faults {
+    only_limit(
+        (r[4] > LAST_UNIT_CODE)
+            | (two(r, 6) > MOST_RATE)
+            | (four(r, 8) > MOST_AMOUNT)
+            | (two(r, 12) > MOST_FRACTION),
+    )
+}
+
+fn harvest_faults(r: &Record) -> Faults {
+    only_limit(
+        (four(r, 4) > MOST_AMOUNT)
+            | (two(r, 8) > MOST_RATE)
+            | (four(r, 12) > MOST_AMOUNT)
+            | (four(r, 16) > MOST_AMOUNT),
+    )
+}
+
+fn parameter_faults(r: &Record) -> Faults {
+    only_limit(any_above(twos::<6>(r, 4), MOST_FRACTION))
+}
+
+/// "in the units and limits of land stock rows", for each age of land.
+fn abandoned_faults(r: &Record) -> Faults {
+    let above = |area: usize| {
+        (four(r, area) > MOST_AMOUNT)
+            | (two(r, area + 4) > MOST_RATE)
+            | (two(r, area + 6) > MOST_FRACTION)
+    };
+    only_limit(above(4) | above(12))
+}
+
+/// Numbers 7 and 8 are about conversion records alone.
+fn only_limit(limit: bool) -> Faults {
+    Faults {
+        limit,
+        fractions: false,
+        after: false,
+    }
+}

@@ -1,0 +1,96 @@
+//! Hand-made returns from the paper. Nothing here uses the maker, so that a
+//! slip in the maker and one in the judge can't hide each other.
+
+mod blocks;
+mod records;
+mod second_edition;
+
+use super::{judge, Counts, Refusal, Verdict};
+
+/// A return under construction: whole blocks, headers right from the start.
+struct Hand(Vec<u8>);
+
+impl Hand {
+    /// One (kind, count) for each block.
+    fn new(blocks: &[(u8, u8)]) -> Self {
+        let mut bytes = vec![0; 512 * blocks.len()];
+        for (b, &(kind, count)) in blocks.iter().enumerate() {
+            let header = [kind, count, b as u8, 0, blocks.len() as u8, 0, 1, 0];
+            bytes[512 * b..512 * b + 8].copy_from_slice(&header);
+        }
+        Hand(bytes)
+    }
+
+    /// As [`Hand::new`], in edition 2.
+    fn second(blocks: &[(u8, u8)]) -> Self {
+        (0..blocks.len()).fold(Self::new(blocks), |hand, b| hand.edition(b, 2))
+    }
+
+    fn edition(mut self, block: usize, edition: u16) -> Self {
+        self.0[512 * block + 6..512 * block + 8].copy_from_slice(&edition.to_le_bytes());
+        self
+    }
+
+    fn at(block: usize, record: usize, offset: usize) -> usize {
+        512 * block + 8 + 40 * record + offset
+    }
+
+    fn two(mut self, block: usize, record: usize, offset: usize, value: u16) -> Self {
+        let at = Self::at(block, record, offset);
+        self.0[at..at + 2].copy_from_slice(&value.to_le_bytes());
+        self
+    }
+
+    fn four(mut self, block: usize, record: usize, offset: usize, value: u32) -> Self {
+        let at = Self::at(block, record, offset);
+        self.0[at..at + 4].copy_from_slice(&value.to_le_bytes());
+        self
+    }
+
+    fn byte(mut self, at: usize, value: u8) -> Self {
+        self.0[at] = value;
+        self
+    }
+
+    /// Ids 0, 1, 2 and so on in the first `count` records of a block.
+    fn ids(mut self, block: usize, count: usize, from: u32) -> Self {
+        for record in 0..count {
+            self = self.four(block, record, 0, from + record as u32);
+        }
+        self
+    }
+
+    fn checked(mut self) -> Vec<u8> {
+        for block in self.0.chunks_mut(512) {
+            let mut sum = 0u32;
+            for (i, &byte) in block[..508].iter().enumerate() {
+                sum += (i as u32 + 1) * u32::from(byte);
+            }
+            block[508..].copy_from_slice(&sum.to_le_bytes());
+        }
+        self.0
+    }
+
+    fn judged(self) -> Verdict {
+        judge(&self.checked())
+    }
+}
+
+/// In edition 1.
+fn accepted([c, s, h, p]: [u32; 4]) -> Verdict {
+    let (edition, rows) = (1, [c, s, h, p, 0]);
+    Verdict::Accepted(Counts { edition, rows })
+}
+
+fn refused(number: u32, place: u32) -> Verdict {
+    Verdict::Refused(Refusal { number, place })
+}
+
+fn lone() -> Hand {
+    Hand::new(&[(4, 1)])
+}
+
+/// One conversion record and the parameters.
+fn one_conversion() -> Hand {
+    Hand::new(&[(1, 1), (4, 1)])
+}
