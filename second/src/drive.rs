@@ -16,6 +16,8 @@ const NUMBERS: usize = 12;
 const EDITIONS: usize = 3;
 /// Of fewer inputs than this, named for a quick try, no shares are asked.
 const ENOUGH_FOR_SHARES: usize = 10_000;
+/// Accepted inputs; the usual run has twice as many.
+const ENOUGH_FOR_COUNTS: usize = 50_000;
 
 /// One comparison.
 pub struct Plan<'a> {
@@ -112,6 +114,12 @@ impl Arguments {
     /// Whether so many inputs are enough to ask that every answer came.
     pub fn shares_due(self, made: usize) -> bool {
         self.inputs.is_none() || made >= ENOUGH_FOR_SHARES
+    }
+
+    /// Whether so many accepted inputs are enough to ask for counts that the
+    /// usual run reaches.
+    pub fn counts_due(self, accepted: usize) -> bool {
+        self.inputs.is_none() || accepted >= ENOUGH_FOR_COUNTS
     }
 
     fn over(self, start: Instant) -> bool {

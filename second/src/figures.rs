@@ -8,20 +8,20 @@ use crate::worst;
 
 /// A random return of this kind.
 pub fn case(rng: &mut Rng) -> Case {
-    let (how, mut rows) = match rng.below(10) {
-        0 | 1 => ("Q near a half", q_near_half(rng)),
-        2 => ("co2 near a half", co2_near_half(rng)),
-        3 | 4 => ("a gas near a half", gas_near_half(rng)),
-        5 => ("large rows", large(rng)),
-        6 => ("rows that round badly", {
+    let (how, mut rows) = match rng.below(13) {
+        0..3 => ("Q near a half", q_near_half(rng)),
+        3 => ("co2 near a half", co2_near_half(rng)),
+        4..8 => ("a gas near a half", gas_near_half(rng)),
+        8 => ("large rows", large(rng)),
+        9 => ("rows that round badly", {
             let (rows, which) = (1 + rng.below(MOST_ROWS), worst::Which::any(rng));
             worst::steep(rng, rows, which)
         }),
-        7 => (
+        10 => (
             "all rows",
             Rows::good_in(rng, 2, [MOST_ROWS; WITH_IDS.len()]),
         ),
-        8 => ("uptake near a half", uptake_near_half(rng)),
+        11 => ("uptake near a half", uptake_near_half(rng)),
         _ => ("all rows", Rows::good(rng, [MOST_ROWS; 3])),
     };
     if rows.edition == 1 && rng.one_in(2) {
@@ -53,9 +53,9 @@ fn uptake_near_half(rng: &mut Rng) -> Rows {
     }
     let last = rows.abandoned.len() - 1;
     rows.abandoned[last][1..].fill(0);
-    let (due, step) = solve(11, beside_half(rng, below), below);
+    let (due, step) = solve(11, near_half(rng, below), below);
     let missing = (due + step - uptake(&rows) % step) % step;
-    let missing = missing + step * u128::from(rng.from_to(0, 99));
+    let missing = missing + step * u128::from(more_steps(rng));
     let age = rng.pick(&[1, 4]);
     rows.abandoned[last][age..age + 3].copy_from_slice(&[missing as u32, 1, 1]);
     rows
@@ -95,9 +95,21 @@ fn p(rows: &Rows) -> i128 {
     100 * e - (100 * k - l) * i128::from(rows.parameters[0][0])
 }
 
-/// A remainder at a half of `below`, or up to two steps beside it.
-fn beside_half(rng: &mut Rng, below: u128) -> u128 {
-    below / 2 + rng.pick(&[0, 0, 0, 1, 2]) - rng.pick(&[0, 0, 0, 1, 2])
+/// A remainder at a half of `below`, or now and then one or two steps beside it.
+fn near_half(rng: &mut Rng, below: u128) -> u128 {
+    let half = below / 2;
+    if rng.one_in(3) {
+        rng.pick(&[half - 2, half - 1, half + 1, half + 2])
+    } else {
+        half
+    }
+}
+
+/// How many whole steps more, which changes the whole number below a half.
+/// Often none, for the smallest halves there are.
+fn more_steps(rng: &mut Rng) -> u32 {
+    let any = rng.from_to(0, 99);
+    rng.pick(&[0, 1, any, any])
 }
 
 /// The whole c below `below` with `times` x c = `rest` modulo `below`, and the
@@ -124,7 +136,7 @@ fn set_carbon(rng: &mut Rng, row: &mut [u32; 15], share: usize, digit: u32, powe
         1 => (1, 1, 1_000),
         _ => (1_000, 1_000, 1_000),
     };
-    SUMMED.into_iter().for_each(|at| row[at] = 0);
+    without_carbon(row);
     let period = usize::from(share == 2);
     row[if period == 0 { 1 } else { 10 }] = digit;
     row[AFTER[period]] = rng.from_to(0, 9_000);
@@ -138,22 +150,29 @@ fn set_carbon(rng: &mut Rng, row: &mut [u32; 15], share: usize, digit: u32, powe
     }
 }
 
-/// Some good rows. The last three conversion rows are for [`bring_carbon`].
+/// Some good rows. The last three conversion rows are for [`bring_carbon`], and
+/// now and then all carbon is theirs, so that small halves come too.
 fn with_spare_rows(rng: &mut Rng) -> Rows {
     let counts = [3 + rng.below(MOST_ROWS - 2), rng.below(4), rng.below(4)];
-    Rows::good(rng, counts)
+    let mut rows = Rows::good(rng, counts);
+    if rng.one_in(3) {
+        rows.conversion.iter_mut().for_each(without_carbon);
+    }
+    rows
+}
+
+fn without_carbon(row: &mut [u32; 15]) {
+    SUMMED.into_iter().for_each(|at| row[at] = 0);
 }
 
 /// Brings the carbon of these shares to `due` modulo `step`, by the last three
 /// rows: every amount below 10^18 has three digits to the base 10^6.
 fn bring_carbon(rng: &mut Rng, rows: &mut Rows, shares: &[usize], (due, step): (u128, u128)) {
     let first = rows.conversion.len() - 3;
-    for row in &mut rows.conversion[first..] {
-        SUMMED.into_iter().for_each(|at| row[at] = 0);
-    }
+    rows.conversion[first..].iter_mut().for_each(without_carbon);
     let there = carbon_sum(rows, shares) % step;
     let mut missing = (due + step - there) % step;
-    missing += step * u128::from(rng.from_to(0, 99));
+    missing += step * u128::from(more_steps(rng));
     for power in 0..3 {
         let digit = (missing / 1_000_000u128.pow(power as u32) % 1_000_000) as u32;
         // Decay has oxidised 1,000, so the lowest digit can't be decay.
@@ -176,7 +195,7 @@ fn bring_carbon(rng: &mut Rng, rows: &mut Rows, shares: &[usize], (due, step): (
 fn co2_near_half(rng: &mut Rng) -> Rows {
     let mut rows = with_spare_rows(rng);
     let below = 3_000_000_000;
-    let due = solve(11, beside_half(rng, below), below);
+    let due = solve(11, near_half(rng, below), below);
     bring_carbon(rng, &mut rows, &[0, 1, 2], due);
     rows
 }
@@ -201,7 +220,7 @@ fn gas_near_half(rng: &mut Rng) -> Rows {
         2 => (11 * ratio(3) * ratio(4), 7_000_000_000_000_000),
         _ => (23 * ratio(3) * ratio(5), 7_000_000_000_000_000),
     };
-    let due = solve(times, beside_half(rng, below), below);
+    let due = solve(times, near_half(rng, below), below);
     bring_carbon(rng, &mut rows, &[0], due);
     rows
 }
@@ -233,14 +252,15 @@ fn q_near_half(rng: &mut Rng) -> Rows {
     let stock = rows.stock.len() - 1;
     rows.stock[stock][2..].copy_from_slice(&[1, 0, 1]);
 
-    let (due, _) = solve(11, beside_half(rng, below), below);
+    let (due, _) = solve(11, near_half(rng, below), below);
     let missing = (due as i128 - p(&rows)).rem_euclid(below as i128) as u32;
     // Steps of n by L until hundreds are left, which E brings.
     let fine = (0..100).find(|&l| (missing + 3_000_000 - l * n % 100).is_multiple_of(100));
     let fine = fine.unwrap_or(0);
     let left = (missing + below as u32 - fine * n % below as u32) % below as u32;
     rows.conversion[last][1] = fine;
-    rows.stock[stock][3] = left / 100;
+    // A step of 3,000,000 in P is 30,000 in E.
+    rows.stock[stock][3] = left / 100 + 30_000 * more_steps(rng);
     rows
 }
 

@@ -1,6 +1,6 @@
 use super::*;
-use crate::judge::{judge, Verdict};
-use crate::sheets::sheets;
+use crate::judge::{check, judge, Verdict};
+use crate::sheets::{exact_tonnes, sheets};
 
 #[test]
 fn all_are_accepted() {
@@ -27,7 +27,7 @@ fn solutions_solve() {
             7_000_000_000_000_000,
         ]);
         let times = u128::from(rng.from_to(1, 23_000_000));
-        let rest = beside_half(&mut rng, below);
+        let rest = near_half(&mut rng, below);
         let (c, step) = solve(times, rest, below);
         let off = (rest + below - times * c % below) % below;
         assert!(
@@ -84,4 +84,22 @@ fn halves_of_uptake_come() {
         half > 300 && small > 100 && beside > 100,
         "{half} {small} {beside}"
     );
+}
+
+/// Exact halves of the gases come at the smallest, 0.5 tonnes of CH4, and with
+/// numerators beyond 64 bits.
+#[test]
+fn halves_of_gases_are_small_and_wide() {
+    let mut rng = Rng::new(57);
+    let [mut small, mut wide] = [0; 2];
+    for _ in 0..2_000 {
+        let bytes = gas_near_half(&mut rng).to_bytes();
+        let exact = exact_tonnes(check(&bytes).expect("good rows"));
+        let halves = exact[3..7].iter().filter(|exact| exact.half().is_some());
+        for half in halves {
+            small += i32::from(2 * half.above == i128::from(half.below));
+            wide += i32::from(half.above > i128::from(u64::MAX));
+        }
+    }
+    assert!(small > 20 && wide > 200, "{small} {wide}");
 }

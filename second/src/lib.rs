@@ -1,7 +1,7 @@
-//! The second program, written from the paper (01) and the request on abandoned
-//! land (02, §1) alone: a judge, a reader and a writer of returns, the worksheets
-//! and the doubles, with makers of good and damaged inputs to compare all of it
-//! with the first program.
+//! The second program, written from the paper (01) and the requests on abandoned
+//! land and on halves (02, §1 and §2) alone: a judge, a reader and a writer of
+//! returns, the worksheets and the doubles, with makers of good and damaged
+//! inputs to compare all of it with the first program.
 //!
 //! It shares no code and no definition with the first program. The unit tests
 //! (`NILOFERQ_LIB= cargo test --lib`) need nothing else; the comparisons and
@@ -18,6 +18,7 @@ pub mod fence;
 #[cfg(not(door_missing))]
 pub mod ffi;
 pub mod figures;
+pub mod halves;
 pub mod inputs;
 pub mod judge;
 pub mod kinds;
@@ -28,6 +29,7 @@ pub mod mix;
 pub mod order_sweeps;
 pub mod reader;
 pub mod rng;
+pub mod rounding;
 pub mod row_sweeps;
 pub mod rowlists;
 pub mod sentences;

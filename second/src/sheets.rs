@@ -10,6 +10,7 @@
 
 use crate::judge::{check, four, two, Checked, Record, Refusal};
 use crate::land::{Conversion, Period, Share};
+use crate::rounding::Tonnes;
 use crate::text::Text;
 
 /// Every figure that isn't a plain sum or turn of another.
@@ -85,11 +86,22 @@ const SHORT: Refusal = Refusal {
     place: 0,
 };
 
-impl Worksheets {
-    pub fn of(checked: Checked) -> Self {
-        let e = checked.records(2).map(grown).sum();
-        let k = checked.records(3).map(taken).sum();
-        let uptake: u64 = checked.records(5).map(regrown).sum();
+/// All that the worksheets take from a return, exact.
+#[derive(Clone, Copy)]
+struct Sums {
+    e: u64,
+    k: u64,
+    l: u64,
+    onsite: u128,
+    offsite: u128,
+    decay: u128,
+    uptake: u64,
+    /// N, CH4, CO, N/C, N2O and NOx.
+    parameters: [u64; 6],
+}
+
+impl Sums {
+    fn of(checked: Checked) -> Self {
         let mut l = 0;
         let [mut onsite, mut offsite, mut decay] = [0u128; 3];
         for row in checked.records(1).map(Conversion::of) {
@@ -98,37 +110,95 @@ impl Worksheets {
             offsite += u128::from(carbon(row.year, row.off_site));
             decay += u128::from(carbon(row.ten_years, row.decay));
         }
-
         let parameters = checked.parameters();
-        let [n, ch4, co, nitrogen, n2o, nox] =
-            [4, 6, 8, 10, 12, 14].map(|at| u64::from(two(parameters, at)));
-        let m = 100 * k as i64 - l as i64;
-        let o = m * n as i64;
-        let p = 100 * e as i64 - o;
-
-        // "from on-site carbon C only"
-        let gas = |times: u64, ratio: u64, below: u64| {
-            nearest(onsite * u128::from(times * ratio), u128::from(below))
-        };
-        Worksheets {
-            e,
-            k,
+        Sums {
+            e: checked.records(2).map(grown).sum(),
+            k: checked.records(3).map(taken).sum(),
             l,
-            m,
-            o,
-            p,
-            q: nearest_signed(11 * p, 3_000_000),
             onsite,
             offsite,
             decay,
-            co2: nearest(11 * (onsite + offsite + decay), 3_000_000_000),
-            ch4: gas(4, ch4, 3_000_000_000_000),
-            co: gas(7, co, 3_000_000_000_000),
-            n2o: gas(11, nitrogen * n2o, 7_000_000_000_000_000),
-            nox: gas(23, nitrogen * nox, 7_000_000_000_000_000),
-            uptake,
+            uptake: checked.records(5).map(regrown).sum(),
+            parameters: [4, 6, 8, 10, 12, 14].map(|at| u64::from(two(parameters, at))),
+        }
+    }
+
+    fn m(&self) -> i64 {
+        100 * self.k as i64 - self.l as i64
+    }
+
+    fn o(&self) -> i64 {
+        self.m() * self.parameters[0] as i64
+    }
+
+    fn p(&self) -> i64 {
+        100 * self.e as i64 - self.o()
+    }
+
+    /// Q, co2, ch4, co, n2o, nox and uptake_co2 before they are rounded.
+    fn tonnes(&self) -> [Tonnes; 7] {
+        let [_, ch4, co, nitrogen, n2o, nox] = self.parameters;
+        // "from on-site carbon C only"
+        let gas = |times: u64, ratio: u64, below: u64| {
+            Tonnes::of(self.onsite as i128 * i128::from(times * ratio), below)
+        };
+        let all = (self.onsite + self.offsite + self.decay) as i128;
+        [
+            Tonnes::of(11 * self.p(), 3_000_000),
+            Tonnes::of(11 * all, 3_000_000_000),
+            gas(4, ch4, 3_000_000_000_000),
+            gas(7, co, 3_000_000_000_000),
+            gas(11, nitrogen * n2o, 7_000_000_000_000_000),
+            gas(23, nitrogen * nox, 7_000_000_000_000_000),
             // In 10^-7 kt C = 10^-4 t C, "then CO2 by 11/3, rounded once".
-            uptake_co2: nearest(11 * u128::from(uptake), 30_000),
+            Tonnes::of(11 * self.uptake, 30_000),
+        ]
+    }
+}
+
+/// The figures that are rounded.
+pub const ROUNDED: [&str; 8] = [
+    "Q",
+    "report",
+    "co2",
+    "ch4",
+    "co",
+    "n2o",
+    "nox",
+    "uptake_co2",
+];
+
+/// Each of [`ROUNDED`] before it is rounded.
+pub fn exact_tonnes(checked: Checked) -> [Tonnes; ROUNDED.len()] {
+    let [q, co2, ch4, co, n2o, nox, uptake_co2] = Sums::of(checked).tonnes();
+    let report = Tonnes::of(-q.above, q.below);
+    [q, report, co2, ch4, co, n2o, nox, uptake_co2]
+}
+
+impl Worksheets {
+    pub fn of(checked: Checked) -> Self {
+        let sums = Sums::of(checked);
+        let [q, rest @ ..] = sums.tonnes().map(Tonnes::rounded);
+        // Only P goes below zero.
+        let [co2, ch4, co, n2o, nox, uptake_co2] = rest.map(i64::unsigned_abs);
+        Worksheets {
+            e: sums.e,
+            k: sums.k,
+            l: sums.l,
+            m: sums.m(),
+            o: sums.o(),
+            p: sums.p(),
+            q,
+            onsite: sums.onsite,
+            offsite: sums.offsite,
+            decay: sums.decay,
+            co2,
+            ch4,
+            co,
+            n2o,
+            nox,
+            uptake: sums.uptake,
+            uptake_co2,
         }
     }
 
@@ -227,22 +297,6 @@ fn carbon(period: Period, share: Share) -> u64 {
         * u64::from(share.fraction)
         * u64::from(share.oxidised)
         * u64::from(share.carbon)
-}
-
-/// To nearest, a half upwards. `below` is even, so its half is whole. Every
-/// answer is at most 2.4 x 10^12.
-fn nearest(above: u128, below: u128) -> u64 {
-    let above = above + below / 2;
-    match (u64::try_from(above), u64::try_from(below)) {
-        // One short division where it is enough.
-        (Ok(above), Ok(below)) => above / below,
-        _ => (above / below) as u64,
-    }
-}
-
-/// "Rounding is to nearest, halves away from zero."
-fn nearest_signed(above: i64, below: i64) -> i64 {
-    (above + above.signum() * (below / 2)) / below
 }
 
 #[cfg(test)]

@@ -78,40 +78,100 @@ fn b_lone_parameters_are_all_zero() {
     assert_eq!(text_of(&wrong[..511]), "refused 1 0\n");
 }
 
-/// (c) and (d), with the neighbours of the half.
+/// E = amount, so P = 100 x amount: P, Q and the report.
+fn with_stock(amount: u32) -> (i64, i64, i64) {
+    let mut rows = zero_parameters();
+    rows.stock = vec![[1, 0, 1, amount, 1]];
+    let figures = figures_of(&rows);
+    (figures.p, figures.q, figures.report())
+}
+
+/// K = F, so P = -100 x F x N.
+fn with_harvest(f: u32) -> (i64, i64, i64) {
+    let mut rows = zero_parameters();
+    rows.harvest = vec![[1, f, 1, 0, 0]];
+    rows.parameters[0][0] = 1;
+    let figures = figures_of(&rows);
+    (figures.p, figures.q, figures.report())
+}
+
+/// (c) and (d) keep their figures: 5.5 has 6 as its even neighbour.
 #[test]
-fn c_d_halves_go_away_from_zero() {
-    // E = amount, so P = 100 x amount.
-    let with_stock = |amount| {
-        let mut rows = zero_parameters();
-        rows.stock = vec![[1, 0, 1, amount, 1]];
-        let figures = figures_of(&rows);
-        (figures.p, figures.q, figures.report())
-    };
+fn c_d_a_half_beside_six() {
     assert_eq!(with_stock(15_000), (1_500_000, 6, -6));
     assert_eq!(with_stock(14_999), (1_499_900, 5, -5));
-    // K = F, so P = -100 x F x N.
-    let with_harvest = |f| {
-        let mut rows = zero_parameters();
-        rows.harvest = vec![[1, f, 1, 0, 0]];
-        rows.parameters[0][0] = 1;
-        let figures = figures_of(&rows);
-        (figures.p, figures.q, figures.report())
-    };
     assert_eq!(with_harvest(15_000), (-1_500_000, -6, 6));
     assert_eq!(with_harvest(14_999), (-1_499_900, -5, 5));
 }
 
+/// "P = 4,500,000 then gives 16, not 17", with the neighbours of the half, and
+/// the same below zero.
+#[test]
+fn halves_of_q_go_to_the_even_neighbour() {
+    assert_eq!(with_stock(44_999), (4_499_900, 16, -16));
+    assert_eq!(with_stock(45_000), (4_500_000, 16, -16));
+    assert_eq!(with_stock(45_001), (4_500_100, 17, -17));
+    assert_eq!(with_harvest(44_999), (-4_499_900, -16, 16));
+    assert_eq!(with_harvest(45_000), (-4_500_000, -16, 16));
+    assert_eq!(with_harvest(45_001), (-4_500_100, -17, 17));
+    // 27.5 and 38.5
+    assert_eq!(with_stock(75_000), (7_500_000, 28, -28));
+    assert_eq!(with_harvest(105_000), (-10_500_000, -38, 38));
+}
+
+/// Off-site carbon of one row: it, R and co2.
+fn with_offsite(area: u32) -> (u128, u128, u64) {
+    let mut rows = zero_parameters();
+    rows.conversion = vec![[1, area, 1, 0, 0, 0, 0, 15, 100, 1000, 0, 0, 0, 0, 0]];
+    let figures = figures_of(&rows);
+    (figures.offsite, figures.r(), figures.co2)
+}
+
 #[test]
 fn e_conversion_carbon_of_a_half() {
-    let with = |area| {
-        let mut rows = zero_parameters();
-        rows.conversion = vec![[1, area, 1, 0, 0, 0, 0, 15, 100, 1000, 0, 0, 0, 0, 0]];
-        let figures = figures_of(&rows);
-        (figures.offsite, figures.r(), figures.co2)
-    };
-    assert_eq!(with(1_000), (1_500_000_000, 1_500_000_000, 6));
-    assert_eq!(with(999), (1_498_500_000, 1_498_500_000, 5));
+    assert_eq!(with_offsite(1_000), (1_500_000_000, 1_500_000_000, 6));
+    assert_eq!(with_offsite(999), (1_498_500_000, 1_498_500_000, 5));
+}
+
+/// 16.5 and 27.5 tonnes of CO2.
+#[test]
+fn halves_of_co2_go_to_the_even_neighbour() {
+    assert_eq!(with_offsite(2_999).2, 16);
+    assert_eq!(with_offsite(3_000).2, 16);
+    assert_eq!(with_offsite(3_001).2, 17);
+    assert_eq!(with_offsite(5_000).2, 28);
+    // R and decay are rounded together: 1.5 x 10^9 each are 11 tonnes, not 12.
+    let mut rows = zero_parameters();
+    rows.conversion = vec![[1, 1_000, 1, 0, 15, 100, 1000, 0, 0, 0, 1_000, 1, 0, 15, 100]];
+    let figures = figures_of(&rows);
+    assert_eq!((figures.r(), figures.decay), (1_500_000_000, 1_500_000_000));
+    assert_eq!(figures.co2, 11);
+}
+
+/// On-site carbon of `area` x 10^9 with these parameters.
+fn with_onsite(area: u32, parameters: [u32; 6]) -> Worksheets {
+    let mut row = [0; 15];
+    row[..7].copy_from_slice(&[1, area, 1, 0, 1_000, 1_000, 1_000]);
+    figures_of(&Rows {
+        conversion: vec![row],
+        parameters: vec![parameters],
+        ..Rows::default()
+    })
+}
+
+/// By hand, each gas at 1, 3, 5 and 7 times its smallest half: 0.5, 3.5, 5.5 and
+/// 11.5 tonnes.
+#[test]
+fn halves_of_gases_go_to_the_even_neighbour() {
+    let times = [1, 3, 5, 7];
+    let ch4 = times.map(|times| with_onsite(times, [0, 375, 0, 0, 0, 0]).ch4);
+    assert_eq!(ch4, [0, 2, 2, 4]);
+    let co = times.map(|times| with_onsite(2 * times, [0, 0, 750, 0, 0, 0]).co);
+    assert_eq!(co, [4, 10, 18, 24]);
+    let n2o = times.map(|times| with_onsite(7 * times, [0, 0, 0, 1_000, 500, 0]).n2o);
+    assert_eq!(n2o, [6, 16, 28, 38]);
+    let nox = times.map(|times| with_onsite(7 * times, [0, 0, 0, 1_000, 0, 500]).nox);
+    assert_eq!(nox, [12, 34, 58, 80]);
 }
 
 #[test]
@@ -213,14 +273,13 @@ fn rooms_are_filled_exactly() {
     }
 }
 
-/// Rounding checked as the paper says it: no other whole number is nearer, and
-/// a half goes away from zero.
+/// Rounding checked as the request says it: no other whole number is nearer,
+/// and at a half it is even.
 #[test]
 fn rounded_is_nearest() {
     let good = |above: i128, below: i128, rounded: i128| {
-        let twice_off = 2 * (rounded.abs() * below - above.abs());
-        let sign = rounded == 0 || (rounded < 0) == (above < 0);
-        sign && twice_off > -below && twice_off <= below
+        let twice_off = 2 * (rounded * below - above).abs();
+        twice_off < below || (twice_off == below && rounded % 2 == 0)
     };
     let mut rng = Rng::new(62);
     let mut halves = 0;
@@ -281,13 +340,17 @@ fn abandoned_land_of_both_ages() {
     assert_eq!(uptake(&[row, other]), (250_300_000, 91_777));
 }
 
-/// 11 x 15,000 / 30,000 = 5.5, and 45,000 is 16.5: halves away from zero.
+/// 11 x 15,000 / 30,000 = 5.5, 45,000 is 16.5 and 75,000 is 27.5: each goes to
+/// its even neighbour.
 #[test]
 fn uptake_of_a_half() {
     assert_eq!(uptake(&[[1, 15_000, 1, 1, 0, 0, 0]]), (15_000, 6));
     assert_eq!(uptake(&[[1, 0, 0, 0, 15_000, 1, 1]]), (15_000, 6));
     assert_eq!(uptake(&[[1, 14_999, 1, 1, 0, 0, 0]]), (14_999, 5));
-    assert_eq!(uptake(&[[1, 40_000, 1, 1, 5_000, 1, 1]]), (45_000, 17));
+    assert_eq!(uptake(&[[1, 40_000, 1, 1, 4_999, 1, 1]]), (44_999, 16));
+    assert_eq!(uptake(&[[1, 40_000, 1, 1, 5_000, 1, 1]]), (45_000, 16));
+    assert_eq!(uptake(&[[1, 40_000, 1, 1, 5_001, 1, 1]]), (45_001, 17));
+    assert_eq!(uptake(&[[1, 70_000, 1, 1, 5_000, 1, 1]]), (75_000, 28));
     // "rounded once": two halves are 11, not 12.
     assert_eq!(uptake(&[[1, 15_000, 1, 1, 15_000, 1, 1]]), (30_000, 11));
     let two = [[1, 15_000, 1, 1, 0, 0, 0], [2, 0, 0, 0, 15_000, 1, 1]];

@@ -1,4 +1,4 @@
--- "Proved as a single table, under one claim about all of it": 01's cases (a) to (j), and three of edition 2, each a whole return with its complete answer, every figure of it.
+-- "Proved as a single table, under one claim about all of it": 01's cases (a) to (j), three of edition 2 and four of halves, each a whole return with its complete answer, every figure of it.
 -- Where the case is about rows, the return is made of them by the definition of writing; where it is about bytes, the bytes stand here.
 use Prim.Native.Nat.{ℕ, zero, suc}
 use mathlib.Core.Path.{_≡_, refl, sym, ap₂, _∙_}
@@ -15,7 +15,7 @@ use Rattle.filing.specs.Lists.{cut, filedList, behind, filedFrom}
 use Rattle.filing.specs.Written.{recordFrom, inTurn, headOf, sealed, recordOn, usedFrom, bodyOf, blockOf, bytesOf}
 use Rattle.lists.specs.Examples.{dayLengths, dayArea}
 use Rattle.rows.specs.Writing.{written}
-use Rattle.wide.specs.Rounding.{settled}
+use Rattle.wide.specs.Rounding.{evenOf, settled}
 use Rattle.totals.specs.Abandoned.{abandonedPart}
 use Rattle.totals.specs.Columns.{sumOf, stockPart, harvestPart, clearedPart, onsitePart, offsitePart, decayPart}
 use Rattle.worksheets.specs.Sheets.{standard, parameterNumbers, Sheet51, Sheet52, Sheet53, Sheet54, stocksOf, conversionOf, gasesOf, abandonedOf}
@@ -113,6 +113,10 @@ land = 1 ∷ 1000 ∷ 680 ∷ 500 ∷ 2000 ∷ 300 ∷ 450 ∷ []
 abbrev with-land : ℕ → List ℕ
 with-land edition = written edition (cut (15 ∷ 5 ∷ 5 ∷ 6 ∷ 7 ∷ []) (dayArea ++ land))
 
+-- an area burned whole, at a difference of 1 and a fraction of 250, and land that was given up, at a growth of 10 and a carbon fraction of 100
+abbrev burned : ℕ → ℕ → List ℕ
+burned area young = written 2 (row 1 area 1 0 250 ∷ [] ∷ [] ∷ defaults ∷ (1 ∷ young ∷ 10 ∷ 100 ∷ 0 ∷ 0 ∷ 0 ∷ []) ∷ [])
+
 abbrev table01 : List Case
 table01 =
     -- (a) "this day"
@@ -164,8 +168,20 @@ table-1 =
     ∷ refused (written 2 ([] ∷ [] ∷ (1 ∷ 30 ∷ 1 ∷ 0 ∷ 0 ∷ []) ∷ [] ∷ [] ∷ [])) 4 0
     ∷ []
 
+-- and of halves, which go to the even neighbour
+abbrev table-2 : List Case
+table-2 =
+    -- "P = 4,500,000 then gives 16, not 17"; and below zero
+    worked-out (grown (1 ∷ 0 ∷ 100 ∷ 45 ∷ 10 ∷ []) []) (sheet51 45000 0 0 (pos 0) (pos 0) (pos 4500000) (pos 16) (negsuc 15)) none52 none53 none54 zeros
+    ∷ worked-out (grown [] (1 ∷ 90 ∷ 1 ∷ 0 ∷ 0 ∷ [])) (sheet51 0 90 0 (pos 9000) (pos 4500000) (negsuc 4499999) (negsuc 15) (pos 16)) none52 none53 none54 zeros
+    -- 0.5 tonnes of CH4 go down to 0, and an uptake of 5.5 up to 6
+    ∷ worked-out (burned 125 15) none51 (sheet52 31250000000 0 31250000000 0 115) (sheet53 0 4 0 0) (sheet54 15000 6) (4763993206503243776 ∷ 0 ∷ 0 ∷ [])
+    -- 1.5 tonnes of CH4 go up to 2, and an uptake of 16.5 down to 16
+    ∷ worked-out (burned 375 45) none51 (sheet52 93750000000 0 93750000000 0 344) (sheet53 2 13 0 0) (sheet54 45000 16) (4770952405757984768 ∷ 0 ∷ 0 ∷ [])
+    ∷ []
+
 abbrev pub table : List Case
-table = table01 ++ table-1
+table = table01 ++ (table-1 ++ table-2)
 
 -- what is to be answered, and what is written beside it
 abbrev dueOf : Case → Complete
@@ -175,16 +191,20 @@ abbrev said : Case → Complete
 said c = c .answer
 
 answered01 : map dueOf table01 ≡ map said table01
-unfolding toBits ofInt mul add onsiteDouble offsiteDouble decayDouble addRows largest computed cut filedList behind filedFrom littleEndian recordFrom inTurn headOf sealed weighed recordOn usedFrom bodyOf blockOf bytesOf rowsBelow rowFrom number settled sumOf stockPart harvestPart clearedPart onsitePart offsitePart decayPart stocksOf conversionOf gasesOf abandonedOf abandonedPart
+unfolding toBits ofInt mul add onsiteDouble offsiteDouble decayDouble addRows largest computed cut filedList behind filedFrom littleEndian recordFrom inTurn headOf sealed weighed recordOn usedFrom bodyOf blockOf bytesOf rowsBelow rowFrom number evenOf settled sumOf stockPart harvestPart clearedPart onsitePart offsitePart decayPart stocksOf conversionOf gasesOf abandonedOf abandonedPart
 answered01 = refl
 
 answered-1 : map dueOf table-1 ≡ map said table-1
-unfolding toBits ofInt mul add onsiteDouble offsiteDouble decayDouble addRows largest computed cut filedList behind filedFrom littleEndian recordFrom inTurn headOf sealed weighed recordOn usedFrom bodyOf blockOf bytesOf rowsBelow rowFrom number settled sumOf stockPart harvestPart clearedPart onsitePart offsitePart decayPart stocksOf conversionOf gasesOf abandonedOf abandonedPart
+unfolding toBits ofInt mul add onsiteDouble offsiteDouble decayDouble addRows largest computed cut filedList behind filedFrom littleEndian recordFrom inTurn headOf sealed weighed recordOn usedFrom bodyOf blockOf bytesOf rowsBelow rowFrom number evenOf settled sumOf stockPart harvestPart clearedPart onsitePart offsitePart decayPart stocksOf conversionOf gasesOf abandonedOf abandonedPart
 answered-1 = refl
+
+answered-2 : map dueOf table-2 ≡ map said table-2
+unfolding toBits ofInt mul add onsiteDouble offsiteDouble decayDouble addRows largest computed cut filedList behind filedFrom littleEndian recordFrom inTurn headOf sealed weighed recordOn usedFrom bodyOf blockOf bytesOf rowsBelow rowFrom number evenOf settled sumOf stockPart harvestPart clearedPart onsitePart offsitePart decayPart stocksOf conversionOf gasesOf abandonedOf abandonedPart
+answered-2 = refl
 
 both : (xs ys : List Case) → map dueOf xs ≡ map said xs → map dueOf ys ≡ map said ys → map dueOf (xs ++ ys) ≡ map said (xs ++ ys)
 both xs ys p q = map-append dueOf xs ys ∙ ap₂ (λ (a b : List Complete). a ++ b) p q ∙ sym (map-append said xs ys)
 
 -- every return of the table has the answer beside it, as the checker computes them
 pub all-answered : map (λ (c : Case). completeOf (c .bytes)) table ≡ map (λ (c : Case). c .answer) table
-all-answered = both table01 table-1 answered01 answered-1
+all-answered = both table01 (table-1 ++ table-2) answered01 (both table-1 table-2 answered-1 answered-2)

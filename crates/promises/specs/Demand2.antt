@@ -1,10 +1,11 @@
 -- DEMAND 2. "Figures are the 1996 Workbook's columns, kept as exact whole numbers and rounded once, at the final tonne. Good rows written as a return read back as
 -- those rows; an accepted return, read and written again, is the same bytes."
 use Prim.Native.Nat.{ℕ, suc, _+_, _-_, _*_, _^_, _<_, _≤_}
-use mathlib.Core.Path.{_≡_, refl}
+use mathlib.Core.Path.{_≡_, refl, subst}
 use mathlib.Core.List.{List}
 use lib.ListN.{length, getD}
-use lib.IntN.{pos, negsuc, negℤ, _-ℤ_, _*ℤ_}
+use lib.Dec.{lit<}
+use lib.IntN.{pos, negℤ, _-ℤ_, _*ℤ_}
 use Rattle.form.specs.Layout.{kinds}
 use Rattle.form.specs.Bytes.{byteAt}
 use Rattle.form.specs.Records.{areaOf, before, after, onsite, onsiteOxidised, onsiteCarbon, offsite, offsiteOxidised, offsiteCarbon, tenYearArea, tenYearBefore, tenYearAfter, decay, decayCarbon}
@@ -16,12 +17,11 @@ use Rattle.rows.specs.Reading.{readAnswer, onFront, roomAfter, lengthsOf}
 use Rattle.rows.specs.Writing.{writeAnswer, bytesAfter}
 use Rattle.rows.specs.declared.Written.the-variants.{Done}
 use Rattle.trips.proofs.Again.{returned, read-accepted, read-edition, read-counts, read-rows, leftBehind, write-done, write-same}
-use Rattle.wide.specs.Rounding.{nearest}
-use Rattle.wide.specs.Signs.{nearestZ}
+use Rattle.wide.proofs.SignLaws.{nearest-turned}
 use Rattle.totals.specs.Columns.{sumOf, rate, stockAmount, stockCarbon, commercial, tonnesPerM3, fuelwood, otherUse, stockPart, harvestPart, clearedPart, onsitePart, offsitePart, decayPart}
 use Rattle.totals.specs.Abandoned.{youngArea, youngRate, youngCarbon, olderArea, olderRate, olderCarbon, abandonedPart}
 use Rattle.worksheets.specs.Sheets.{Sheets, figuresOf, given, stocksOf, conversionOf, gasesOf, abandonedOf}
-use Rattle.steps.proofs.Rounds.{nearest-between}
+use Rattle.promises.specs.Rounding.{Rounded, rounds}
 
 -- "5-1", as 01 has it; the parameter row gives N
 pub record Sheet5-1 (s : List ℕ) (v : Sheets) : Type 0 where
@@ -31,8 +31,9 @@ pub record Sheet5-1 (s : List ℕ) (v : Sheets) : Type 0 where
   pub M : v .stocks .m ≡ pos (100 * v .stocks .k) -ℤ pos (v .stocks .l)
   pub O : v .stocks .o ≡ v .stocks .m *ℤ pos (given s .n)
   pub P : v .stocks .p ≡ pos (100 * v .stocks .e) -ℤ v .stocks .o
-  pub Q : v .stocks .q ≡ nearestZ (pos 11 *ℤ v .stocks .p) 3000000
+  pub Q : Rounded (pos 11 *ℤ v .stocks .p) 3000000 (v .stocks .q)
   pub report : v .stocks .report ≡ negℤ (v .stocks .q)
+  pub report-rounded : Rounded (negℤ (pos 11 *ℤ v .stocks .p)) 3000000 (v .stocks .report)
 
 -- "5-2"
 pub record Sheet5-2 (s : List ℕ) (v : Sheets) : Type 0 where
@@ -40,48 +41,48 @@ pub record Sheet5-2 (s : List ℕ) (v : Sheets) : Type 0 where
   pub offsite : v .conversion .offsite ≡ sumOf (λ r. areaOf r * (before r - after r) * offsite r * offsiteOxidised r * offsiteCarbon r) (rows 1 s)
   pub R : v .conversion .r ≡ v .conversion .onsite + v .conversion .offsite
   pub decay : v .conversion .decay ≡ sumOf (λ r. tenYearArea r * (tenYearBefore r - tenYearAfter r) * decay r * 1000 * decayCarbon r) (rows 1 s)
-  pub CO2 : v .conversion .co2 ≡ nearest (11 * (v .conversion .r + v .conversion .decay)) (3 * 10 ^ 9)
+  pub CO2 : Rounded (pos (11 * (v .conversion .r + v .conversion .decay))) (3 * 10 ^ 9) (pos (v .conversion .co2))
 
 -- "5-3, from on-site carbon only"; the parameter row gives the ratios
 pub record Sheet5-3 (s : List ℕ) (v : Sheets) : Type 0 where
-  pub CH4 : v .gases .ch4 ≡ nearest (4 * v .conversion .onsite * given s .ch4) (3 * 10 ^ 12)
-  pub CO : v .gases .co ≡ nearest (7 * v .conversion .onsite * given s .co) (3 * 10 ^ 12)
-  pub N2O : v .gases .n2o ≡ nearest (11 * v .conversion .onsite * given s .nc * given s .n2o) (7 * 10 ^ 15)
-  pub NOx : v .gases .nox ≡ nearest (23 * v .conversion .onsite * given s .nc * given s .nox) (7 * 10 ^ 15)
+  pub CH4 : Rounded (pos (4 * v .conversion .onsite * given s .ch4)) (3 * 10 ^ 12) (pos (v .gases .ch4))
+  pub CO : Rounded (pos (7 * v .conversion .onsite * given s .co)) (3 * 10 ^ 12) (pos (v .gases .co))
+  pub N2O : Rounded (pos (11 * v .conversion .onsite * given s .nc * given s .n2o)) (7 * 10 ^ 15) (pos (v .gases .n2o))
+  pub NOx : Rounded (pos (23 * v .conversion .onsite * given s .nc * given s .nox)) (7 * 10 ^ 15) (pos (v .gases .nox))
 
 -- 5-4, as the request for it has it: "the sum of the two products over the rows, then CO2 by 11/3, rounded once"
 pub record Sheet5-4 (s : List ℕ) (v : Sheets) : Type 0 where
   pub uptake : v .abandoned .uptake ≡ sumOf (λ r. youngArea r * youngRate r * youngCarbon r + olderArea r * olderRate r * olderCarbon r) (rows 5 s)
-  pub CO2 : v .abandoned .co2 ≡ nearest (11 * v .abandoned .uptake) 30000
+  pub CO2 : Rounded (pos (11 * v .abandoned .uptake)) 30000 (pos (v .abandoned .co2))
 
 -- the figures are the columns: of every list of bytes, so of every accepted return
 pub figures-5-1 : (s : List ℕ) → Sheet5-1 s (figuresOf s)
 unfolding stocksOf sumOf stockPart harvestPart clearedPart
-figures-5-1 s = record { E = refl; K = refl; L = refl; M = refl; O = refl; P = refl; Q = refl; report = refl }
+figures-5-1 s =
+    let x = pos 11 *ℤ figuresOf s .stocks .p in
+    record {
+      E = refl;
+      K = refl;
+      L = refl;
+      M = refl;
+      O = refl;
+      P = refl;
+      Q = rounds x 3000000 (lit< tt);
+      report = refl;
+      report-rounded = subst (Rounded (negℤ x) 3000000) (nearest-turned x 3000000 (lit< tt)) (rounds (negℤ x) 3000000 (lit< tt));
+    }
 
 pub figures-5-2 : (s : List ℕ) → Sheet5-2 s (figuresOf s)
 unfolding conversionOf sumOf onsitePart offsitePart decayPart
-figures-5-2 s = record { onsite = refl; offsite = refl; R = refl; decay = refl; CO2 = refl }
+figures-5-2 s = record { onsite = refl; offsite = refl; R = refl; decay = refl; CO2 = rounds _ _ (lit< tt) }
 
 pub figures-5-3 : (s : List ℕ) → Sheet5-3 s (figuresOf s)
 unfolding gasesOf conversionOf
-figures-5-3 s = record { CH4 = refl; CO = refl; N2O = refl; NOx = refl }
+figures-5-3 s = record { CH4 = rounds _ _ (lit< tt); CO = rounds _ _ (lit< tt); N2O = rounds _ _ (lit< tt); NOx = rounds _ _ (lit< tt) }
 
 pub figures-5-4 : (s : List ℕ) → Sheet5-4 s (figuresOf s)
 unfolding abandonedOf sumOf abandonedPart
-figures-5-4 s = record { uptake = refl; CO2 = refl }
-
--- "Rounding is to nearest, halves away from zero": q is x over d so rounded where d times q is no more than half of d away from x, and at a half above it
-pub record Rounded (x d q : ℕ) : Type 0 where
-  pub reaches : 2 * (d * q) ≤ 2 * x + d
-  pub passes-not : 2 * x + d < 2 * (d * q) + 2 * d
-
-pub nearest-rounds : (x d : ℕ) → 0 < d → Rounded x d (nearest x d)
-nearest-rounds x d h = let b = nearest-between x d h in record { reaches = b .0; passes-not = b .1 }
-
--- below zero the size is rounded, so a half goes away from zero there too
-pub nearest-below : (n d : ℕ) → nearestZ (negsuc n) d ≡ negℤ (pos (nearest (suc n) d))
-nearest-below n d = refl
+figures-5-4 s = record { uptake = refl; CO2 = rounds _ _ (lit< tt) }
 
 -- ---- "Good rows written as a return read back as those rows"
 -- Whatever write answers other than a refusal: the bytes that it left at the front of its room, read to any room that is long enough for the rows, are

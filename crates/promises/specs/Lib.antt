@@ -1,6 +1,7 @@
 -- The front page: what Niloferq promises, in the words and order of its three demands. Read in this order.
 --     Order       what it is that an answer is chosen by a fixed order of rules
 --     Demand1     every input gets its answer, or one refusal by the order; a refusal carries no figures, and nothing lent has changed
+--     Rounding    what it is that a tonne is rounded to the nearest, a half to the even neighbour
 --     Demand2     the figures are the workbook's columns, rounded once; rows written read back, and a return read is written again to the same bytes
 --     Demand3     each subtotal's double is as near as 01 says
 --     Editions    edition 1 returns are read as before
@@ -11,6 +12,7 @@
 -- The worked day and 01's table (a) to (j), which the checker computes, are the crate `cases`; the steps of the proofs are in `steps` and in the proofs/ of the crates that they are about.
 pub mod Order
 pub mod Demand1
+pub mod Rounding
 pub mod Demand2
 pub mod Demand3
 pub mod Editions

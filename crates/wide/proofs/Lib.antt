@@ -1,2 +1,3 @@
 pub mod Laws
 pub mod SignLaws
+pub mod Halves

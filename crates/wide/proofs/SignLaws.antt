@@ -36,6 +36,12 @@ nearest-zero : (d : ℕ) → 0 < d → nearest 0 d ≡ 0
 unfolding settled
 nearest-zero d h = simp (zero-div, zero-mod, lt-ltb 0 d h)
 
+-- a sign turned, the rounded number has the other sign
+pub nearest-turned : (z : ℤ) (d : ℕ) → 0 < d → nearestZ (negℤ z) d ≡ negℤ (nearestZ z d)
+nearest-turned (pos zero) d h = rw (nearest-zero d h)
+nearest-turned (pos (suc n)) d h = refl
+nearest-turned (negsuc n) d h = sym (negℤ-negℤ (pos (nearest (suc n) d)))
+
 pub sized-nearest : (t : Bool) (n d : ℕ) → 0 < d → sized t (nearest n d) ≡ nearestZ (sized t n) d
 sized-nearest false n d h = refl
 sized-nearest true zero d h = rw (nearest-zero d h)
@@ -62,7 +68,7 @@ sign-sized false n h = refl
 sign-sized true zero h = let z : ⊥ = omega (arith, h refl) in elim z [ ]
 sign-sized true (suc n) h = refl
 
-size-sized : (t : Bool) (n : ℕ) → n ≡ natAbs (sized t n)
+pub size-sized : (t : Bool) (n : ℕ) → n ≡ natAbs (sized t n)
 size-sized false n = refl
 size-sized true zero = refl
 size-sized true (suc n) = refl
@@ -87,6 +93,12 @@ pub signed : {s : Signed} {z : ℤ} → Holds s z → s ≡ signedOf z
 signed {s} {z} h =
     let q = words (record { number = size-is s z h; word = h .word }) in
     λ i. record { below = sign-is s z h i; size = q i }
+
+-- a sign turned leaves the size
+pub size-turned : (z : ℤ) → natAbs (negℤ z) ≡ natAbs z
+size-turned (pos zero) = refl
+size-turned (pos (suc n)) = refl
+size-turned (negsuc n) = refl
 
 -- sizes, for the room that a difference or a product asks
 pub size-minus : (a : ℕ) (z : ℤ) → natAbs (pos a -ℤ z) ≤ a + natAbs z

@@ -2,7 +2,7 @@
 ghost use mathlib.Core.Path.{_≡_};
 ghost use Prim.Native.Nat.{_+_, _*_, _/_, _%_, _^_, _<_};
 ghost use Rattle.wide.specs.Numbers.{value, Is};
-ghost use Rattle.wide.specs.Rounding.{settled, nearest};
+ghost use Rattle.wide.specs.Rounding.{evenOf, settled, nearest};
 use crate::Wide;
 use crate::add;
 use crate::add_word;
@@ -31,16 +31,27 @@ pub fn divide_by(x: Wide, a: u32, b: u32, c: u32) -> Share
     Share { quotient, rest }
 }
 
+// The even one of q and q + 1.
+fn even_of(q: Wide) -> Wide
+    requires { ⌜ value q + 1 < 2 ^ 120 ⌝ }
+    ensures { λ s. ⌜ Is s (evenOf (value q)) ⌝ }
+{
+    add_word(q, q.lo % 2)
+}
+
 // THE rule of rounding, and the only place in the code that knows it.
 pub fn settle(q: Wide, r: Wide, d: Wide) -> Wide
     requires { ⌜ (value q + 1 < 2 ^ 120) × (value r + value r < 2 ^ 120) ⌝ }
     ensures { λ s. ⌜ Is s (settled (value q) (value r) (value d)) ⌝ }
 {
-    if less(add(r, r), d) {
-        q
-    } else {
-        add_word(q, 1)
+    let twice = add(r, r);
+    if less(twice, d) {
+        return q;
     }
+    if less(d, twice) {
+        return add_word(q, 1);
+    }
+    even_of(q)
 }
 
 // One word over a divisor, by one division where that is one word too.

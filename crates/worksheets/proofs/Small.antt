@@ -5,14 +5,14 @@ use mathlib.Core.Bool.{Bool, true, false, cond}
 use mathlib.Core.List.{List}
 use native.Mathlib.Nat.{div-le-self}
 use native.Mathlib.Omega.{arith}
-use lib.Dec.{ltb, lit≤}
+use lib.Dec.{ltb, eqb, lit≤}
 use lib.IntN.{ℤ, pos, negsuc, negℤ, natAbs, _*ℤ_, *ℤ-comm}
 use Rattle.form.specs.Verdict.{verdictOf}
 use Rattle.form.specs.declared.Counts.{Counts}
 use Rattle.form.specs.declared.Verdict.the-variants.{Accepted}
-use Rattle.wide.specs.Rounding.{settled, nearest}
+use Rattle.wide.specs.Rounding.{evenOf, settled, nearest}
 use Rattle.wide.specs.Signs.{nearestZ}
-use Rattle.wide.proofs.SignLaws.{size-minus, size-times}
+use Rattle.wide.proofs.SignLaws.{size-turned, size-minus, size-times}
 use Rattle.totals.proofs.Accepted.{columns-small}
 use Rattle.worksheets.specs.Sheets.{columnM, columnO, columnP, columnQ, Ratios, Sheet51, Sheet52, Sheet53, Sheet54, Sheets, stocksOf, conversionOf, gasesOf, abandonedOf, figuresOf}
 use Rattle.worksheets.specs.declared.sheets.Parameters.{Parameters}
@@ -20,22 +20,23 @@ use Rattle.worksheets.proofs.Accepted.{ratios}
 use Rattle.worksheets.proofs.Sizes.{thousand}
 
 -- a rounded quotient is no more than one above what is divided
-settled-le : (b : Bool) (q : ℕ) → cond b q (q + 1) ≤ q + 1
-settled-le true q = omega arith
-settled-le false q = omega arith
+even-le : (b : Bool) (q : ℕ) → cond b q (q + 1) ≤ q + 1
+even-le true q = omega arith
+even-le false q = omega arith
+
+settled-le : (a b : Bool) (q : ℕ) → cond a q (cond b (q + 1) (evenOf q)) ≤ q + 1
+unfolding evenOf
+settled-le true b q = omega arith
+settled-le false true q = omega arith
+settled-le false false q = even-le (eqb (q % 2) 0) q
 
 nearest-le : (x d : ℕ) → nearest x d ≤ x + 1
 unfolding settled
-nearest-le x d = omega (arith, settled-le (ltb (2 * (x % d)) d) (x / d), div-le-self x d)
-
-abs-neg : (z : ℤ) → natAbs (negℤ z) ≡ natAbs z
-abs-neg (pos zero) = refl
-abs-neg (pos (suc n)) = refl
-abs-neg (negsuc n) = refl
+nearest-le x d = omega (arith, settled-le (ltb (2 * (x % d)) d) (ltb d (2 * (x % d))) (x / d), div-le-self x d)
 
 nearest-abs : (z : ℤ) (d : ℕ) → natAbs (nearestZ z d) ≤ natAbs z + 1
 nearest-abs (pos n) d = nearest-le n d
-nearest-abs (negsuc n) d = omega (arith, abs-neg (pos (nearest (suc n) d)), nearest-le (suc n) d)
+nearest-abs (negsuc n) d = omega (arith, size-turned (pos (nearest (suc n) d)), nearest-le (suc n) d)
 
 -- below 10 ^ 34, and so all the values of a sheet
 abbrev pub Fits : ℕ → Type 0
@@ -63,7 +64,7 @@ stocks-small e k l n he hk hl hn =
     let o : natAbs (columnO (columnM k l) n) < 2 ^ 90 = subst (λ (x : ℕ). x < 2 ^ 90) (sym (size-times (columnM k l) n)) (thousand 80 _ n m hn) in
     let p : natAbs (columnP e (columnO (columnM k l) n)) < 2 ^ 91 = omega (arith, size-minus (100 * e) (columnO (columnM k l) n)) in
     let q = eleven (columnP e (columnO (columnM k l) n)) p in
-    (omega arith, omega arith, omega arith, omega arith, omega arith, omega arith, q, subst Fits (sym (abs-neg (columnQ (columnP e (columnO (columnM k l) n))))) q)
+    (omega arith, omega arith, omega arith, omega arith, omega arith, omega arith, q, subst Fits (sym (size-turned (columnQ (columnP e (columnO (columnM k l) n))))) q)
   where
     eleven : (z : ℤ) → natAbs z < 2 ^ 91 → Fits (natAbs (columnQ z))
     eleven z h = omega (arith, nearest-abs (pos 11 *ℤ z) 3000000, ap natAbs (*ℤ-comm (pos 11) z), size-times z 11)

@@ -4,7 +4,8 @@
 //! `compare_lines [SEED [INPUTS]]`. Every input is asked for with a room of the
 //! text's length, one shorter, none at all and one of any length, and for its
 //! numbers with a room of 57, one shorter or longer, or of any length; all of
-//! our memory is looked at afterwards, the guard behind the room included.
+//! our memory is looked at afterwards, the guard behind the room included. The
+//! exact halves among the figures are counted, and enough of each are due.
 
 #[cfg(door_missing)]
 compile_error!(
@@ -15,6 +16,7 @@ compile_error!(
 mod run {
     use second::drive::{exit, first_of, memory_difference, run, Arguments, Outcome, Plan};
     use second::ffi::lines::{first_figures, first_lines};
+    use second::halves::Halves;
     use second::inputs;
     use second::judge::judge;
     use second::lent::{Lent, Placed};
@@ -29,6 +31,8 @@ mod run {
     const MEMORY: usize = MOST_LENT + GUARD;
     const MOST_NUMBERS: usize = NUMBERS + 9;
     const NUMBER_MEMORY: usize = MOST_NUMBERS + GUARD;
+    /// Of each figure and each way; the usual run has some 2,000.
+    const LEAST_HALVES: usize = 100;
 
     pub fn main() -> ExitCode {
         let Some(arguments) = Arguments::from_command("compare_lines") else {
@@ -41,11 +45,18 @@ mod run {
             often: &[0, 1, 2, 3, 4, 5, 6, 7, 8],
         };
         let mut calls = 0;
+        let mut halves = Halves::default();
         let good = run(&plan, arguments, inputs::with_figures, |case, rng| {
-            try_one(case, rng, &mut calls)
+            let outcome = try_one(case, rng, &mut calls);
+            if outcome.difference.is_none() {
+                halves.note(&case.bytes);
+            }
+            outcome
         });
         println!("{calls} calls, lines and figures, with rooms exact, short by one, empty and of any length");
-        exit(good)
+        halves.print();
+        let due = arguments.counts_due(halves.accepted());
+        exit(good & (!due || halves.reach(LEAST_HALVES)))
     }
 
     fn try_one(case: &Case, rng: &mut Rng, calls: &mut usize) -> Outcome {

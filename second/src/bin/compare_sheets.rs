@@ -3,9 +3,11 @@
 //!
 //! `compare_sheets [SEED [INPUTS]]`, with the program's path in NILOFERQ_SHEETS
 //! and, if it needs one, the command to start it with in NILOFERQ_RUNNER, whose
-//! words are split at spaces. Some inputs are sent in pieces.
+//! words are split at spaces. Some inputs are sent in pieces. The exact halves
+//! among the figures are counted, and each is due.
 
 use second::drive::{exit, memory_difference, run, Arguments, Outcome, Plan};
+use second::halves::Halves;
 use second::inputs;
 use second::judge::judge;
 use second::make::Rows;
@@ -50,10 +52,16 @@ fn main() -> ExitCode {
         least: INPUTS,
         often: &[0, 1, 2, 3, 4, 5, 6, 7, 8],
     };
+    let mut halves = Halves::default();
     let good = run(&plan, arguments, make, |case, rng| {
-        try_one(command(), case, rng)
+        let outcome = try_one(command(), case, rng);
+        if outcome.difference.is_none() {
+            halves.note(&case.bytes);
+        }
+        outcome
     });
-    exit(good)
+    halves.print();
+    exit(good & (arguments.inputs.is_some() || halves.reach(1)))
 }
 
 /// The named lengths first, in every filling; then the request's refusals, and

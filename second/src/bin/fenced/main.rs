@@ -6,7 +6,8 @@
 //! `fenced heap [SEED [INPUTS]]`: each area allocated by itself, for valgrind.
 //! `fenced cross [heap] [before|behind] [read|write]`: touches one byte outside
 //! an area on purpose and must be stopped. Without `heap` that is tried first.
-//! All answers and all memory are compared with the second program's.
+//! All answers and all memory are compared with the second program's, and the
+//! exact halves among the figures are counted; each is due.
 
 #[cfg(door_missing)]
 compile_error!(
@@ -30,6 +31,7 @@ mod run {
     use crate::tally::Tally;
     use second::drive::{exit, Arguments, Input};
     use second::fence::Place;
+    use second::halves::Halves;
     use second::rng::Rng;
     use second::row_sweeps;
     use second::rowlists::{self, RowLists};
@@ -69,6 +71,7 @@ mod run {
             Tally::new("read", &[0, 1, 2, 3, 4, 5, 6, 7, 8, 9]),
             Tally::new("write", &[0, 5, 6, 7, 8, 9, 10]),
         ];
+        let mut halves = Halves::default();
         for index in 0..arguments.inputs.unwrap_or(INPUTS) {
             let mut rng = Rng::for_input(arguments.seed, index as u64);
             let case = any_return(&mut rng);
@@ -103,12 +106,15 @@ mod run {
                     }
                 }
             }
+            // A difference has ended the program before this.
+            halves.note(&case.bytes);
         }
         tallies.iter().for_each(Tally::print);
+        halves.print();
         let calls: usize = tallies.iter().map(Tally::calls).sum();
         println!("fenced: {calls} calls at {places:?}, 0 differences");
         let usual = arguments.inputs.is_none();
-        exit(!usual || tallies.iter().all(Tally::all_came))
+        exit(!usual || (tallies.iter().all(Tally::all_came) & halves.reach(1)))
     }
 
     /// From the comparisons' makers; of the sweeps any, for they are long.
