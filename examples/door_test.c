@@ -105,11 +105,11 @@ static void empty_areas(const uint8_t *day, size_t length) {
     must(niloferq_figures(day, length, NULL, 0) == 9000, "figures: a good return and no room, NULL");
 }
 
-/* The figures of the day with so much taken up by abandoned land. */
-static void must_figure(const uint8_t *bytes, size_t length, uint64_t uptake, uint64_t uptake_co2, const char *what) {
+/* The figures of the day with so much taken up by abandoned land and so many thinner periods. */
+static void must_figure(const uint8_t *bytes, size_t length, uint64_t uptake, uint64_t uptake_co2, uint64_t thinner, const char *what) {
     enum { ROOM = NILOFERQ_FIGURES_ROOM };
     const uint64_t due[NILOFERQ_FIGURES] = {340000000, 775000, 36000000, 41500000, 20750000000, 13250000000, 48583, 48583,
-        32400000000000, 16200000000000, 48600000000000, 40500000000000, 326700, 518, 4536, 4, 129, uptake, uptake_co2};
+        32400000000000, 16200000000000, 48600000000000, 40500000000000, 326700, 518, 4536, 4, 129, uptake, uptake_co2, thinner};
     uint64_t room[ROOM + 2];
     for (int i = 0; i < ROOM + 2; i++) room[i] = 7;
     must(niloferq_figures(bytes, length, room, ROOM - 1) == 9000 && room[0] == 7 && room[ROOM - 2] == 7, "figures: room too short by one");
@@ -157,9 +157,26 @@ static void must_judge(const uint8_t *bytes, size_t length, const shape due, con
 
 static void day_itself(const uint8_t *day, size_t length) {
     must_judge(day, length, DAY, "the day is accepted");
-    must_figure(day, length, 0, 0, "the day's figures, with no abandoned land");
-    must_print(day, length, "n2o 4\nnox 129\nuptake 0\nuptake_co2 0\n");
+    must_figure(day, length, 0, 0, 0, "the day's figures, with no abandoned land");
+    must_print(day, length, "n2o 4\nnox 129\nuptake 0\nuptake_co2 0\nthinner 0\n");
     must_double(day, length);
+}
+
+/* The day with two more conversion rows: grass of 4.9 t/ha turned to a crop of 10, thinner in the one period that it has, and a row that is thinner
+ * in both. They have areas and fractions, and move nothing but the count. */
+static void thinner_rows(void) {
+    static struct rows r;
+    static uint8_t bytes[NILOFERQ_RETURN_ROOM];
+    const shape counts = {1, 3, 1, 1, 1, 0};
+    fill_rows(&r, counts);
+    uint32_t *grass = row_of(&r, CONVERSION, 1), *both = row_of(&r, CONVERSION, 2);
+    grass[2] = 49, grass[3] = 100, grass[11] = 0, grass[12] = 0;
+    both[2] = 0, both[3] = 1, both[11] = 9999, both[12] = 10000;
+    size_t length = written(&r, bytes);
+    must_judge(bytes, length, counts, "rows that are thinner before than after are accepted");
+    must_figure(bytes, length, 0, 0, 3, "their figures");
+    must_print(bytes, length, "n2o 4\nnox 129\nuptake 0\nuptake_co2 0\nthinner 3\n");
+    must_double(bytes, length);
 }
 
 /* The day with abandoned land, by hand. A row takes up 300 x 250 x 500 + 420 x 75 x 450 = 37,500,000 + 14,175,000 = 51,675,000 of
@@ -171,20 +188,20 @@ static void abandoned_land(void) {
     shape counts = {2, 1, 1, 1, 1, 1};
     size_t length = written_as(counts, bytes);
     must_judge(bytes, length, counts, "the day with a row of abandoned land is accepted");
-    must_figure(bytes, length, 51675000, 18948, "its figures");
-    must_print(bytes, length, "n2o 4\nnox 129\nuptake 51675000\nuptake_co2 18948\n");
+    must_figure(bytes, length, 51675000, 18948, 0, "its figures");
+    must_print(bytes, length, "n2o 4\nnox 129\nuptake 51675000\nuptake_co2 18948\nthinner 0\n");
     must_double(bytes, length);
     counts[ABANDONED] = 2;
     length = written_as(counts, bytes);
-    must_figure(bytes, length, 103350000, 37895, "figures: two rows are rounded once");
+    must_figure(bytes, length, 103350000, 37895, 0, "figures: two rows are rounded once");
     counts[ABANDONED] = NILOFERQ_MOST_ROWS;
     fill_rows(&r, counts);
     for (uint32_t i = 0; i < NILOFERQ_MOST_ROWS; i++)
         for (int field = 1; field < NILOFERQ_ABANDONED_NUMBERS; field++) row_of(&r, ABANDONED, i)[field] = LAND_LIMITS[field];
     length = written(&r, bytes);
     must_judge(bytes, length, counts, "the largest rows of abandoned land are accepted");
-    must_figure(bytes, length, 6400000000000000, 2346666666667, "figures: the largest uptake");
-    must_print(bytes, length, "n2o 4\nnox 129\nuptake 6400000000000000\nuptake_co2 2346666666667\n");
+    must_figure(bytes, length, 6400000000000000, 2346666666667, 0, "figures: the largest uptake");
+    must_print(bytes, length, "n2o 4\nnox 129\nuptake 6400000000000000\nuptake_co2 2346666666667\nthinner 0\n");
 }
 
 /* The answer due of a good return's rooms: the counts' first, then the lowest kind whose rows end behind the area. */
@@ -460,8 +477,8 @@ static void lengths_of_kinds(const shape good) {
     must_refuse(&r, sizeof room, 1, 10004, "write: two rows of parameters");
 }
 
-/* Numbers 5 to 8. 13 rows of a kind take two blocks, so stock begins at place 24, harvest at 48, the parameters at 72. */
-static void rules(const shape thirteen) {
+/* Numbers 5 to 7. 13 rows of a kind take two blocks, so stock begins at place 24, harvest at 48, the parameters at 72. */
+static void rules(const shape thirteen, size_t size) {
     static struct rows r;
     fill_rows(&r, thirteen);
     row_of(&r, STOCK, 12)[0] = row_of(&r, STOCK, 11)[0];
@@ -478,11 +495,11 @@ static void rules(const shape thirteen) {
     must_refuse(&r, sizeof room, 1, 6025, "write: a unit code that its byte has no room for");
     fill_rows(&r, thirteen);
     row_of(&r, CONVERSION, 12)[4] = 501;
-    row_of(&r, CONVERSION, 0)[3] = 1001; /* 7 comes before 8 */
+    row_of(&r, CONVERSION, 0)[3] = 1001; /* thinner before than after, which is no fault */
     must_refuse(&r, sizeof room, 1, 7012, "write: fractions above 1,000");
     fill_rows(&r, thirteen);
     row_of(&r, CONVERSION, 11)[12] = 1001;
-    must_refuse(&r, sizeof room, 1, 8011, "write: after above before");
+    must_write(&r, sizeof room, 1, size, "write: after above before");
 }
 
 /* Numbers 5 and 6 of abandoned land, which begins a block behind the parameters, at place 84. */
@@ -530,6 +547,7 @@ int main(int count, char **words) {
     fclose(file);
     empty_areas(day, length);
     day_itself(day, length);
+    thinner_rows();
     abandoned_land();
     reading(day, length);
     writing(day, length);
@@ -539,8 +557,8 @@ int main(int count, char **words) {
     adding_up(ONE_EACH);
     lengths_of_kinds(DAY);
     lengths_of_kinds(ONE_EACH);
-    rules(THIRTEEN_1);
-    rules(THIRTEEN_2);
+    rules(THIRTEEN_1, 7 * 512);
+    rules(THIRTEEN_2, 9 * 512);
     abandoned_rules(THIRTEEN_2);
     defaults();
     printf("door: %u tried, %u wrong\n", tried, wrong);

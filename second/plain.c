@@ -3,7 +3,7 @@
 #include <unistd.h>
 
 int main(void) {
-    static char bytes[6657], text[239];
+    static char bytes[6657], text[249];
     size_t n = 0;
     ssize_t got;
     while (n < sizeof bytes && (got = read(0, bytes + n, sizeof bytes - n)) > 0)

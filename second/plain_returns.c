@@ -93,10 +93,8 @@ static int broken(const uint8_t *bytes, uint32_t n, uint32_t rule, uint32_t b, u
         return b > 0 && bytes[512 * (b - 1)] == kind && four(p) <= four(bytes + 512 * (b - 1) + 448);
     case 6:
         return above(p, kind);
-    case 7:
-        return kind == 1 && two(p + 12) + two(p + 18) + two(p + 32) > 1000;
     default:
-        return kind == 1 && (two(p + 10) > two(p + 8) || two(p + 30) > two(p + 28));
+        return kind == 1 && two(p + 12) + two(p + 18) + two(p + 32) > 1000;
     }
 }
 
@@ -118,7 +116,7 @@ uint32_t plain_judge(const uint8_t *bytes, size_t length, uint32_t counts[6]) {
     }
     for (uint32_t b = 0; b < n; b++)
         if (bad_block(bytes, n, b)) return 4000 + b;
-    for (uint32_t rule = 5; rule <= 8; rule++)
+    for (uint32_t rule = 5; rule <= 7; rule++)
         for (uint32_t b = 0; b < n; b++)
             for (uint32_t r = 0; r < bytes[512 * b + 1]; r++)
                 if (broken(bytes, n, rule, b, r)) return 1000 * rule + 12 * b + r;
@@ -127,6 +125,9 @@ uint32_t plain_judge(const uint8_t *bytes, size_t length, uint32_t counts[6]) {
     for (uint32_t b = 0; b < n; b++) counts[bytes[512 * b]] += bytes[512 * b + 1];
     return 0;
 }
+
+/* Before less after, or 0 where there is more after. */
+static uint32_t difference(const uint8_t *p) { return two(p) > two(p + 2) ? two(p) - two(p + 2) : 0; }
 
 uint32_t plain_subtotal(const uint8_t *bytes, size_t length, uint32_t code, double *room) {
     uint32_t counts[6];
@@ -137,10 +138,10 @@ uint32_t plain_subtotal(const uint8_t *bytes, size_t length, uint32_t code, doub
     for (uint32_t i = 0; i < counts[1]; i++) {
         const uint8_t *p = bytes + 512 * (i / 12) + 8 + 40 * (i % 12);
         if (code == 2) {
-            sum += (double)four(p + 24) * (two(p + 28) - two(p + 30)) * two(p + 32) * 1000 * two(p + 34);
+            sum += (double)four(p + 24) * difference(p + 28) * two(p + 32) * 1000 * two(p + 34);
         } else {
             const uint8_t *q = p + 12 + 6 * code;
-            sum += (double)four(p + 4) * (two(p + 8) - two(p + 10)) * two(q) * two(q + 2) * two(q + 4);
+            sum += (double)four(p + 4) * difference(p + 8) * two(q) * two(q + 2) * two(q + 4);
         }
     }
     *room = sum;

@@ -44,7 +44,7 @@ pub fn subtotal(bytes: &[u8], code: u32, room: &mut [u8]) -> u32 {
     }
 }
 
-/// "Sheets and doubles: 1 to 8 (from C, then 11 and last 9)."
+/// "Sheets and doubles: 1 to 8 (from C, then 11 and last 9)", without 8 (02, §3).
 fn figure(bytes: &[u8], code: u32, room: usize) -> Result<f64, Refusal> {
     let checked = check(bytes)?;
     let row = match code {
@@ -89,7 +89,8 @@ fn decay(row: Conversion) -> f64 {
 
 /// "area times difference, times fraction, times oxidised, times carbon
 /// fraction, multiplied in that order as doubles". The difference of two whole
-/// numbers is the same before and after it becomes a double.
+/// numbers is the same before and after it becomes a double, and one that counts
+/// as 0 goes through the same steps.
 fn carbon(period: Period, share: Share) -> f64 {
     f64::from(period.area)
         * f64::from(period.difference())

@@ -4,6 +4,7 @@
 use crate::rng::Rng;
 use crate::sentences;
 use crate::sweep::Case;
+use crate::thinner::{Sort, Thinner};
 use std::process::ExitCode;
 use std::time::Instant;
 
@@ -12,11 +13,15 @@ const SEED: u64 = 20_260_101;
 const SHOWN: usize = 5;
 /// Refusal numbers go up to 11.
 const NUMBERS: usize = 12;
+/// "8 is never given again, its number isn't reused" (02, §3): it fails a
+/// comparison when it is due, and is a difference when the first program gives it.
+pub const RETIRED: usize = 8;
 /// Editions 1 and 2, and all others as 0.
 const EDITIONS: usize = 3;
 /// Of fewer inputs than this, named for a quick try, no shares are asked.
 const ENOUGH_FOR_SHARES: usize = 10_000;
-/// Accepted inputs; the usual run has twice as many.
+/// Of fewer accepted inputs, where a number of inputs was named, no counts are
+/// asked.
 const ENOUGH_FOR_COUNTS: usize = 50_000;
 
 /// One comparison.
@@ -28,6 +33,8 @@ pub struct Plan<'a> {
     /// The answers (0 for acceptance) due on at least 1 % of the inputs each, and
     /// in each edition on a fifth of that.
     pub often: &'a [u32],
+    /// The fewest accepted inputs of each sort of thinner rows.
+    pub thinner: usize,
 }
 
 /// What came of one input.
@@ -49,6 +56,8 @@ pub trait Input {
     const SENTENCES: &'static [&'static str];
     /// Which of them it meets, when this answer is due.
     fn sentences(&self, answer: u32) -> Vec<usize>;
+    /// Which of its rows are thinner, when it is accepted.
+    fn thinner(&self) -> Sort;
 }
 
 impl Input for Case {
@@ -68,6 +77,10 @@ impl Input for Case {
 
     fn sentences(&self, answer: u32) -> Vec<usize> {
         sentences::of_return(&self.bytes, answer)
+    }
+
+    fn thinner(&self) -> Sort {
+        Sort::of_return(&self.bytes)
     }
 }
 
@@ -128,10 +141,12 @@ impl Arguments {
     }
 }
 
-/// How often each answer was due, in each edition, and each sentence met.
+/// How often each answer was due, in each edition, each sentence met, and each
+/// sort of thinner rows accepted.
 struct Given {
     answers: [[usize; EDITIONS]; NUMBERS],
     sentences: Vec<usize>,
+    thinner: Thinner,
 }
 
 impl Given {
@@ -139,6 +154,7 @@ impl Given {
         Given {
             answers: [[0; EDITIONS]; NUMBERS],
             sentences: vec![0; I::SENTENCES.len()],
+            thinner: Thinner::default(),
         }
     }
 
@@ -148,6 +164,9 @@ impl Given {
         self.answers[(answer / 1000) as usize][edition] += 1;
         for met in input.sentences(answer) {
             self.sentences[met] += 1;
+        }
+        if answer == 0 {
+            self.thinner.note(input.thinner());
         }
     }
 
@@ -169,6 +188,16 @@ impl Given {
         for (sentence, times) in I::SENTENCES.iter().zip(&self.sentences) {
             println!("{sentence}: {times}");
         }
+        self.thinner.print();
+    }
+
+    /// Whether the number that is never given again was due after all.
+    fn retired_came(&self) -> bool {
+        let came = self.answers[RETIRED] != [0; EDITIONS];
+        if came {
+            eprintln!("number {RETIRED} was due, which is never given again");
+        }
+        came
     }
 
     /// Whether every answer came often enough, in each edition too, and every
@@ -231,12 +260,14 @@ pub fn run<I: Input>(
         plan.name
     );
 
-    let mut good = differences == 0 && made > 0;
+    let mut good = differences == 0 && made > 0 && !given.retired_came();
     if arguments.inputs.is_none() && made < plan.least {
         eprintln!("too few inputs: {made}, at least {} are due", plan.least);
         good = false;
     }
-    good & (!arguments.shares_due(made) || given.suffices::<I>(plan.often, made))
+    good &= !arguments.shares_due(made) || given.suffices::<I>(plan.often, made);
+    let thinner = &given.thinner;
+    good & (!arguments.counts_due(thinner.accepted()) || thinner.reach(plan.thinner))
 }
 
 fn show(name: &str, (seed, index): (u64, usize), input: &impl Input, difference: &str) {
@@ -303,6 +334,20 @@ mod tests {
         for wrong in ["x", "5 0", "5 x", "5 9 x", "5 9 1 1"] {
             assert_eq!(parse(wrong), None, "{wrong}");
         }
+    }
+
+    #[test]
+    fn the_retired_number_is_seen() {
+        let case = Case {
+            how: String::new(),
+            bytes: vec![0; 512],
+        };
+        let mut given = Given::new::<Case>();
+        given.note(&case, 7011);
+        given.note(&case, 9000);
+        assert!(!given.retired_came());
+        given.note(&case, 8011);
+        assert!(given.retired_came());
     }
 
     #[test]

@@ -1,7 +1,7 @@
 //! Good returns made for the sake of their figures: on a half and beside it,
 //! at the limits, and with doubles that round badly.
 
-use crate::make::{Rows, AFTER, BEFORE, MOST_ROWS, SUMMED, WITH_IDS};
+use crate::make::{thin, Rows, AFTER, BEFORE, MOST_ROWS, SUMMED, WITH_IDS};
 use crate::rng::Rng;
 use crate::sweep::Case;
 use crate::worst;
@@ -68,9 +68,14 @@ fn uptake(rows: &Rows) -> u128 {
     rows.abandoned.iter().map(row).sum()
 }
 
+/// Before less after, or 0 where there is more after.
+fn counted(row: &[u32; 15], period: usize) -> u32 {
+    row[BEFORE[period]].saturating_sub(row[AFTER[period]])
+}
+
 /// A row's carbon by share: 0 on-site, 1 off-site, 2 decay.
 fn carbon(row: &[u32; 15], share: usize) -> u128 {
-    let difference = |period: usize| row[BEFORE[period]] - row[AFTER[period]];
+    let difference = |period: usize| counted(row, period);
     let factors = match share {
         0 => [row[1], difference(0), row[4], row[5], row[6]],
         1 => [row[1], difference(0), row[7], row[8], row[9]],
@@ -90,7 +95,7 @@ fn p(rows: &Rows) -> i128 {
     let e: i128 = rows.stock.iter().map(|r| wide(r, &[2, 3, 4])).sum();
     let taken = |r: &[u32; 5]| wide(r, &[1, 2]) + 1_000 * (i128::from(r[3]) + i128::from(r[4]));
     let k: i128 = rows.harvest.iter().map(taken).sum();
-    let cleared = |r: &[u32; 15]| i128::from(r[1]) * i128::from(r[2] - r[3]) * i128::from(r[7]);
+    let cleared = |r: &[u32; 15]| i128::from(r[1]) * i128::from(counted(r, 0)) * i128::from(r[7]);
     let l: i128 = rows.conversion.iter().map(cleared).sum();
     100 * e - (100 * k - l) * i128::from(rows.parameters[0][0])
 }
@@ -283,6 +288,10 @@ fn large(rng: &mut Rng) -> Rows {
         if rng.one_in(2) {
             let at = rng.pick(&[1, 2, 5, 6, 8, 9, 10, 11, 14]);
             row[at] -= rng.from_to(0, 3);
+        }
+        if rng.one_in(12) {
+            let period = rng.below(2);
+            thin(rng, row, period);
         }
     }
     for row in &mut rows.stock {

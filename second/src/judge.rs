@@ -1,8 +1,10 @@
-//! The judge of a return: refusal numbers 1 to 8 of the paper (01), in order,
+//! The judge of a return: refusal numbers 1 to 7 of the paper (01), in order,
 //! with edition 2 and its kind 5 from the request on abandoned land (02, §1).
+//! "8 is never given again, its number isn't reused, and 01's order closes over
+//! it" (02, §3).
 //!
 //! "Each number is tried over the whole input before the next, and the lowest
-//! place is given": numbers 1 to 4 are a pass each. The faults of 5 to 8 belong
+//! place is given": numbers 1 to 4 are a pass each. The faults of 5 to 7 belong
 //! to single records and don't lean on each other, so one pass notes the first
 //! place of each, and the lowest number that was noted is given.
 

@@ -43,11 +43,6 @@ trait Layout<const N: usize> {
     fn fractions_hold(_: &[u32; N]) -> bool {
         true
     }
-
-    /// Number 8.
-    fn densities_hold(_: &[u32; N]) -> bool {
-        true
-    }
 }
 
 struct Conversion;
@@ -73,11 +68,6 @@ impl Layout<15> for Conversion {
     /// "on-site + off-site + decay above 1,000"
     fn fractions_hold(row: &[u32; 15]) -> bool {
         row[4].wrapping_add(row[7]).wrapping_add(row[13]) <= SHARE
-    }
-
-    /// "after above before, either period"
-    fn densities_hold(row: &[u32; 15]) -> bool {
-        (row[3] <= row[2]) & (row[12] <= row[11])
     }
 }
 
@@ -131,8 +121,8 @@ impl Layout<7> for Abandoned {
     ];
 }
 
-/// The first place of each of the numbers 5, 6, 7 and 8.
-pub(crate) type FirstPlaces = [Option<usize>; 4];
+/// The first place of each of the numbers 5, 6 and 7.
+pub(crate) type FirstPlaces = [Option<usize>; 3];
 
 /// One kind of rows. All `&[u32]` hold whole rows, one after the other.
 pub struct Kind {
@@ -243,12 +233,7 @@ fn note<const N: usize, L: Layout<N>>(rows: &[u32], place: usize, first: &mut Fi
         // A number too wide for its bytes is above its limit too.
         let fields = row.iter().zip(&L::FIELDS);
         let above = fields.fold(false, |any, (&value, field)| any | (value > field.most));
-        let faults = [
-            fallen,
-            above,
-            !L::fractions_hold(row),
-            !L::densities_hold(row),
-        ];
+        let faults = [fallen, above, !L::fractions_hold(row)];
         if faults.contains(&true) {
             for (first, _) in first.iter_mut().zip(faults).filter(|(_, fault)| *fault) {
                 first.get_or_insert(place);

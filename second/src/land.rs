@@ -12,9 +12,14 @@ pub struct Period {
 }
 
 impl Period {
-    /// Before less after. Number 8 keeps it from going below zero.
+    /// Before less after. A period with after above before "has nothing to burn
+    /// or decay: its difference counts as 0" (02, §3).
     pub fn difference(self) -> u16 {
-        self.before - self.after
+        self.before.saturating_sub(self.after)
+    }
+
+    pub fn is_thinner(self) -> bool {
+        self.after > self.before
     }
 }
 
@@ -62,3 +67,7 @@ impl Conversion {
         }
     }
 }
+
+#[cfg(test)]
+#[path = "land_tests.rs"]
+mod tests;

@@ -1,7 +1,7 @@
 //! The second program, written from the paper (01) and the requests on abandoned
-//! land and on halves (02, §1 and §2) alone: a judge, a reader and a writer of
-//! returns, the worksheets and the doubles, with makers of good and damaged
-//! inputs to compare all of it with the first program.
+//! land, on halves and on thinner grass (02, §1 to §3) alone: a judge, a reader
+//! and a writer of returns, the worksheets and the doubles, with makers of good
+//! and damaged inputs to compare all of it with the first program.
 //!
 //! It shares no code and no definition with the first program. The unit tests
 //! (`NILOFERQ_LIB= cargo test --lib`) need nothing else; the comparisons and
@@ -37,6 +37,7 @@ pub mod sheets;
 pub mod spoil;
 pub mod sweep;
 pub mod text;
+pub mod thinner;
 pub mod timing;
 pub mod worst;
 pub mod writer;

@@ -7,7 +7,7 @@ mod bytes;
 mod good;
 
 pub use bytes::{renumber, repair_check, repair_checks, seal};
-pub use good::{drawn_counts, good_ids};
+pub use good::{drawn_counts, good_ids, thin};
 
 use std::ops::Range;
 

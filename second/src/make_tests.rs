@@ -81,3 +81,32 @@ fn ids_reach_both_ends() {
         .all(|ids| ids.is_sorted_by(|a, b| a < b) && ids.len() == 32));
     assert!(lists.iter().any(|ids| ids[0] == 0 && ids[31] == u32::MAX));
 }
+
+/// Thinner periods are by one, by the most there is and by all sizes between, and
+/// rows with none, with either and with both come in any case.
+#[test]
+fn thinner_rows_come_of_all_sizes() {
+    let mut rng = Rng::new(7);
+    let mut sizes = [0; 6];
+    let mut rows = [[0; 2]; 2];
+    for _ in 0..2_000 {
+        for row in Rows::good(&mut rng, [32, 0, 0]).conversion {
+            let excess = [0, 1].map(|p| row[AFTER[p]].saturating_sub(row[BEFORE[p]]));
+            let [year, ten_years] = excess.map(|excess| usize::from(excess > 0));
+            rows[year][ten_years] += 1;
+            for excess in excess.into_iter().filter(|&excess| excess > 0) {
+                sizes[match excess {
+                    1 => 0,
+                    2..100 => 1,
+                    100..1_000 => 2,
+                    1_000..9_999 => 3,
+                    9_999 => 4,
+                    _ => 5,
+                }] += 1;
+            }
+        }
+    }
+    assert!(sizes.iter().all(|&times| times > 20), "{sizes:?}");
+    let least = rows.iter().flatten().min();
+    assert!(least.is_some_and(|&times| times > 1_000), "{rows:?}");
+}

@@ -58,7 +58,7 @@ fn broken(rng: &mut Rng, mut numbers: Vec<u32>) -> Case {
 }
 
 fn alone(rng: &mut Rng) -> Case {
-    let number = rng.pick(&[1, 2, 2, 3, 3, 4, 4, 4, 5, 5, 6, 6, 7, 7, 7, 8, 8, 8]);
+    let number = rng.pick(&[1, 2, 2, 3, 3, 4, 4, 4, 5, 5, 6, 6, 7, 7, 7]);
     if number == 4 && rng.one_in(3) {
         // Small returns, where a block more or less has room.
         let counts = drawn_counts(rng, |rng| rng.pick(&[0, 1, 5, 12, 13]));
@@ -75,14 +75,14 @@ fn alone(rng: &mut Rng) -> Case {
 /// Two different numbers at places of their own: the lower number shows, from
 /// the lower place or from the higher.
 fn two_numbers(rng: &mut Rng) -> Case {
-    let low = if rng.one_in(20) { 1 } else { rng.from_to(2, 7) };
-    let high = rng.from_to(low + 1, 8);
+    let low = if rng.one_in(20) { 1 } else { rng.from_to(2, 6) };
+    let high = rng.from_to(low + 1, 7);
     broken(rng, vec![low, high])
 }
 
 /// One number at several places, so that the lowest shows.
 fn one_number_often(rng: &mut Rng) -> Case {
-    let number = rng.from_to(2, 8);
+    let number = rng.from_to(2, 7);
     let times = 2 + rng.below(4);
     broken(rng, vec![number; times])
 }
@@ -147,8 +147,8 @@ mod tests {
     #[test]
     fn the_lower_number_shows() {
         let mut rng = Rng::new(31);
-        for low in 5..8 {
-            for high in low + 1..=8 {
+        for low in 5..7 {
+            for high in low + 1..=7 {
                 let mut own = 0;
                 for _ in 0..300 {
                     let bytes = broken(&mut rng, vec![low, high]).bytes;
@@ -163,7 +163,8 @@ mod tests {
 
     #[test]
     fn every_answer_comes_often() {
-        let mut given = [0; 9];
+        // One for each number that is given, 8 no more among them.
+        let mut given = [0; 8];
         for index in 0..20_000 {
             match judge(&case(&mut Rng::for_input(32, index)).bytes) {
                 Verdict::Accepted(_) => given[0] += 1,

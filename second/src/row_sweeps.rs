@@ -124,8 +124,8 @@ fn some_counts(rng: &mut Rng) -> RowCounts {
     drawn_counts(rng, |rng| rng.below(14))
 }
 
-/// Every field of every row with every value. Numbers 7 and 8 may be broken
-/// besides, or instead.
+/// Every field of every row with every value. Number 7 may be broken besides, or
+/// instead.
 fn values(index: usize, rng: &mut Rng) -> RowLists {
     let (which, rest) = (index % VALUES, index / VALUES);
     let (row, field) = (rest % MOST_ROWS, rest / MOST_ROWS);

@@ -9,6 +9,7 @@ use crate::rng::Rng;
 use crate::row_sweeps::{value, VALUES};
 use crate::sentences;
 use crate::spoil::{any_limited, spoil};
+use crate::thinner::Sort;
 use crate::writer::write;
 
 /// An edition to write and an area of rows, kind after kind, with the length of
@@ -63,6 +64,10 @@ impl Input for RowLists {
     fn sentences(&self, answer: u32) -> Vec<usize> {
         sentences::of_writing(self, answer)
     }
+
+    fn thinner(&self) -> Sort {
+        Sort::of_lists(self)
+    }
 }
 
 /// Random rows with their lengths.
@@ -70,7 +75,7 @@ pub fn case(rng: &mut Rng) -> RowLists {
     match rng.below(22) {
         0..5 => RowLists::of("good".to_string(), &Rows::any_good(rng)),
         5..12 => {
-            let number = rng.pick(&[5, 6, 7, 7, 8, 8, 10]);
+            let number = rng.pick(&[5, 6, 7, 7, 10]);
             broken(rng, &[number])
         }
         12 => {
@@ -79,22 +84,22 @@ pub fn case(rng: &mut Rng) -> RowLists {
             made
         }
         13..18 => {
-            let low = rng.pick(&[5, 6, 7, 8, 10]);
-            let high = rng.pick(&[5, 6, 7, 8]);
+            let low = rng.pick(&[5, 6, 7, 10]);
+            let high = rng.pick(&[5, 6, 7]);
             broken(rng, &[low, high])
         }
         18 => {
-            let number = rng.pick(&[5, 6, 7, 8]);
+            let number = rng.pick(&[5, 6, 7]);
             broken(rng, &[number; 4])
         }
         19 | 20 => {
-            let numbers = some_of(rng, &[5, 6, 7, 8], 4);
+            let numbers = some_of(rng, &[5, 6, 7], 4);
             let mut made = broken(rng, &numbers);
             break_edition(rng, &mut made);
             made
         }
         _ => {
-            let numbers = some_of(rng, &[5, 6, 7, 8, 10], 2);
+            let numbers = some_of(rng, &[5, 6, 7, 10], 2);
             broken(rng, &numbers)
         }
     }

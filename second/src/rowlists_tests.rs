@@ -12,9 +12,10 @@ fn every_index_makes_lists() {
         let made = row_sweeps::case(index, &mut Rng::for_input(41, index as u64));
         given[(answer(&made) / 1000) as usize] += 1;
     }
-    for number in [0, 5, 6, 7, 8, 10] {
+    for number in [0, 5, 6, 7, 10] {
         assert!(given[number] > 20, "{given:?}");
     }
+    assert_eq!(given[8], 0, "8 is never given again");
     assert_eq!(given.iter().sum::<usize>(), row_sweeps::size());
 }
 
@@ -29,16 +30,17 @@ fn every_answer_comes_often() {
             places[(answer % 1000) as usize] += 1;
         }
     }
-    for number in [0, 5, 6, 7, 8, 10] {
+    for number in [0, 5, 6, 7, 10] {
         assert!(given[number] > 600, "{given:?}");
     }
+    assert_eq!(given[8], 0, "8 is never given again");
     assert!(places.iter().all(|&times| times > 200), "{places:?}");
 }
 
 #[test]
 fn numbers_broken_alone_are_given() {
     let mut rng = Rng::new(43);
-    for number in [5, 6, 7, 8, 10] {
+    for number in [5, 6, 7, 10] {
         for _ in 0..1_000 {
             let made = broken(&mut rng, &[number]);
             assert_eq!(answer(&made) / 1000, number, "{}", made.how);
@@ -46,7 +48,7 @@ fn numbers_broken_alone_are_given() {
     }
 }
 
-/// By hand: the order 10, 5, 6, 7, 8, and places counted in whole blocks.
+/// By hand: the order 10, 5, 6, 7, and places counted in whole blocks.
 #[test]
 fn order_and_places() {
     let mut rows = Rows {
@@ -60,10 +62,10 @@ fn order_and_places() {
     };
     let judged = |rows: &Rows| answer(&RowLists::of(String::new(), rows));
     assert_eq!(judged(&rows), 0);
+    // After above before is no fault, in either period.
     rows.conversion[12][3] = 10;
-    assert_eq!(judged(&rows), 8012);
     rows.conversion[11][12] = 10;
-    assert_eq!(judged(&rows), 8011);
+    assert_eq!(judged(&rows), 0);
     rows.conversion[12][4] = 999;
     assert_eq!(judged(&rows), 7012);
     rows.parameters[0][5] = 65_536;

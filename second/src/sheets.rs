@@ -1,5 +1,5 @@
 //! Worksheets 5-1, 5-2 and 5-3 of the paper (01) and 5-4 (02, §1), in whole
-//! numbers.
+//! numbers, with the count of thinner periods (02, §3).
 //!
 //! The largest values at the limits say how wide each figure must be:
 //! E 3.2 x 10^15, K 3.84 x 10^12, L 3.2 x 10^14, O 3.84 x 10^17, 11 P
@@ -33,6 +33,7 @@ pub struct Worksheets {
     pub nox: u64,
     pub uptake: u64,
     pub uptake_co2: u64,
+    pub thinner: u64,
 }
 
 /// The worksheets of a return, or its refusal.
@@ -65,7 +66,7 @@ pub fn lines(bytes: &[u8], room: &mut [u8]) -> usize {
 }
 
 /// How many numbers C gets for all figures, three for each.
-pub const NUMBERS: usize = 57;
+pub const NUMBERS: usize = 60;
 
 /// As C asks for the figures: 0 and their numbers at the front of `room`, or
 /// 1,000 times the refusal number plus the place and `room` as it was.
@@ -96,19 +97,22 @@ struct Sums {
     offsite: u128,
     decay: u128,
     uptake: u64,
+    /// "the number of (row, period) pairs with after above before"
+    thinner: u64,
     /// N, CH4, CO, N/C, N2O and NOx.
     parameters: [u64; 6],
 }
 
 impl Sums {
     fn of(checked: Checked) -> Self {
-        let mut l = 0;
+        let [mut l, mut thinner] = [0; 2];
         let [mut onsite, mut offsite, mut decay] = [0u128; 3];
         for row in checked.records(1).map(Conversion::of) {
             l += cleared(row.year) * u64::from(row.off_site.fraction);
             onsite += u128::from(carbon(row.year, row.on_site));
             offsite += u128::from(carbon(row.year, row.off_site));
             decay += u128::from(carbon(row.ten_years, row.decay));
+            thinner += u64::from(row.year.is_thinner()) + u64::from(row.ten_years.is_thinner());
         }
         let parameters = checked.parameters();
         Sums {
@@ -119,6 +123,7 @@ impl Sums {
             offsite,
             decay,
             uptake: checked.records(5).map(regrown).sum(),
+            thinner,
             parameters: [4, 6, 8, 10, 12, 14].map(|at| u64::from(two(parameters, at))),
         }
     }
@@ -199,6 +204,7 @@ impl Worksheets {
             nox,
             uptake: sums.uptake,
             uptake_co2,
+            thinner: sums.thinner,
         }
     }
 
@@ -238,6 +244,7 @@ impl Worksheets {
             above(self.nox),
             above(self.uptake),
             above(self.uptake_co2),
+            above(self.thinner),
         ]
     }
 
@@ -263,6 +270,7 @@ impl Worksheets {
         text.line("nox ", self.nox);
         text.line("uptake ", self.uptake);
         text.line("uptake_co2 ", self.uptake_co2);
+        text.line("thinner ", self.thinner);
     }
 }
 
@@ -286,7 +294,7 @@ fn regrown(r: &Record) -> u64 {
     age(4) + age(12)
 }
 
-/// Area x (before - after).
+/// Area x (before - after), the difference as it counts.
 fn cleared(period: Period) -> u64 {
     u64::from(period.area) * u64::from(period.difference())
 }

@@ -38,6 +38,7 @@ n2o 4
 nox 129
 uptake 0
 uptake_co2 0
+thinner 0
 ";
 
 fn zero_parameters() -> Rows {
@@ -244,19 +245,22 @@ fn h_fractions() {
     assert_eq!(with(201), "refused 7 0\n");
 }
 
+/// (i) as the request on thinner grass leaves it: both pass with zero.
 #[test]
 fn i_after_and_before() {
-    let with = |after| {
+    let with = |year: [u32; 2], ten_years: [u32; 2]| {
         let mut rows = worked_day();
-        rows.conversion[0][2..4].copy_from_slice(&[100, after]);
-        sheets(&rows.to_bytes()).map(|figures| (figures.onsite, figures.offsite, figures.l))
+        rows.conversion[0][2..4].copy_from_slice(&year);
+        rows.conversion[0][11..13].copy_from_slice(&ten_years);
+        let s = figures_of(&rows);
+        ([s.onsite, s.offsite, s.decay, s.l.into()], s.thinner)
     };
-    assert_eq!(with(100), Ok((0, 0, 0)));
-    let refused = Refusal {
-        number: 8,
-        place: 0,
-    };
-    assert_eq!(with(101), Err(refused));
+    let (same, more) = ([100, 100], [100, 101]);
+    assert_eq!(with(same, same), ([0; 4], 0));
+    assert_eq!(with(more, same), ([0; 4], 1));
+    assert_eq!(with(same, more), ([0; 4], 1));
+    assert_eq!(with(more, more), ([0; 4], 2));
+    assert_eq!(with([49, 100], same), ([0; 4], 1));
 }
 
 #[test]
@@ -379,26 +383,26 @@ fn abandoned_land_leaves_the_other_figures() {
     assert_eq!(text_of(&rows.to_bytes()), "refused 3 4\n");
 }
 
-/// Three numbers for each of the nineteen, the last two those of 5-4.
+/// Three numbers for each of the twenty: those of 5-4, then the count.
 #[test]
 fn numbers_of_the_figures() {
     let bytes = with_abandoned(&[[1, 1_000, 300, 500, 2_000, 100, 500]]).to_bytes();
-    let mut room = [7; 58];
-    assert_eq!(figures(&bytes, &mut room[..56]), 9000);
-    assert_eq!(room, [7; 58]);
+    let mut room = [7; 61];
+    assert_eq!(figures(&bytes, &mut room[..59]), 9000);
+    assert_eq!(room, [7; 61]);
     assert_eq!(figures(&bytes, &mut room), 0);
     assert_eq!(room[..51], [0; 51]);
-    assert_eq!(room[51..], [0, 0, 250_000_000, 0, 0, 91_667, 7]);
+    assert_eq!(room[51..], [0, 0, 250_000_000, 0, 0, 91_667, 0, 0, 0, 7]);
 }
 
-/// 50 bytes for each of the nineteen lines are always enough.
+/// 50 bytes for each of the twenty lines are always enough.
 #[test]
 fn long_texts_have_room() {
     let mut rng = Rng::new(63);
     let longest = (0..2_000).map(|_| text_of(&case(&mut rng).bytes).len());
     let longest = longest.max();
     assert!(
-        longest.is_some_and(|length| (300..=950).contains(&length)),
+        longest.is_some_and(|length| (300..=1_000).contains(&length)),
         "{longest:?}"
     );
 }

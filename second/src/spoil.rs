@@ -1,6 +1,6 @@
-//! Rows that are bad in one chosen way: numbers 5 to 8 of the paper.
+//! Rows that are bad in one chosen way: numbers 5 to 7 of the paper.
 
-use crate::make::{fields, Rows, AFTER, BEFORE, SUMMED, WITH_IDS};
+use crate::make::{fields, Rows, SUMMED, WITH_IDS};
 use crate::rng::Rng;
 
 /// How an id fails to be above the one before it.
@@ -109,20 +109,6 @@ pub fn spoil_fractions(rng: &mut Rng, row: &mut [u32; 15]) {
     }
 }
 
-/// Breaks number 8 and nothing else, in one period or both.
-pub fn spoil_after(rng: &mut Rng, row: &mut [u32; 15]) {
-    let periods = rng.pick(&[0..1, 1..2, 0..2].map(|range| (range.start, range.end)));
-    for period in periods.0..periods.1 {
-        let before = row[BEFORE[period]].min(9_999);
-        row[BEFORE[period]] = before;
-        row[AFTER[period]] = match rng.below(4) {
-            0 => 10_000,
-            1 => rng.from_to(before + 1, 10_000),
-            _ => before + 1,
-        };
-    }
-}
-
 /// A kind with ids that this edition has.
 fn any_with_ids(rng: &mut Rng, rows: &Rows) -> u8 {
     let known = if rows.edition == 1 { 3 } else { 4 };
@@ -141,7 +127,7 @@ pub fn any_limited(rng: &mut Rng, rows: &Rows) -> (u8, usize, usize) {
     (kind, rng.below(rows.len(kind)), field)
 }
 
-/// Breaks one of the numbers 5 to 8 at a random place. The rows must hold two
+/// Breaks one of the numbers 5 to 7 at a random place. The rows must hold two
 /// or more of each kind with ids that their edition has.
 pub fn spoil(rng: &mut Rng, rows: &mut Rows, number: u32) -> String {
     match number {
@@ -168,11 +154,6 @@ pub fn spoil(rng: &mut Rng, rows: &mut Rows, number: u32) -> String {
             spoil_fractions(rng, &mut rows.conversion[row]);
             format!("7: at row {row}")
         }
-        8 => {
-            let row = rng.below(rows.conversion.len());
-            spoil_after(rng, &mut rows.conversion[row]);
-            format!("8: at row {row}")
-        }
         _ => unreachable!("number {number} is not broken in rows"),
     }
 }
@@ -185,7 +166,7 @@ mod tests {
     #[test]
     fn each_number_broken_alone_is_given() {
         let mut rng = Rng::new(11);
-        for number in 5..=8 {
+        for number in 5..=7 {
             for _ in 0..2_000 {
                 let mut rows = Rows::good_from(&mut rng, 2);
                 let how = spoil(&mut rng, &mut rows, number);

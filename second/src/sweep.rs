@@ -3,7 +3,7 @@
 
 use crate::damage::{block, block_count};
 use crate::make::{drawn_counts, fields, limited, place_of, repair_checks, seal};
-use crate::make::{zero_areas, RowCounts, Rows, AFTER, BEFORE, BLOCK, CHECK_AT};
+use crate::make::{zero_areas, RowCounts, Rows, BLOCK, CHECK_AT};
 use crate::make::{LIMITED, MOST_BLOCKS, MOST_ROWS, SUMMED, WITH_IDS};
 use crate::order_sweeps::{crowds, editions, orders, CROWDS, EDITIONS, ORDERS};
 use crate::rng::Rng;
@@ -226,9 +226,6 @@ fn at_limit(rows: &mut Rows, kind: u8, row: usize, field: usize) {
     let row = rows.row(kind, row);
     if kind == 1 && SUMMED.contains(&field) {
         SUMMED.into_iter().for_each(|summed| row[summed] = 0);
-    }
-    if let (1, Some(period)) = (kind, AFTER.iter().position(|&after| after == field)) {
-        row[BEFORE[period]] = limit;
     }
     row[field] = limit;
 }

@@ -32,7 +32,8 @@ pub fn write(
 /// How many rows of each kind there are.
 type Counts = [usize; KINDS.len()];
 
-/// "Writing: 10, then 5 to 9." The rows of each kind, and the blocks they take.
+/// "Writing: 10, then 5 to 9", without 8 (02, §3). The rows of each kind, and the
+/// blocks they take.
 fn checked(
     edition: u32,
     rows: &[u32],
@@ -91,7 +92,7 @@ fn parts<'a>(
     })
 }
 
-/// Numbers 5 to 8: the faults of single rows don't lean on each other, so one
+/// Numbers 5 to 7: the faults of single rows don't lean on each other, so one
 /// pass notes the first place of each. All blocks of a kind but its last are
 /// full, so the places of its rows follow each other.
 fn rows_hold(rows: &[u32], counts: &Counts) -> Result<(), Refusal> {

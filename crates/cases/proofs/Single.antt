@@ -14,7 +14,7 @@ use Rattle.form.specs.First.{first}
 use Rattle.form.specs.Bytes.{number, littleEndian}
 use Rattle.form.specs.Layout.{rowFrom}
 use Rattle.form.specs.Block.{weighed}
-use Rattle.form.specs.Records.{rowsBelow}
+use Rattle.form.specs.Records.{countedDifference, rowsBelow}
 use Rattle.form.specs.Verdict.{rows}
 use Rattle.form.specs.declared.Spot.the-variants.{Nowhere}
 use Rattle.form.proofs.Search.{first-none}
@@ -22,7 +22,7 @@ use Rattle.filing.specs.Lists.{filedList, behind, filedFrom}
 use Rattle.filing.specs.Written.{recordFrom, inTurn, headOf, sealed, recordOn, usedFrom, bodyOf, blockOf, bytesOf}
 use Rattle.totals.specs.Columns.{sumOf, onsitePart}
 use Rattle.worksheets.specs.Answers.{Outcome, worked, refusal, outcomeOf}
-use Rattle.listed.specs.Listed.{listed51, listed52, listed53, listed54, listed, figureCount}
+use Rattle.listed.specs.Listed.{listed51, listed52, listed53, listed54, listedPeriods, listed, figureCount}
 use Rattle.listed.proofs.Laws.{figureAt}
 use Rattle.cases.specs.Cases.{Complete, Case, refused, largest, table, all-answered}
 
@@ -33,7 +33,7 @@ nth i = getD table i (refused [] 0 0)
 abbrev sheetsAt : ℕ → List Complete → Outcome
 sheetsAt i l = getD l i (record { sheets = refusal 0 0; doubles = [] }) .sheets
 
--- where the worked day with a row of abandoned land stands
+-- where the worked day with a row of grass and a row of abandoned land stands
 abbrev pub landCase : ℕ
 landCase = 12
 
@@ -54,16 +54,16 @@ abbrev agrees : ℕ → Bool
 agrees i = eqb (natAbs (figureIn i (nth landCase .answer .sheets))) (natAbs (figureIn i (nth 1 .answer .sheets)))
 
 none-agrees : first agrees figureCount ≡ Nowhere
-unfolding first listed51 listed52 listed53 listed54 listed
+unfolding first listed51 listed52 listed53 listed54 listedPeriods listed
 none-agrees = refl
 
 pub each-differs : (i : ℕ) → i < figureCount → figureIn i (nth landCase .answer .sheets) ≡ figureIn i (nth 1 .answer .sheets) → ⊥
 each-differs i l e = eqb-false _ _ (first-none agrees none-agrees i l) (ap natAbs e)
 
 pub first-row : onsitePart (getD (rows 1 (nth 5 .bytes)) 0 []) ≡ 10 ^ 19
-unfolding largest filedList behind filedFrom littleEndian recordFrom inTurn headOf sealed weighed recordOn usedFrom bodyOf blockOf bytesOf rowsBelow rowFrom number onsitePart
+unfolding largest filedList behind filedFrom littleEndian recordFrom inTurn headOf sealed weighed recordOn usedFrom bodyOf blockOf bytesOf rowsBelow rowFrom number countedDifference onsitePart
 first-row = refl
 
 pub first-block : sumOf onsitePart (take 12 (rows 1 (nth 5 .bytes))) ≡ 12 * 10 ^ 19
-unfolding largest filedList behind filedFrom littleEndian recordFrom inTurn headOf sealed weighed recordOn usedFrom bodyOf blockOf bytesOf rowsBelow rowFrom number sumOf onsitePart
+unfolding largest filedList behind filedFrom littleEndian recordFrom inTurn headOf sealed weighed recordOn usedFrom bodyOf blockOf bytesOf rowsBelow rowFrom number countedDifference sumOf onsitePart
 first-block = refl

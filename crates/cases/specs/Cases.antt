@@ -1,15 +1,15 @@
--- "Proved as a single table, under one claim about all of it": 01's cases (a) to (j), three of edition 2 and four of halves, each a whole return with its complete answer, every figure of it.
+-- "Proved as a single table, under one claim about all of it": 01's cases (a) to (j), three of edition 2, four of halves and one of a row thinner in both periods, each a whole return with its complete answer, every figure of it.
 -- Where the case is about rows, the return is made of them by the definition of writing; where it is about bytes, the bytes stand here.
 use Prim.Native.Nat.{ℕ, zero, suc}
 use mathlib.Core.Path.{_≡_, refl, sym, ap₂, _∙_}
 use mathlib.Core.List.{List, [], _∷_, _++_, map, map-append}
-use lib.ListN.{replicate}
+use lib.ListN.{replicate, take, drop}
 use lib.IntN.{ℤ, pos, negsuc}
 use lib.Ieee.{binary64, add, mul, ofInt, toBits}
 use Rattle.form.specs.Bytes.{number, littleEndian}
 use Rattle.form.specs.Layout.{rowFrom}
 use Rattle.form.specs.Block.{weighed}
-use Rattle.form.specs.Records.{rowsBelow}
+use Rattle.form.specs.Records.{countedDifference, rowsBelow}
 use Rattle.form.specs.Computed.{computed}
 use Rattle.filing.specs.Lists.{cut, filedList, behind, filedFrom}
 use Rattle.filing.specs.Written.{recordFrom, inTurn, headOf, sealed, recordOn, usedFrom, bodyOf, blockOf, bytesOf}
@@ -17,7 +17,7 @@ use Rattle.lists.specs.Examples.{dayLengths, dayArea}
 use Rattle.rows.specs.Writing.{written}
 use Rattle.wide.specs.Rounding.{evenOf, settled}
 use Rattle.totals.specs.Abandoned.{abandonedPart}
-use Rattle.totals.specs.Columns.{sumOf, stockPart, harvestPart, clearedPart, onsitePart, offsitePart, decayPart}
+use Rattle.totals.specs.Columns.{sumOf, stockPart, harvestPart, clearedPart, onsitePart, offsitePart, decayPart, thinnerPart}
 use Rattle.worksheets.specs.Sheets.{standard, parameterNumbers, Sheet51, Sheet52, Sheet53, Sheet54, stocksOf, conversionOf, gasesOf, abandonedOf}
 use Rattle.worksheets.specs.Answers.{Outcome, worked, refusal, outcomeOf}
 use Rattle.doubles.specs.Subtotals.{onsiteDouble, offsiteDouble, decayDouble, addRows, answerOf}
@@ -52,8 +52,8 @@ refused s n p = record { bytes = s; answer = record { sheets = refusal n p; doub
 abbrev pub sheet51 : ℕ → ℕ → ℕ → ℤ → ℤ → ℤ → ℤ → ℤ → Sheet51
 sheet51 e k l m o p q r = record { e = e; k = k; l = l; m = m; o = o; p = p; q = q; report = r }
 
-abbrev pub sheet52 : ℕ → ℕ → ℕ → ℕ → ℕ → Sheet52
-sheet52 n f r d c = record { onsite = n; offsite = f; r = r; decay = d; co2 = c }
+abbrev pub sheet52 : ℕ → ℕ → ℕ → ℕ → ℕ → ℕ → Sheet52
+sheet52 n f r d c t = record { onsite = n; offsite = f; r = r; decay = d; co2 = c; thinner = t }
 
 abbrev pub sheet53 : ℕ → ℕ → ℕ → ℕ → Sheet53
 sheet53 h c n x = record { ch4 = h; co = c; n2o = n; nox = x }
@@ -64,8 +64,12 @@ sheet54 u c = record { uptake = u; co2 = c }
 abbrev none51 : Sheet51
 none51 = sheet51 0 0 0 (pos 0) (pos 0) (pos 0) (pos 0) (pos 0)
 
+-- nothing burned or decayed, and so many thinner periods
+abbrev thin52 : ℕ → Sheet52
+thin52 t = sheet52 0 0 0 0 0 t
+
 abbrev none52 : Sheet52
-none52 = sheet52 0 0 0 0 0
+none52 = thin52 0
 
 abbrev none53 : Sheet53
 none53 = sheet53 0 0 0 0
@@ -109,9 +113,17 @@ grown s h = written 1 ([] ∷ s ∷ h ∷ defaults ∷ [] ∷ [])
 abbrev land : List ℕ
 land = 1 ∷ 1000 ∷ 680 ∷ 500 ∷ 2000 ∷ 300 ∷ 450 ∷ []
 
--- the worked day's rows with a row of abandoned land, in an edition
+-- "grassland of 4.9 t/ha turned to a crop at the workbook's default of 10 t/ha": 500 ha of it, a tenth burned on site and as much off site
+abbrev grass : List ℕ
+grass = 8 ∷ 50 ∷ 49 ∷ 100 ∷ 100 ∷ 900 ∷ 450 ∷ 100 ∷ 900 ∷ 450 ∷ 0 ∷ 0 ∷ 0 ∷ 0 ∷ 0 ∷ []
+
+-- the worked day's rows with a row of grass behind its conversion row and a row of abandoned land behind all, in an edition
 abbrev with-land : ℕ → List ℕ
-with-land edition = written edition (cut (15 ∷ 5 ∷ 5 ∷ 6 ∷ 7 ∷ []) (dayArea ++ land))
+with-land edition = written edition (cut (30 ∷ 5 ∷ 5 ∷ 6 ∷ 7 ∷ []) (take 15 dayArea ++ (grass ++ (drop 15 dayArea ++ land))))
+
+-- thinner before than after in both periods, on areas that would count
+abbrev twice-thinner : List ℕ
+twice-thinner = 1 ∷ 7 ∷ 49 ∷ 100 ∷ 500 ∷ 900 ∷ 450 ∷ 300 ∷ 900 ∷ 450 ∷ 7 ∷ 0 ∷ 1 ∷ 200 ∷ 450 ∷ []
 
 -- an area burned whole, at a difference of 1 and a fraction of 250, and land that was given up, at a growth of 10 and a carbon fraction of 100
 abbrev burned : ℕ → ℕ → List ℕ
@@ -122,7 +134,7 @@ table01 =
     -- (a) "this day"
     worked-out (written 1 (cut dayLengths dayArea))
     (sheet51 340000000 775000 36000000 (pos 41500000) (pos 20750000000) (pos 13250000000) (pos 48583) (negsuc 48582))
-    (sheet52 32400000000000 16200000000000 48600000000000 40500000000000 326700)
+    (sheet52 32400000000000 16200000000000 48600000000000 40500000000000 326700 0)
     (sheet53 518 4536 4 129)
     none54
     (4809131602776948736 ∷ 4804628003149578240 ∷ 4810524802404319232 ∷ [])
@@ -133,10 +145,10 @@ table01 =
     -- (d) "P = -1,500,000 gives -6": a harvest row with F 30 and G 1, at N 500
     ∷ worked-out (grown [] (1 ∷ 30 ∷ 1 ∷ 0 ∷ 0 ∷ [])) (sheet51 0 30 0 (pos 3000) (pos 1500000) (negsuc 1499999) (negsuc 5) (pos 6)) none52 none53 none54 zeros
     -- (e) "1.5 x 10^9 units of conversion carbon give 6 tonnes": an area of 15, a difference of 100, a fraction of 1, all of it oxidised and carbon
-    ∷ worked-out (converted (row 1 15 100 0 1)) none51 (sheet52 1500000000 0 1500000000 0 6) none53 none54 (4744078263993761792 ∷ 0 ∷ 0 ∷ [])
+    ∷ worked-out (converted (row 1 15 100 0 1)) none51 (sheet52 1500000000 0 1500000000 0 6 0) none53 none54 (4744078263993761792 ∷ 0 ∷ 0 ∷ [])
     -- (f) "32 largest on-site rows give 3.2 x 10^20"
     ∷ worked-out (converted (largest 1 32)) none51
-    (sheet52 320000000000000000000 0 320000000000000000000 0 1173333333333)
+    (sheet52 320000000000000000000 0 320000000000000000000 0 1173333333333 0)
     (sheet53 5120000000 44800000000 35200000 1272228571)
     none54
     (4913806406333840640 ∷ 0 ∷ 0 ∷ [])
@@ -145,9 +157,9 @@ table01 =
     -- (h) "fractions 500, 300, 200 pass, and 500, 300, 201 are refused 7"
     ∷ worked-out (converted (split 500 300 200)) none51 none52 none53 none54 zeros
     ∷ refused (converted (split 500 300 201)) 7 0
-    -- (i) "before 100, after 100 passes with zero, after 101 is refused 8"
+    -- (i) "before 100, after 100 passes with zero", and since "case (i) changes" so does after 101, counted as thinner
     ∷ worked-out (converted (row 1 1 100 100 1000)) none51 none52 none53 none54 zeros
-    ∷ refused (converted (row 1 1 100 101 1000)) 8 0
+    ∷ worked-out (converted (row 1 1 100 101 1000)) none51 (thin52 1) none53 none54 zeros
     -- (j) "511 bytes are refused 1"
     ∷ refused (replicate 511 0) 1 0
     ∷ []
@@ -155,10 +167,10 @@ table01 =
 -- and of edition 2
 abbrev table-1 : List Case
 table-1 =
-    -- the day in edition 2 with a row of abandoned land: (a)'s figures, and 34 + 27 kt C, by 11/3
+    -- the day in edition 2 with a row of grass, which is thinner in its one period, and a row of abandoned land: (a)'s figures, and 34 + 27 kt C, by 11/3
     worked-out (with-land 2)
     (sheet51 340000000 775000 36000000 (pos 41500000) (pos 20750000000) (pos 13250000000) (pos 48583) (negsuc 48582))
-    (sheet52 32400000000000 16200000000000 48600000000000 40500000000000 326700)
+    (sheet52 32400000000000 16200000000000 48600000000000 40500000000000 326700 1)
     (sheet53 518 4536 4 129)
     (sheet54 610000000 223667)
     (4809131602776948736 ∷ 4804628003149578240 ∷ 4810524802404319232 ∷ [])
@@ -175,13 +187,17 @@ table-2 =
     worked-out (grown (1 ∷ 0 ∷ 100 ∷ 45 ∷ 10 ∷ []) []) (sheet51 45000 0 0 (pos 0) (pos 0) (pos 4500000) (pos 16) (negsuc 15)) none52 none53 none54 zeros
     ∷ worked-out (grown [] (1 ∷ 90 ∷ 1 ∷ 0 ∷ 0 ∷ [])) (sheet51 0 90 0 (pos 9000) (pos 4500000) (negsuc 4499999) (negsuc 15) (pos 16)) none52 none53 none54 zeros
     -- 0.5 tonnes of CH4 go down to 0, and an uptake of 5.5 up to 6
-    ∷ worked-out (burned 125 15) none51 (sheet52 31250000000 0 31250000000 0 115) (sheet53 0 4 0 0) (sheet54 15000 6) (4763993206503243776 ∷ 0 ∷ 0 ∷ [])
+    ∷ worked-out (burned 125 15) none51 (sheet52 31250000000 0 31250000000 0 115 0) (sheet53 0 4 0 0) (sheet54 15000 6) (4763993206503243776 ∷ 0 ∷ 0 ∷ [])
     -- 1.5 tonnes of CH4 go up to 2, and an uptake of 16.5 down to 16
-    ∷ worked-out (burned 375 45) none51 (sheet52 93750000000 0 93750000000 0 344) (sheet53 2 13 0 0) (sheet54 45000 16) (4770952405757984768 ∷ 0 ∷ 0 ∷ [])
+    ∷ worked-out (burned 375 45) none51 (sheet52 93750000000 0 93750000000 0 344 0) (sheet53 2 13 0 0) (sheet54 45000 16) (4770952405757984768 ∷ 0 ∷ 0 ∷ [])
     ∷ []
 
+-- a row thinner in both periods counts 2
+abbrev table-3 : List Case
+table-3 = worked-out (converted twice-thinner) none51 (thin52 2) none53 none54 zeros ∷ []
+
 abbrev pub table : List Case
-table = table01 ++ (table-1 ++ table-2)
+table = table01 ++ (table-1 ++ (table-2 ++ table-3))
 
 -- what is to be answered, and what is written beside it
 abbrev dueOf : Case → Complete
@@ -191,20 +207,27 @@ abbrev said : Case → Complete
 said c = c .answer
 
 answered01 : map dueOf table01 ≡ map said table01
-unfolding toBits ofInt mul add onsiteDouble offsiteDouble decayDouble addRows largest computed cut filedList behind filedFrom littleEndian recordFrom inTurn headOf sealed weighed recordOn usedFrom bodyOf blockOf bytesOf rowsBelow rowFrom number evenOf settled sumOf stockPart harvestPart clearedPart onsitePart offsitePart decayPart stocksOf conversionOf gasesOf abandonedOf abandonedPart
+unfolding toBits ofInt mul add onsiteDouble offsiteDouble decayDouble addRows largest computed cut filedList behind filedFrom littleEndian recordFrom inTurn headOf sealed weighed recordOn usedFrom bodyOf blockOf bytesOf rowsBelow rowFrom number evenOf settled sumOf stockPart harvestPart clearedPart onsitePart offsitePart decayPart countedDifference thinnerPart stocksOf conversionOf gasesOf abandonedOf abandonedPart
 answered01 = refl
 
 answered-1 : map dueOf table-1 ≡ map said table-1
-unfolding toBits ofInt mul add onsiteDouble offsiteDouble decayDouble addRows largest computed cut filedList behind filedFrom littleEndian recordFrom inTurn headOf sealed weighed recordOn usedFrom bodyOf blockOf bytesOf rowsBelow rowFrom number evenOf settled sumOf stockPart harvestPart clearedPart onsitePart offsitePart decayPart stocksOf conversionOf gasesOf abandonedOf abandonedPart
+unfolding toBits ofInt mul add onsiteDouble offsiteDouble decayDouble addRows largest computed cut filedList behind filedFrom littleEndian recordFrom inTurn headOf sealed weighed recordOn usedFrom bodyOf blockOf bytesOf rowsBelow rowFrom number evenOf settled sumOf stockPart harvestPart clearedPart onsitePart offsitePart decayPart countedDifference thinnerPart stocksOf conversionOf gasesOf abandonedOf abandonedPart
 answered-1 = refl
 
 answered-2 : map dueOf table-2 ≡ map said table-2
-unfolding toBits ofInt mul add onsiteDouble offsiteDouble decayDouble addRows largest computed cut filedList behind filedFrom littleEndian recordFrom inTurn headOf sealed weighed recordOn usedFrom bodyOf blockOf bytesOf rowsBelow rowFrom number evenOf settled sumOf stockPart harvestPart clearedPart onsitePart offsitePart decayPart stocksOf conversionOf gasesOf abandonedOf abandonedPart
+unfolding toBits ofInt mul add onsiteDouble offsiteDouble decayDouble addRows largest computed cut filedList behind filedFrom littleEndian recordFrom inTurn headOf sealed weighed recordOn usedFrom bodyOf blockOf bytesOf rowsBelow rowFrom number evenOf settled sumOf stockPart harvestPart clearedPart onsitePart offsitePart decayPart countedDifference thinnerPart stocksOf conversionOf gasesOf abandonedOf abandonedPart
 answered-2 = refl
+
+answered-3 : map dueOf table-3 ≡ map said table-3
+unfolding toBits ofInt mul add onsiteDouble offsiteDouble decayDouble addRows largest computed cut filedList behind filedFrom littleEndian recordFrom inTurn headOf sealed weighed recordOn usedFrom bodyOf blockOf bytesOf rowsBelow rowFrom number evenOf settled sumOf stockPart harvestPart clearedPart onsitePart offsitePart decayPart countedDifference thinnerPart stocksOf conversionOf gasesOf abandonedOf abandonedPart
+answered-3 = refl
 
 both : (xs ys : List Case) → map dueOf xs ≡ map said xs → map dueOf ys ≡ map said ys → map dueOf (xs ++ ys) ≡ map said (xs ++ ys)
 both xs ys p q = map-append dueOf xs ys ∙ ap₂ (λ (a b : List Complete). a ++ b) p q ∙ sym (map-append said xs ys)
 
 -- every return of the table has the answer beside it, as the checker computes them
 pub all-answered : map (λ (c : Case). completeOf (c .bytes)) table ≡ map (λ (c : Case). c .answer) table
-all-answered = both table01 (table-1 ++ table-2) answered01 (both table-1 table-2 answered-1 answered-2)
+all-answered =
+    both table01 (table-1 ++ (table-2 ++ table-3)) answered01
+    (both table-1 (table-2 ++ table-3) answered-1
+    (both table-2 table-3 answered-2 answered-3))

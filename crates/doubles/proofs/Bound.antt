@@ -3,12 +3,13 @@
 use mathlib.Core.Path.{_≡_}
 use mathlib.Core.Bool.{false}
 use mathlib.Core.List.{List, []}
-use Prim.Native.Nat.{ℕ, _-_, _*_, _≤_}
-use native.Mathlib.Nat.{le-trans, sub-le}
+use Prim.Native.Nat.{ℕ, _*_, _≤_}
+use native.Mathlib.Nat.{le-trans}
 use lib.Dec.{T, ltb, lit<, lit≤}
 use lib.ListN.{length, getD}
 use Rattle.form.specs.Layout.{field, conversion, aboveLimit}
-use Rattle.form.specs.Records.{areaOf, before, after, onsite, onsiteOxidised, onsiteCarbon, offsite, offsiteOxidised, offsiteCarbon, tenYearArea, tenYearBefore, tenYearAfter, decay, decayCarbon}
+use Rattle.form.specs.Records.{areaOf, before, after, onsite, onsiteOxidised, onsiteCarbon, offsite, offsiteOxidised, offsiteCarbon, tenYearArea, tenYearBefore, tenYearAfter, decay, decayCarbon, countedDifference, difference, tenYearDifference}
+use Rattle.form.proofs.Periods.{counted-le}
 use Rattle.form.proofs.Accepted.{limit-of}
 use Rattle.totals.specs.Columns.{sumOf, onsitePart, offsitePart, decayPart}
 use Rattle.doubles.specs.Double.{Near}
@@ -22,19 +23,20 @@ Within r = aboveLimit conversion r ≡ false
 
 -- the whole numbers that a row's doubles are
 abbrev pub onsiteValue : List ℕ → ℕ
-onsiteValue r = partValue (areaOf r) (before r - after r) (onsite r) (onsiteOxidised r) (onsiteCarbon r)
+onsiteValue r = partValue (areaOf r) (difference r) (onsite r) (onsiteOxidised r) (onsiteCarbon r)
 
 abbrev pub offsiteValue : List ℕ → ℕ
-offsiteValue r = partValue (areaOf r) (before r - after r) (offsite r) (offsiteOxidised r) (offsiteCarbon r)
+offsiteValue r = partValue (areaOf r) (difference r) (offsite r) (offsiteOxidised r) (offsiteCarbon r)
 
 abbrev pub decayValue : List ℕ → ℕ
-decayValue r = partValue (tenYearArea r) (tenYearBefore r - tenYearAfter r) (decay r) 1000 (decayCarbon r)
+decayValue r = partValue (tenYearArea r) (tenYearDifference r) (decay r) 1000 (decayCarbon r)
 
 -- a row's part, from the limits of the numbers that it takes
-part : (a b d f o c : ℕ) → a ≤ 1000000 → b ≤ 10000 → f ≤ 1000 → o ≤ 1000 → c ≤ 1000 → Part (partOf a (b - d) f o c) (partValue a (b - d) f o c) (a * (b - d) * f * o * c)
+part : (a b d f o c : ℕ) → a ≤ 1000000 → b ≤ 10000 → f ≤ 1000 → o ≤ 1000 → c ≤ 1000 → Part (partOf a (countedDifference b d) f o c) (partValue a (countedDifference b d) f o c) (a * countedDifference b d * f * o * c)
 part a b d f o c A B F O C =
-    let l : Limits a (b - d) f o c = record { area-fits = A; difference-fits = le-trans (sub-le b d) B; fraction-fits = F; oxidised-fits = O; carbon-fits = C } in
-    record { holds = part-holds a (b - d) f o c l; first-exact = part-first a (b - d) f o c; off = part-off a (b - d) f o c l }
+    let m = countedDifference b d in
+    let l : Limits a m f o c = record { area-fits = A; difference-fits = le-trans (counted-le b d) B; fraction-fits = F; oxidised-fits = O; carbon-fits = C } in
+    record { holds = part-holds a m f o c l; first-exact = part-first a m f o c; off = part-off a m f o c l }
 
 module _ (r : List ℕ) (h : Within r) where
   -- number k of the row is at most its limit

@@ -1,9 +1,8 @@
 -- The conversion rows of an accepted return, one after the other from the first record on. Assumes nothing.
 --     counted                      there are as many as the counts say
---     standing                     row i: where it stands, that its bytes are there, and that its densities do not grow
+--     standing                     row i: where it stands, and that its bytes are there
 --     onward-start, -next, -end    the loop that adds the rows up: where it begins, one row more, where it ends
 use mathlib.Core.Path.{_≡_, refl, sym, ap, _∙_}
-use mathlib.Core.Bool.{false}
 use mathlib.Core.List.{List, []}
 use Prim.Native.Nat.{ℕ, _+_, _/_, _%_, _<_, _≤_}
 use native.Mathlib.Nat.{zero-add, le-of-eq}
@@ -13,7 +12,6 @@ use lib.ListN.{length, getD, drop, drop-of-length-le}
 use lib.Seq.{drop-cons}
 use Rattle.form.specs.Layout.{conversion, rowAt}
 use Rattle.form.specs.Block.{recordAt}
-use Rattle.form.specs.Records.{grown}
 use Rattle.form.specs.Verdict.{rows, rowCount, verdictOf}
 use Rattle.form.specs.Standing.{startBlock}
 use Rattle.form.specs.declared.Counts.{Counts}
@@ -31,7 +29,6 @@ placeOf i = recordAt (i / 12) (i % 12)
 pub record Stands (s : List ℕ) (i : ℕ) : Type 0 where
   pub row : getD (rows 1 s) i [] ≡ rowAt conversion s (placeOf i)
   pub inside : placeOf i + 40 ≤ length s
-  pub falls : grown (rowAt conversion s (placeOf i)) ≡ false
 
 -- the kind comes first, so its first block is block 0
 place : (s : List ℕ) (i : ℕ) → recordAt (startBlock 1 s + i / 12) (i % 12) ≡ placeOf i
@@ -49,7 +46,6 @@ module _ (s : List ℕ) (c : Counts) (accepted : verdictOf s ≡ Accepted c) whe
       record {
         row = row;
         inside = rw (← place s i) (form.inside s c accepted 1 i (omega arith) one-kind l);
-        falls = rw (← row) (form.shrunk s c accepted i l);
       }
 
 -- subtotals of the first i rows, with the rows from i on added

@@ -1,8 +1,8 @@
 -- "The answer is three doubles together, or a refusal number and place with no figure."
-use Prim.Native.Nat.{ℕ, _-_}
+use Prim.Native.Nat.{ℕ}
 use mathlib.Core.List.{List, [], _∷_}
 use lib.Ieee.{Float, binary64, mul, add}
-use Rattle.form.specs.Records.{areaOf, before, after, onsite, onsiteOxidised, onsiteCarbon, offsite, offsiteOxidised, offsiteCarbon, tenYearArea, tenYearBefore, tenYearAfter, decay, decayCarbon}
+use Rattle.form.specs.Records.{areaOf, onsite, onsiteOxidised, onsiteCarbon, offsite, offsiteOxidised, offsiteCarbon, tenYearArea, decay, decayCarbon, difference, tenYearDifference}
 use Rattle.form.specs.Verdict.{rows, verdictOf}
 use Rattle.form.specs.declared.Verdict.{Verdict}
 use Rattle.form.specs.declared.Verdict.the-variants as verdict
@@ -19,16 +19,16 @@ times x n = mul binary64 x (double n)
 abbrev pub partOf : ℕ → ℕ → ℕ → ℕ → ℕ → Float
 partOf area difference fraction oxidised carbon = times (times (times (times (double area) difference) fraction) oxidised) carbon
 
--- "Per row", on site and off site
+-- "Per row", on site and off site, with the difference that counts: "0 .. in the doubles" for a period that is thinner before than after
 unfoldable pub onsiteDouble : List ℕ → Float
-onsiteDouble r = partOf (areaOf r) (before r - after r) (onsite r) (onsiteOxidised r) (onsiteCarbon r)
+onsiteDouble r = partOf (areaOf r) (difference r) (onsite r) (onsiteOxidised r) (onsiteCarbon r)
 
 unfoldable pub offsiteDouble : List ℕ → Float
-offsiteDouble r = partOf (areaOf r) (before r - after r) (offsite r) (offsiteOxidised r) (offsiteCarbon r)
+offsiteDouble r = partOf (areaOf r) (difference r) (offsite r) (offsiteOxidised r) (offsiteCarbon r)
 
 -- "Decay as in 5-2": the ten-year fields, with oxidised 1,000
 unfoldable pub decayDouble : List ℕ → Float
-decayDouble r = partOf (tenYearArea r) (tenYearBefore r - tenYearAfter r) (decay r) 1000 (decayCarbon r)
+decayDouble r = partOf (tenYearArea r) (tenYearDifference r) (decay r) 1000 (decayCarbon r)
 
 -- "rows added in order" to a double
 unfoldable pub addRows : (List ℕ → Float) → Float → List (List ℕ) → Float

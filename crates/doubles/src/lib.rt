@@ -1,16 +1,15 @@
 // The three carbon subtotals as doubles, from the caller's own bytes.
 ghost use mathlib.Core.Path.{_≡_};
-ghost use mathlib.Core.Bool.{false};
 ghost use Prim.Native.Nat.{_+_, _≤_};
 ghost use lib.ListN.{length};
 ghost use Rattle.form.specs.Layout.{conversion, rowAt};
-ghost use Rattle.form.specs.Records.{grown};
 ghost use Rattle.form.specs.Verdict.{rows, verdictOf};
 ghost use Rattle.form.specs.declared.Verdict.the-variants.{Accepted};
 ghost use Rattle.doubles.specs.Subtotals.{partOf, decayDouble, subtotalsOf, answerOf};
 ghost use Rattle.doubles.specs.Steps.{burntOf, doublePartsOf, plusOf};
 use form::Counts;
 use form::Verdict;
+use form::counted_difference;
 use form::four_at;
 use form::row_start;
 use form::two_at;
@@ -50,10 +49,10 @@ fn burnt_at(bytes: &[u8], at: usize, area: u32, difference: u32) -> f64
 
 // The decay of the record at `at`, from its ten-year fields.
 fn decay_at(bytes: &[u8], at: usize) -> f64
-    requires { ⌜ (at + 40 ≤ length (now bytes)) × (grown (rowAt conversion (now bytes) at) ≡ false) ⌝ }
+    requires { ⌜ at + 40 ≤ length (now bytes) ⌝ }
     ensures { λ r. ⌜ r ≡ decayDouble (rowAt conversion (now (bytes .entry)) at) ⌝ }
 {
-    let difference = two_at(bytes, at + 28) - two_at(bytes, at + 30);
+    let difference = counted_difference(two_at(bytes, at + 28), two_at(bytes, at + 30));
     part(
         four_at(bytes, at + 24),
         difference,
@@ -63,13 +62,13 @@ fn decay_at(bytes: &[u8], at: usize) -> f64
     )
 }
 
-// The three parts of the record at `at`, whose densities do not grow.
+// The three parts of the record at `at`.
 fn parts_at(bytes: &[u8], at: usize) -> Doubles
-    requires { ⌜ (at + 40 ≤ length (now bytes)) × (grown (rowAt conversion (now bytes) at) ≡ false) ⌝ }
+    requires { ⌜ at + 40 ≤ length (now bytes) ⌝ }
     ensures { λ r. ⌜ r ≡ doublePartsOf (rowAt conversion (now (bytes .entry)) at) ⌝ }
 {
     let area = four_at(bytes, at + 4);
-    let difference = two_at(bytes, at + 8) - two_at(bytes, at + 10);
+    let difference = counted_difference(two_at(bytes, at + 8), two_at(bytes, at + 10));
     Doubles {
         onsite: burnt_at(bytes, at + 12, area, difference),
         offsite: burnt_at(bytes, at + 18, area, difference),

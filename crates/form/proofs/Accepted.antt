@@ -21,7 +21,7 @@ use Rattle.form.specs.Ruling.{Rule, rule, ruling}
 use Rattle.form.specs.Layout.{Field, Layout, kinds, parametersKind, layout, rowAt, aboveLimit}
 use Rattle.form.specs.Edition.{lastKind}
 use Rattle.form.specs.Block.{mostBlocks, longest, blocks, kindOf, edition, recordAt, badLength}
-use Rattle.form.specs.Records.{filed, RowTest, RowRule, rowRules, badId, brokenBy, overPlaces, recordRules, overspent, grown}
+use Rattle.form.specs.Records.{filed, RowTest, RowRule, rowRules, badId, brokenBy, overPlaces, recordRules, overspent}
 use Rattle.form.specs.Verdict.{blockRules, rules, countBelow, rowCount, rows, countsOf, countList, countIn, verdictOf}
 use Rattle.form.specs.Standing.{blocksFor, startBlock, firstBlock, startPlace, rowsFrom}
 use Rattle.form.specs.declared.Counts.{Counts}
@@ -200,6 +200,3 @@ module _ (s : List ℕ) (c : Counts) (acc : verdictOf s ≡ Accepted c) where
 
     pub spent : overspent (getD (rows 1 s) i []) ≡ false
     spent = conversion-kept .1 .0
-
-    pub shrunk : grown (getD (rows 1 s) i []) ≡ false
-    shrunk = conversion-kept .1 .1 .0

@@ -15,3 +15,4 @@ pub mod StandRows
 pub mod Accepted
 pub mod Meaning
 pub mod FirstEdition
+pub mod Periods

@@ -42,17 +42,17 @@ accepted s = (λ e. ruling-clean (clean-of s (ruling (rules s)) (countsOf s) e .
 -- every rule of a list has a small number and few places
 abbrev Small : List Rule → Type 0
 Small [] = Unit {0}
-Small (r ∷ rs) = ((r .number ≤ 8) × (r .places ≤ 12 * mostBlocks)) × Small rs
+Small (r ∷ rs) = ((r .number ≤ 7) × (r .places ≤ 12 * mostBlocks)) × Small rs
 
-least-in : {rs : List Rule} {n p : ℕ} → Small rs → Least rs n p → (n ≤ 8) × (p < 12 * mostBlocks)
+least-in : {rs : List Rule} {n p : ℕ} → Small rs → Least rs n p → (n ≤ 7) × (p < 12 * mostBlocks)
 least-in h (this l e k) = (h .0 .0, omega arith)
 least-in h (later k m) = least-in (h .1) m
 
 -- a rule after the first is tried on no more blocks than a return can have, so on no more than their places
-least-small : (s : List ℕ) (n p : ℕ) → Least (rules s) n p → (n ≤ 8) × (p < 12 * mostBlocks)
+least-small : (s : List ℕ) (n p : ℕ) → Least (rules s) n p → (n ≤ 7) × (p < 12 * mostBlocks)
 unfolding blockRules Kept
 least-small s n p (this l e h) = (omega arith, omega arith)
 least-small s n p (later k m) = let f = few-blocks s (k 0 (omega arith)) in least-in (omega arith) m
 
-pub small : (s : List ℕ) (n p : ℕ) → verdictOf s ≡ Refused n p → (n ≤ 8) × (p < 12 * mostBlocks)
+pub small : (s : List ℕ) (n p : ℕ) → verdictOf s ≡ Refused n p → (n ≤ 7) × (p < 12 * mostBlocks)
 small s n p e = least-small s n p (refused s n p .0 e)

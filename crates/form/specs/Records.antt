@@ -1,4 +1,4 @@
--- Rules 5 to 8, stated once over records at places. A rule of one row is an entry of a list. "A record's place is 12 times its block plus its position."
+-- Rules 5 to 7, stated once over records at places. A rule of one row is an entry of a list. "A record's place is 12 times its block plus its position."
 use Prim.Native.Nat.{ℕ, zero, suc, _+_, _-_, _*_, _/_, _%_}
 use mathlib.Core.Bool.{Bool, false, cond, not, _&&_, _||_}
 use mathlib.Core.List.{List, [], _∷_, _++_}
@@ -74,6 +74,21 @@ decay r = getD r 13 0
 abbrev pub decayCarbon : List ℕ → ℕ
 decayCarbon r = getD r 14 0
 
+-- "after above before": a period that is thinner before than after
+abbrev pub thinner : ℕ → ℕ → Bool
+thinner b a = ltb b a
+
+-- "Such a period has nothing to burn or decay: its difference counts as 0"
+unfoldable pub countedDifference : ℕ → ℕ → ℕ
+countedDifference b a = cond (thinner b a) 0 (b - a)
+
+-- of a row's two periods
+abbrev pub difference : List ℕ → ℕ
+difference r = countedDifference (before r) (after r)
+
+abbrev pub tenYearDifference : List ℕ → ℕ
+tenYearDifference r = countedDifference (tenYearBefore r) (tenYearAfter r)
+
 -- a test of one row, by the return's edition and the row's kind
 abbrev pub RowTest : Type 0
 RowTest = ℕ → ℕ → List ℕ → Bool
@@ -97,19 +112,11 @@ overspent r = ltb 1000 (onsite r + offsite r + decay r)
 abbrev pub fractionsAbove : RowTest
 fractionsAbove edition kind r = eqb kind 1 && overspent r
 
--- 8: "after above before, either period", of a conversion row
-abbrev pub grown : List ℕ → Bool
-grown r = ltb (before r) (after r) || ltb (tenYearBefore r) (tenYearAfter r)
-
-abbrev pub densityGrown : RowTest
-densityGrown edition kind r = eqb kind 1 && grown r
-
 -- the rules of one row, in the paper's order. A new rule is a new line.
 abbrev pub rowRules : List RowRule
 rowRules =
     rowRule 6 fieldAbove
     ∷ rowRule 7 fractionsAbove
-    ∷ rowRule 8 densityGrown
     ∷ []
 
 module _ (f : Filed) where

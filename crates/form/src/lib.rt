@@ -9,6 +9,7 @@ ghost use lib.Dec.{eqb};
 ghost use Rattle.form.specs.Bytes.{byteAt, number, strayIn};
 ghost use Rattle.form.specs.Edition.{lastKind};
 ghost use Rattle.form.specs.Block.{recordAt, checkDue};
+ghost use Rattle.form.specs.Records.{countedDifference};
 ghost use Rattle.form.specs.Verdict.{countIn};
 ghost use Rattle.form.specs.Standing.{blocksFor, firstBlock};
 ghost use Rattle.form.specs.Steps.{columnDue, checkWeighed, Few};
@@ -145,6 +146,13 @@ pub fn check_due(bytes: &[u8], b: usize) -> u32
         k += 1;
     }
     due - check_weighed(bytes, b)
+}
+
+// What a period loses: nothing, where it is thinner before than after.
+pub fn counted_difference(before: u32, after: u32) -> u32
+    ensures { λ r. ⌜ (r ≡ countedDifference before after) × (r ≤ before) ⌝ }
+{
+    if before < after { 0 } else { before - after }
 }
 
 // A number where two others agree, and zero elsewhere.

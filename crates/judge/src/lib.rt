@@ -39,7 +39,7 @@ fn rule_blocks(bytes: &[u8]) -> Ruling
     Ruling::Clean
 }
 
-// Rules 5 to 8. A new rule of one row is a new pair of lines, where the list of rules has it.
+// Rules 5 to 7. A new rule of one row is a new pair of lines, where the list of rules has it.
 fn rule_records(bytes: &[u8]) -> Ruling
     requires { ⌜ length (now bytes) < 2 ^ 24 ⌝ }
     ensures { λ r. ⌜ r ≡ ruling (recordRules (edition (now (bytes .entry)) 0) (filed (now (bytes .entry)))) ⌝ }
@@ -55,10 +55,6 @@ fn rule_records(bytes: &[u8]) -> Ruling
     let fractions = records::first_broken(bytes, 7);
     if let Spot::At(place) = fractions {
         return Ruling::Broken { number: 7, place };
-    }
-    let densities = records::first_broken(bytes, 8);
-    if let Spot::At(place) = densities {
-        return Ruling::Broken { number: 8, place };
     }
     Ruling::Clean
 }

@@ -54,12 +54,16 @@ listed54 f =
     ∷ figure (117 ∷ 112 ∷ 116 ∷ 97 ∷ 107 ∷ 101 ∷ 95 ∷ 99 ∷ 111 ∷ 50 ∷ []) (pos (f .co2))
     ∷ []
 
+-- §3: "The sheet answers also the number of (row, period) pairs with after above before": "thinner"
+unfoldable pub listedPeriods : Sheet52 → List Figure
+listedPeriods f = figure (116 ∷ 104 ∷ 105 ∷ 110 ∷ 110 ∷ 101 ∷ 114 ∷ []) (pos (f .thinner)) ∷ []
+
 unfoldable pub listed : Sheets → List Figure
-listed v = listed51 (v .stocks) ++ listed52 (v .conversion) ++ listed53 (v .gases) ++ listed54 (v .abandoned)
+listed v = listed51 (v .stocks) ++ listed52 (v .conversion) ++ listed53 (v .gases) ++ listed54 (v .abandoned) ++ listedPeriods (v .conversion)
 
 -- how many there are: the same of every return (`counted`)
 abbrev pub figureCount : ℕ
-figureCount = 19
+figureCount = 20
 
 -- the values of a list of figures, each in its one form
 abbrev pub valuesOf : List Figure → List Signed

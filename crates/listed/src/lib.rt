@@ -6,7 +6,7 @@ use wide::signed::Signed;
 use worksheets::sheets::Figures;
 
 // How many figures there are.
-pub const FIGURES: usize = 19;
+pub const FIGURES: usize = 20;
 
 // Each figure's value with its sign, in the list's order. Struct literals and no calls: so its proof is one law.
 pub fn list(f: Figures) -> [Signed; FIGURES]
@@ -46,6 +46,8 @@ pub fn list(f: Figures) -> [Signed; FIGURES]
     let uptake = Signed { below: false, size };
     let size = f.abandoned.co2.0;
     let uptake_co2 = Signed { below: false, size };
+    let size = f.conversion.thinner.0;
+    let thinner = Signed { below: false, size };
     [
         e,
         k,
@@ -66,5 +68,6 @@ pub fn list(f: Figures) -> [Signed; FIGURES]
         nox,
         uptake,
         uptake_co2,
+        thinner,
     ]
 }

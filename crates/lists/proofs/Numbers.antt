@@ -12,7 +12,7 @@ use lib.Seq.{getD-take, getD-drop, drop-cons, drop-drop}
 use borrow.Author.Tests.{lt-ltb, le-ltb, le-leb, eq-eqb, ne-eqb, ltb-false, eqb-true, not-false}
 use Rattle.form.specs.Layout.{field, Layout, kinds, parametersKind, layout, numbersOf, aboveLimit, fieldAt}
 use Rattle.form.specs.Edition.{lastKind, known}
-use Rattle.form.specs.Records.{RowTest, idOf, overspent, grown, badId, brokenBy, testNumbered}
+use Rattle.form.specs.Records.{RowTest, idOf, overspent, badId, brokenBy, testNumbered}
 use Rattle.form.proofs.Tests.{and-rest, or-none}
 use Rattle.form.proofs.EachKind.{parameters-kind}
 use Rattle.filing.specs.Lists.{total, rowsIn, rowOf, blocksOf, filedList}
@@ -53,18 +53,14 @@ module _ (r : List ℕ) (j : ℕ) where
   pub fractions-of : overspent (rowOf 1 r j) ≡ overspent (drop (15 * j) r)
   fractions-of = rw (number 4 (omega arith), number 7 (omega arith), number 13 (omega arith))
 
-  pub densities-of : grown (rowOf 1 r j) ≡ grown (drop (15 * j) r)
-  densities-of = rw (number 2 (omega arith), number 3 (omega arith), number 11 (omega arith), number 12 (omega arith))
-
 -- ---- the rules of one row by their numbers
 
 module _ (n e kind : ℕ) (row : List ℕ) where
-  -- 7 and 8 are about conversion rows alone
+  -- 7 is about conversion rows alone
   pub no-conversion : (n ≡ 6 → ⊥) → (kind ≡ 1 → ⊥) → testNumbered n e kind row ≡ false
   no-conversion h k =
       rw (ne-eqb n 6 h)
-      (either (λ (t : RowTest). t e kind row ≡ false) (eqb n 7) (λ q. rw (ne-eqb kind 1 k))
-      (λ q. either (λ (t : RowTest). t e kind row ≡ false) (eqb n 8) (λ r. rw (ne-eqb kind 1 k)) (λ r. refl)))
+      (either (λ (t : RowTest). t e kind row ≡ false) (eqb n 7) (λ q. rw (ne-eqb kind 1 k)) (λ q. refl))
 
 -- ---- the limits, field by field
 

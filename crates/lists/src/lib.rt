@@ -1,11 +1,11 @@
-// The rules of rows that are to be written: 10 by kind, then 5 to 8 where each record would stand.
+// The rules of rows that are to be written: 10 by kind, then 5 to 7 where each record would stand.
 ghost use mathlib.Core.Path.{_≡_};
 ghost use Prim.Native.Nat.{suc, _+_, _*_, _^_, _≤_, _<_};
 ghost use lib.ListN.{length, getD, drop};
 ghost use Rattle.form.specs.First.{first};
 ghost use Rattle.form.specs.Ruling.{ruling};
 ghost use Rattle.form.specs.Layout.{kinds, layout, numbersOf, aboveLimit};
-ghost use Rattle.form.specs.Records.{overspent, grown, badId, recordRules, testNumbered, testOf};
+ghost use Rattle.form.specs.Records.{overspent, badId, recordRules, testNumbered, testOf};
 ghost use Rattle.filing.specs.Lists.{cut, total, rowsIn, rowOf, blocksOf, filedList, filedLists};
 ghost use Rattle.lists.specs.Rules.{badList, badLengths, notAllowed, badAt, Good, FewRows, blocksFrom, shifted, firstOf};
 use form::KINDS;
@@ -134,13 +134,6 @@ fn overspent_at(rows: &[u32], at: usize) -> bool
     1000 < wide(rows[at + 4]) + wide(rows[at + 7]) + wide(rows[at + 13])
 }
 
-fn grown_at(rows: &[u32], at: usize) -> bool
-    requires { ⌜ at + numbersOf 1 ≤ length (now rows) ⌝ }
-    ensures { λ r. ⌜ r ≡ grown (drop at (now (rows .entry))) ⌝ }
-{
-    (rows[at + 2] < rows[at + 3]) | (rows[at + 11] < rows[at + 12])
-}
-
 // A rule of one row, by its number, of row j.
 fn row_breaks(number: u32, edition: u32, kind: usize, rows: &[u32], j: usize) -> bool
     requires { ⌜ j < rowsIn kind (length (now rows)) ⌝ }
@@ -155,9 +148,6 @@ fn row_breaks(number: u32, edition: u32, kind: usize, rows: &[u32], j: usize) ->
     let at = numbers(1) * j;
     if number == 7 {
         return overspent_at(rows, at);
-    }
-    if number == 8 {
-        return grown_at(rows, at);
     }
     false
 }
@@ -218,7 +208,7 @@ fn first_broken(number: u32, edition: u32, lengths: &[u32], area: &[u32]) -> Spo
     Spot::Nowhere
 }
 
-// Rules 5 to 8 of lists that 10 has found good.
+// Rules 5 to 7 of lists that 10 has found good.
 pub fn rule_records(edition: u32, lengths: &[u32], area: &[u32]) -> Ruling
     requires { ⌜ Good (now lengths) (length (now area)) ⌝ }
     ensures { λ r. ⌜ r ≡ ruling (recordRules edition (filedLists (cut (now (lengths .entry)) (now (area .entry))))) ⌝ }
@@ -234,10 +224,6 @@ pub fn rule_records(edition: u32, lengths: &[u32], area: &[u32]) -> Ruling
     let fractions = first_broken(7, edition, lengths, area);
     if let Spot::At(place) = fractions {
         return Ruling::Broken { number: 7, place };
-    }
-    let densities = first_broken(8, edition, lengths, area);
-    if let Spot::At(place) = densities {
-        return Ruling::Broken { number: 8, place };
     }
     Ruling::Clean
 }

@@ -11,6 +11,7 @@ use Rattle.form.specs.declared.Ruling.{Ruling}
 use Rattle.form.specs.declared.Ruling.the-variants.{Broken}
 use Rattle.form.specs.declared.Verdict.the-variants as verdict
 use Rattle.form.proofs.EachKind.{few-kinds}
+use Rattle.form.proofs.Meaning.{small}
 use Rattle.filing.specs.Lists.{cut}
 use Rattle.lists.specs.Rules.{listRules}
 use Rattle.rows.specs.Reading.{readRules, readAnswer, roomAfter}
@@ -33,18 +34,22 @@ use Rattle.steps.proofs.Told.{figures-told, doubles-told}
 use Rattle.promises.specs.Order.{numbers, ByOrder, by-order, Coded, by-code}
 
 -- ---- the orders
--- "Sheets and doubles: 1 to 8"
-pub sheets-numbers : (s : List ℕ) → numbers (rules s) ≡ 1 ∷ 2 ∷ 3 ∷ 4 ∷ 5 ∷ 6 ∷ 7 ∷ 8 ∷ []
+-- "Sheets and doubles: 1 to 8", and "01's order closes over" 8
+pub sheets-numbers : (s : List ℕ) → numbers (rules s) ≡ 1 ∷ 2 ∷ 3 ∷ 4 ∷ 5 ∷ 6 ∷ 7 ∷ []
 unfolding numbers blockRules
 sheets-numbers s = refl
 
--- "Reading: 1 to 9"
-pub read-numbers : (s room : List ℕ) → numbers (readRules s room) ≡ 1 ∷ 2 ∷ 3 ∷ 4 ∷ 5 ∷ 6 ∷ 7 ∷ 8 ∷ 9 ∷ []
+-- "8 is never given again"
+pub never-8 : (s : List ℕ) (p : ℕ) → verdictOf s ≡ verdict.Refused 8 p → ⊥
+never-8 s p e = omega (arith, small s 8 p e .0)
+
+-- "Reading: 1 to 9", but 8
+pub read-numbers : (s room : List ℕ) → numbers (readRules s room) ≡ 1 ∷ 2 ∷ 3 ∷ 4 ∷ 5 ∷ 6 ∷ 7 ∷ 9 ∷ []
 unfolding numbers blockRules
 read-numbers s room = refl
 
--- "Writing: 10, then 5 to 9"
-pub write-numbers : (edition : ℕ) (lengths rows room : List ℕ) → numbers (writeRules edition lengths rows room) ≡ 10 ∷ 5 ∷ 6 ∷ 7 ∷ 8 ∷ 9 ∷ []
+-- "Writing: 10, then 5 to 9", but 8
+pub write-numbers : (edition : ℕ) (lengths rows room : List ℕ) → numbers (writeRules edition lengths rows room) ≡ 10 ∷ 5 ∷ 6 ∷ 7 ∷ 9 ∷ []
 unfolding numbers listRules
 write-numbers edition lengths rows room = refl
 
@@ -78,23 +83,23 @@ write-by-order edition lengths rows room = by-order (writtenBy edition (cut leng
 
 -- ---- from C
 -- "from C, then 11 and last 9"
-pub c-judge-numbers : (s counts : List ℕ) → numbers (judgeRules s counts) ≡ 1 ∷ 2 ∷ 3 ∷ 4 ∷ 5 ∷ 6 ∷ 7 ∷ 8 ∷ 9 ∷ []
+pub c-judge-numbers : (s counts : List ℕ) → numbers (judgeRules s counts) ≡ 1 ∷ 2 ∷ 3 ∷ 4 ∷ 5 ∷ 6 ∷ 7 ∷ 9 ∷ []
 unfolding numbers blockRules
 c-judge-numbers s counts = refl
 
-pub c-subtotal-numbers : (s : List ℕ) (code : ℕ) (room : List ℕ) → numbers (subtotalRules s code room) ≡ 1 ∷ 2 ∷ 3 ∷ 4 ∷ 5 ∷ 6 ∷ 7 ∷ 8 ∷ 11 ∷ 9 ∷ []
+pub c-subtotal-numbers : (s : List ℕ) (code : ℕ) (room : List ℕ) → numbers (subtotalRules s code room) ≡ 1 ∷ 2 ∷ 3 ∷ 4 ∷ 5 ∷ 6 ∷ 7 ∷ 11 ∷ 9 ∷ []
 unfolding numbers blockRules
 c-subtotal-numbers s code room = refl
 
-pub c-figures-numbers : (s room : List ℕ) → numbers (figuresRules s room) ≡ 1 ∷ 2 ∷ 3 ∷ 4 ∷ 5 ∷ 6 ∷ 7 ∷ 8 ∷ 9 ∷ []
+pub c-figures-numbers : (s room : List ℕ) → numbers (figuresRules s room) ≡ 1 ∷ 2 ∷ 3 ∷ 4 ∷ 5 ∷ 6 ∷ 7 ∷ 9 ∷ []
 unfolding numbers blockRules
 c-figures-numbers s room = refl
 
-pub c-read-numbers : (s rows counts : List ℕ) → numbers (readRulesC s rows counts) ≡ 1 ∷ 2 ∷ 3 ∷ 4 ∷ 5 ∷ 6 ∷ 7 ∷ 8 ∷ 9 ∷ []
+pub c-read-numbers : (s rows counts : List ℕ) → numbers (readRulesC s rows counts) ≡ 1 ∷ 2 ∷ 3 ∷ 4 ∷ 5 ∷ 6 ∷ 7 ∷ 9 ∷ []
 unfolding numbers blockRules
 c-read-numbers s rows counts = refl
 
-pub c-write-numbers : (edition : ℕ) (rows lengths room size : List ℕ) → numbers (writeRulesC edition rows lengths room size) ≡ 10 ∷ 5 ∷ 6 ∷ 7 ∷ 8 ∷ 9 ∷ []
+pub c-write-numbers : (edition : ℕ) (rows lengths room size : List ℕ) → numbers (writeRulesC edition rows lengths room size) ≡ 10 ∷ 5 ∷ 6 ∷ 7 ∷ 9 ∷ []
 unfolding numbers listRules
 c-write-numbers edition rows lengths room size = refl
 

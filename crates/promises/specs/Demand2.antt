@@ -2,14 +2,16 @@
 -- those rows; an accepted return, read and written again, is the same bytes."
 use Prim.Native.Nat.{ℕ, suc, _+_, _-_, _*_, _^_, _<_, _≤_}
 use mathlib.Core.Path.{_≡_, refl, subst}
+use mathlib.Core.Bool.{cond}
 use mathlib.Core.List.{List}
 use lib.ListN.{length, getD}
-use lib.Dec.{lit<}
+use lib.Dec.{ltb, lit<}
 use lib.IntN.{pos, negℤ, _-ℤ_, _*ℤ_}
 use Rattle.form.specs.Layout.{kinds}
 use Rattle.form.specs.Bytes.{byteAt}
-use Rattle.form.specs.Records.{areaOf, before, after, onsite, onsiteOxidised, onsiteCarbon, offsite, offsiteOxidised, offsiteCarbon, tenYearArea, tenYearBefore, tenYearAfter, decay, decayCarbon}
-use Rattle.form.specs.Verdict.{rows, countsOf, countIn}
+use Rattle.form.specs.Records.{areaOf, before, after, onsite, onsiteOxidised, onsiteCarbon, offsite, offsiteOxidised, offsiteCarbon, tenYearArea, tenYearBefore, tenYearAfter, decay, decayCarbon, countedDifference, difference, tenYearDifference}
+use Rattle.form.proofs.Periods.{thinner-none, plain}
+use Rattle.form.specs.Verdict.{rows, countsOf, countIn, verdictOf}
 use Rattle.form.specs.declared.Counts.{Counts}
 use Rattle.form.specs.declared.Verdict.the-variants.{Accepted}
 use Rattle.filing.specs.Lists.{rowsIn}
@@ -18,16 +20,24 @@ use Rattle.rows.specs.Writing.{writeAnswer, bytesAfter}
 use Rattle.rows.specs.declared.Written.the-variants.{Done}
 use Rattle.trips.proofs.Again.{returned, read-accepted, read-edition, read-counts, read-rows, leftBehind, write-done, write-same}
 use Rattle.wide.proofs.SignLaws.{nearest-turned}
-use Rattle.totals.specs.Columns.{sumOf, rate, stockAmount, stockCarbon, commercial, tonnesPerM3, fuelwood, otherUse, stockPart, harvestPart, clearedPart, onsitePart, offsitePart, decayPart}
+use Rattle.totals.specs.Columns.{sumOf, rate, stockAmount, stockCarbon, commercial, tonnesPerM3, fuelwood, otherUse, stockPart, harvestPart, clearedPart, onsitePart, offsitePart, decayPart, thinnerPart}
+use Rattle.totals.proofs.Accepted.{columns-small}
 use Rattle.totals.specs.Abandoned.{youngArea, youngRate, youngCarbon, olderArea, olderRate, olderCarbon, abandonedPart}
 use Rattle.worksheets.specs.Sheets.{Sheets, figuresOf, given, stocksOf, conversionOf, gasesOf, abandonedOf}
 use Rattle.promises.specs.Rounding.{Rounded, rounds}
 
--- "5-1", as 01 has it; the parameter row gives N
+-- "its difference counts as 0": what a period counts with, by its densities before and after, in every column below and in the doubles
+pub thinner-counts-0 : (b a : ℕ) → b < a → countedDifference b a ≡ 0
+thinner-counts-0 = thinner-none
+
+pub else-the-difference : (b a : ℕ) → a ≤ b → countedDifference b a ≡ b - a
+else-the-difference = plain
+
+-- "5-1", as 01 has it, with the differences that count; the parameter row gives N
 pub record Sheet5-1 (s : List ℕ) (v : Sheets) : Type 0 where
   pub E : v .stocks .e ≡ sumOf (λ r. stockAmount r * rate r * stockCarbon r) (rows 2 s)
   pub K : v .stocks .k ≡ sumOf (λ r. commercial r * tonnesPerM3 r + 1000 * (fuelwood r + otherUse r)) (rows 3 s)
-  pub L : v .stocks .l ≡ sumOf (λ r. areaOf r * (before r - after r) * offsite r) (rows 1 s)
+  pub L : v .stocks .l ≡ sumOf (λ r. areaOf r * difference r * offsite r) (rows 1 s)
   pub M : v .stocks .m ≡ pos (100 * v .stocks .k) -ℤ pos (v .stocks .l)
   pub O : v .stocks .o ≡ v .stocks .m *ℤ pos (given s .n)
   pub P : v .stocks .p ≡ pos (100 * v .stocks .e) -ℤ v .stocks .o
@@ -37,11 +47,13 @@ pub record Sheet5-1 (s : List ℕ) (v : Sheets) : Type 0 where
 
 -- "5-2"
 pub record Sheet5-2 (s : List ℕ) (v : Sheets) : Type 0 where
-  pub onsite : v .conversion .onsite ≡ sumOf (λ r. areaOf r * (before r - after r) * onsite r * onsiteOxidised r * onsiteCarbon r) (rows 1 s)
-  pub offsite : v .conversion .offsite ≡ sumOf (λ r. areaOf r * (before r - after r) * offsite r * offsiteOxidised r * offsiteCarbon r) (rows 1 s)
+  pub onsite : v .conversion .onsite ≡ sumOf (λ r. areaOf r * difference r * onsite r * onsiteOxidised r * onsiteCarbon r) (rows 1 s)
+  pub offsite : v .conversion .offsite ≡ sumOf (λ r. areaOf r * difference r * offsite r * offsiteOxidised r * offsiteCarbon r) (rows 1 s)
   pub R : v .conversion .r ≡ v .conversion .onsite + v .conversion .offsite
-  pub decay : v .conversion .decay ≡ sumOf (λ r. tenYearArea r * (tenYearBefore r - tenYearAfter r) * decay r * 1000 * decayCarbon r) (rows 1 s)
+  pub decay : v .conversion .decay ≡ sumOf (λ r. tenYearArea r * tenYearDifference r * decay r * 1000 * decayCarbon r) (rows 1 s)
   pub CO2 : Rounded (pos (11 * (v .conversion .r + v .conversion .decay))) (3 * 10 ^ 9) (pos (v .conversion .co2))
+  -- "the number of (row, period) pairs with after above before"
+  pub thinner : v .conversion .thinner ≡ sumOf (λ r. cond (ltb (before r) (after r)) 1 0 + cond (ltb (tenYearBefore r) (tenYearAfter r)) 1 0) (rows 1 s)
 
 -- "5-3, from on-site carbon only"; the parameter row gives the ratios
 pub record Sheet5-3 (s : List ℕ) (v : Sheets) : Type 0 where
@@ -73,8 +85,13 @@ figures-5-1 s =
     }
 
 pub figures-5-2 : (s : List ℕ) → Sheet5-2 s (figuresOf s)
-unfolding conversionOf sumOf onsitePart offsitePart decayPart
-figures-5-2 s = record { onsite = refl; offsite = refl; R = refl; decay = refl; CO2 = rounds _ _ (lit< tt) }
+unfolding conversionOf sumOf onsitePart offsitePart decayPart thinnerPart
+figures-5-2 s = record { onsite = refl; offsite = refl; R = refl; decay = refl; CO2 = rounds _ _ (lit< tt); thinner = refl }
+
+-- two periods of each of 32 rows
+pub few-thinner : (s : List ℕ) (c : Counts) → verdictOf s ≡ Accepted c → figuresOf s .conversion .thinner ≤ 64
+unfolding conversionOf
+few-thinner s c accepted = columns-small s c accepted .6
 
 pub figures-5-3 : (s : List ℕ) → Sheet5-3 s (figuresOf s)
 unfolding gasesOf conversionOf

@@ -6,7 +6,7 @@ ghost use lib.ListN.{length};
 ghost use Rattle.form.specs.First.{first};
 ghost use Rattle.form.specs.Layout.{layout, conversion, rowAt, aboveLimit};
 ghost use Rattle.form.specs.Block.{blocks, countOf, edition};
-ghost use Rattle.form.specs.Records.{filed, hasId, badId, overspent, grown, testNumbered};
+ghost use Rattle.form.specs.Records.{filed, hasId, badId, overspent, testNumbered};
 ghost use Rattle.records.specs.Steps.{rowTest, recordTest, Spared};
 use form::KINDS;
 use form::PARAMETERS;
@@ -68,14 +68,6 @@ fn overspent_at(bytes: &[u8], at: usize) -> bool
     1000 < two_at(bytes, at + 12) + two_at(bytes, at + 18) + two_at(bytes, at + 32)
 }
 
-fn grown_at(bytes: &[u8], at: usize) -> bool
-    requires { ⌜ at + 40 ≤ length (now bytes) ⌝ }
-    ensures { λ r. ⌜ r ≡ grown (rowAt conversion (now (bytes .entry)) at) ⌝ }
-{
-    (two_at(bytes, at + 8) < two_at(bytes, at + 10))
-        | (two_at(bytes, at + 28) < two_at(bytes, at + 30))
-}
-
 // A rule of one row, by its number, of the record at a place. A new rule is a new line.
 fn breaks(bytes: &[u8], number: u32, kind: u32, at: usize) -> bool
     requires { ⌜ at + 40 ≤ length (now bytes) ⌝ }
@@ -84,18 +76,16 @@ fn breaks(bytes: &[u8], number: u32, kind: u32, at: usize) -> bool
     match number {
         6 => above_at(bytes, kind, at),
         7 => (kind == 1) & overspent_at(bytes, at),
-        8 => (kind == 1) & grown_at(bytes, at),
         _ => false,
     }
 }
 
-// A rule that no row of a kind can break, so that the kind's blocks are passed over: 7 and 8 are about conversion rows alone.
+// A rule that no row of a kind can break, so that the kind's blocks are passed over: 7 is about conversion rows alone.
 fn spares(number: u32, kind: u32) -> bool
     ensures { λ r. ⌜ Spared number kind r ⌝ }
 {
     match number {
         7 => kind != 1,
-        8 => kind != 1,
         _ => false,
     }
 }

@@ -16,7 +16,7 @@ use Rattle.decimal.proofs.DigitLaws.{decimal-length}
 use Rattle.worksheets.specs.Sheets.{Sheets, figuresOf}
 use Rattle.worksheets.specs.Answers.{outcomeBy}
 use Rattle.worksheets.proofs.Small.{Small, figures-small}
-use Rattle.listed.specs.Listed.{Figure, listed51, listed52, listed53, listed54, listed}
+use Rattle.listed.specs.Listed.{Figure, listed51, listed52, listed53, listed54, listedPeriods, listed}
 use Rattle.listed.proofs.Laws.{counted}
 use Rattle.report.specs.Lines.{lineOf, refusedLine, textOf, printed, linesRoom}
 use Rattle.report.proofs.Room.{refused-length}
@@ -37,7 +37,7 @@ lines-short [] h = omega arith
 lines-short (f ∷ fs) h = simp length-append (omega (arith, marked-short (f .value) (h .1), lines-short fs (h .2)))
 
 listed-short : (v : Sheets) → Small v → Short (listed v)
-unfolding listed listed51 listed52 listed53 listed54
+unfolding listed listed51 listed52 listed53 listed54 listedPeriods
 listed-short v s = omega arith
 
 short-by : (s : List ℕ) (u : Verdict) → verdictOf s ≡ u → length (textOf (outcomeBy s u)) ≤ linesRoom

@@ -1,6 +1,6 @@
 -- Where row i of a kind stands in an accepted return, by the counts, and how large the sums are. Assumes nothing.
 --     kind-row              its bytes, from the kind's first block; conversion-row, parameter-row
---     sound, columns-small, room    its limits, and how large the sums are
+--     kept, columns-small, room    its limits, and how large the sums are
 --     next, turn, whole     a turn of a loop over the rows, and its end
 use Prim.Native.Nat.{ℕ, zero, suc, _+_, _-_, _*_, _/_, _%_, _^_, _<_, _≤_}
 use mathlib.Core.Path.{_≡_, refl, sym, ap, subst, _∙_}
@@ -16,16 +16,16 @@ use Rattle.form.specs.Verdict.{rowCount, countIn, rows, verdictOf}
 use Rattle.form.specs.Standing.{startBlock, firstBlock}
 use Rattle.form.specs.declared.Counts.{Counts}
 use Rattle.form.specs.declared.Verdict.the-variants.{Accepted}
-use Rattle.form.proofs.Accepted.{counted, first-block, few-rows, rows-length, one-row, row-is, inside, within, shrunk}
+use Rattle.form.proofs.Accepted.{counted, first-block, few-rows, rows-length, one-row, row-is, inside, within}
 use Rattle.form.proofs.EachKind.{kinds-are, one-kind, parameters-kind}
-use Rattle.totals.specs.Columns.{sumOf, stockPart, harvestPart, clearedPart, onsitePart, offsitePart, decayPart, columnE, columnK, columnL, onsiteTotal, offsiteTotal, decayTotal}
+use Rattle.totals.specs.Columns.{sumOf, stockPart, harvestPart, clearedPart, onsitePart, offsitePart, decayPart, thinnerPart, columnE, columnK, columnL, onsiteTotal, offsiteTotal, decayTotal, thinnerTotal}
 use Rattle.totals.specs.Abandoned.{abandonedPart, uptakeTotal}
-use Rattle.totals.specs.Sums.{Sound, partsOf, Added, Summed}
+use Rattle.totals.specs.Sums.{partsOf, Added, Summed}
 use Rattle.wide.specs.Numbers.{value}
 use Rattle.wide.proofs.Laws.{is-as}
 use Rattle.totals.specs.declared.Parts.{Parts}
 use Rattle.totals.specs.declared.Totals.{Totals}
-use Rattle.totals.proofs.Limits.{cleared-below, onsite-below, offsite-below, decay-below, stock-below, abandoned-below, harvest-below}
+use Rattle.totals.proofs.Limits.{cleared-below, onsite-below, offsite-below, decay-below, thinner-below, stock-below, abandoned-below, harvest-below}
 use Rattle.totals.proofs.Sums.{sum-next, sum-all, sum-le, sum-below}
 
 -- row i of a kind starts at a byte, and all of it is there
@@ -59,12 +59,9 @@ module _ (s : List ℕ) (c : Counts) (acc : verdictOf s ≡ Accepted c) where
   parameter-row first at e =
       kind-row parametersKind (lit≤ tt) parameters-kind e (omega (arith, counted s c acc (parametersKind - 1) parameters-kind, one-row s c acc))
 
-  -- each row keeps the rules, by its number
-  kept : (k i : ℕ) → 1 ≤ k → k ≤ kinds → i < length (rows k s) → aboveLimit (layout k) (getD (rows k s) i []) ≡ false
+  -- each row keeps its limits
+  pub kept : (k i : ℕ) → 1 ≤ k → k ≤ kinds → i < length (rows k s) → aboveLimit (layout k) (getD (rows k s) i []) ≡ false
   kept k i lo hi l = within s c acc k i lo hi (omega (arith, rows-length s c acc k))
-
-  pub sound : (i : ℕ) → i < length (rows 1 s) → Sound (getD (rows 1 s) i [])
-  sound i l = record { within = kept 1 i (lit≤ tt) (omega (arith, kinds-are)) l; shrunk = shrunk s c acc i (omega (arith, rows-length s c acc 1)) }
 
   -- what no row of a kind is above, no sum over its rows is above 32 times
   small : (k : ℕ) (f : List ℕ → ℕ) (b : ℕ) → 1 ≤ k → k ≤ kinds → ((r : List ℕ) → aboveLimit (layout k) r ≡ false → f r ≤ b) → sumOf f (rows k s) ≤ b * 32
@@ -72,7 +69,7 @@ module _ (s : List ℕ) (c : Counts) (acc : verdictOf s ≡ Accepted c) where
       le-trans (sum-below f b (rows k s) (λ j m. h _ (kept k j lo hi m)))
       (mul-le-mul-left b (omega (arith, few-rows s c acc k, rows-length s c acc k)))
 
-  pub columns-small : (columnE s < 2 ^ 64) × (columnK s < 2 ^ 64) × (columnL s < 2 ^ 64) × (onsiteTotal s < 2 ^ 80) × (offsiteTotal s < 2 ^ 80) × (decayTotal s < 2 ^ 80) × (uptakeTotal s < 2 ^ 64)
+  pub columns-small : (columnE s < 2 ^ 64) × (columnK s < 2 ^ 64) × (columnL s < 2 ^ 64) × (onsiteTotal s < 2 ^ 80) × (offsiteTotal s < 2 ^ 80) × (decayTotal s < 2 ^ 80) × (thinnerTotal s ≤ 64) × (uptakeTotal s < 2 ^ 64)
   columns-small = (
     omega (arith, small 2 stockPart (10 ^ 14) (lit≤ tt) (omega (arith, kinds-are)) stock-below),
     omega (arith, small 3 harvestPart (10 ^ 12) (lit≤ tt) (omega (arith, kinds-are)) harvest-below),
@@ -80,15 +77,16 @@ module _ (s : List ℕ) (c : Counts) (acc : verdictOf s ≡ Accepted c) where
     omega (arith, small 1 onsitePart (10 ^ 19) (lit≤ tt) one-kind onsite-below),
     omega (arith, small 1 offsitePart (10 ^ 19) (lit≤ tt) one-kind offsite-below),
     omega (arith, small 1 decayPart (10 ^ 19) (lit≤ tt) one-kind decay-below),
+    omega (arith, small 1 thinnerPart 2 (lit≤ tt) one-kind (λ r h. thinner-below r)),
     omega (arith, small 5 abandonedPart (2 * 10 ^ 14) (lit≤ tt) (omega (arith, kinds-are)) abandoned-below),
   )
 
   -- so there is room for one row more
   pub room : (t : Totals) (i : ℕ) → Summed t (take i (rows 1 s))
-      → (value (t .cleared .0) < 2 ^ 100) × (value (t .onsite .0) < 2 ^ 100) × (value (t .offsite .0) < 2 ^ 100) × (value (t .decay .0) < 2 ^ 100)
+      → (value (t .cleared .0) < 2 ^ 100) × (value (t .onsite .0) < 2 ^ 100) × (value (t .offsite .0) < 2 ^ 100) × (value (t .decay .0) < 2 ^ 100) × (value (t .thinner .0) < 2 ^ 100)
   room t i e =
       let w = columns-small in
-      (omega (arith, up clearedPart), omega (arith, up onsitePart), omega (arith, up offsitePart), omega (arith, up decayPart))
+      (omega (arith, up clearedPart), omega (arith, up onsitePart), omega (arith, up offsitePart), omega (arith, up decayPart), omega (arith, up thinnerPart))
     where
       up : (f : List ℕ → ℕ) → sumOf f (take i (rows 1 s)) ≤ sumOf f (rows 1 s)
       up f = sum-le f (rows 1 s) i
@@ -105,4 +103,5 @@ turn w q h a = record {
   onsite = is-as (a .onsite) (next onsitePart w (h .onsite .number) (ap (λ (x : Parts). x .onsite .0) q));
   offsite = is-as (a .offsite) (next offsitePart w (h .offsite .number) (ap (λ (x : Parts). x .offsite .0) q));
   decay = is-as (a .decay) (next decayPart w (h .decay .number) (ap (λ (x : Parts). x .decay .0) q));
+  thinner = is-as (a .thinner) (next thinnerPart w (h .thinner .number) (ap (λ (x : Parts). x .thinner .0) q));
 }

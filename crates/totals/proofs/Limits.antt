@@ -1,23 +1,21 @@
 -- A row that is not above its limits, number by number, and how large its parts are. Assumes nothing.
---     shrunk, period, ten-years, onsites, offsites, decays, stocks, harvests    its numbers by name
+--     period, ten-years, onsites, offsites, decays, stocks, harvests    its numbers by name
 --     cleared-below, ..    its part in each sum
-use Prim.Native.Nat.{ℕ, _-_, _*_, _^_, _<_, _≤_}
+use Prim.Native.Nat.{ℕ, _+_, _*_, _^_, _<_, _≤_}
 use mathlib.Core.Path.{_≡_}
-use mathlib.Core.Bool.{false}
+use mathlib.Core.Bool.{Bool, true, false, cond}
 use mathlib.Core.List.{List}
 use native.Mathlib.Omega.{arith}
 use native.Mathlib.Nat.{le-pred-of-lt}
 use native.Mathlib.Numerals.{bound}
-use borrow.Author.Tests.{ltb-false}
 use lib.ListN.{getD}
-use lib.Dec.{ltb, lit<, lit≤}
+use lib.Dec.{lit<, lit≤}
 use Rattle.form.specs.Layout.{field, conversion, stock, harvest, abandoned, aboveLimit}
-use Rattle.form.specs.Records.{areaOf, before, after, onsite, onsiteOxidised, onsiteCarbon, offsite, offsiteOxidised, offsiteCarbon, tenYearArea, tenYearBefore, tenYearAfter, decay, decayCarbon}
-use Rattle.form.proofs.Tests.{or-none}
+use Rattle.form.specs.Records.{areaOf, before, after, onsite, onsiteOxidised, onsiteCarbon, offsite, offsiteOxidised, offsiteCarbon, tenYearArea, tenYearBefore, tenYearAfter, decay, decayCarbon, thinner, countedDifference, difference}
+use Rattle.form.proofs.Periods.{counted-le}
 use Rattle.form.proofs.Accepted.{limit-of}
-use Rattle.totals.specs.Columns.{rate, stockAmount, stockCarbon, commercial, tonnesPerM3, fuelwood, otherUse, stockPart, harvestPart, clearedPart, onsitePart, offsitePart, decayPart}
+use Rattle.totals.specs.Columns.{rate, stockAmount, stockCarbon, commercial, tonnesPerM3, fuelwood, otherUse, stockPart, harvestPart, clearedPart, onsitePart, offsitePart, decayPart, thinnerPart}
 use Rattle.totals.specs.Abandoned.{abandonedPart}
-use Rattle.totals.specs.Sums.{Sound}
 
 -- a number of four bytes times one or two of two bytes
 pub four-two : (a b : ℕ) → a < 2 ^ 32 → b < 2 ^ 16 → a * b ≤ 2 ^ 48
@@ -30,11 +28,14 @@ four-two-two a b c ha hb hc = grw (bound, le-pred-of-lt ha, le-pred-of-lt hb, le
 pub biomass-two : (a b : ℕ) → a ≤ 10 ^ 10 → b < 2 ^ 16 → a * b < 2 ^ 64
 biomass-two a b ha hb = grw (bound, ha, le-pred-of-lt hb) (lit< tt)
 
--- what has not grown has shrunk, in both periods
-pub shrunk : {r : List ℕ} → Sound r → (after r ≤ before r) × (tenYearAfter r ≤ tenYearBefore r)
-shrunk {r} h =
-    let d = or-none (ltb (before r) (after r)) (ltb (tenYearBefore r) (tenYearAfter r)) (h .shrunk) in
-    (ltb-false (before r) (after r) (d .0), ltb-false (tenYearBefore r) (tenYearAfter r) (d .1))
+-- a period is thinner, or it is not
+period-one : (b : Bool) → cond b 1 0 ≤ 1
+period-one true = lit≤ tt
+period-one false = lit≤ tt
+
+pub thinner-below : (r : List ℕ) → thinnerPart r ≤ 2
+unfolding thinnerPart
+thinner-below r = omega (arith, period-one (thinner (before r) (after r)), period-one (thinner (tenYearBefore r) (tenYearAfter r)))
 
 module _ (r : List ℕ) (h : aboveLimit conversion r ≡ false) where
   fits : (i : ℕ) → i < 15 → getD r i 0 ≤ getD conversion i (field 0 0 0) .limit
@@ -56,13 +57,13 @@ module _ (r : List ℕ) (h : aboveLimit conversion r ≡ false) where
   decays = (fits 13 (lit< tt), fits 14 (lit< tt))
 
   -- a difference is no more than what it is taken from
-  five : (a b d f o c : ℕ) → a ≤ 1000000 → b ≤ 10000 → f ≤ 1000 → o ≤ 1000 → c ≤ 1000 → a * (b - d) * f * o * c ≤ 10 ^ 19
-  five a b d f o c ha hb hf ho hc = let m : b - d ≤ 10000 = omega arith in grw (bound, ha, m, hf, ho, hc) (lit≤ tt)
+  five : (a b d f o c : ℕ) → a ≤ 1000000 → b ≤ 10000 → f ≤ 1000 → o ≤ 1000 → c ≤ 1000 → a * countedDifference b d * f * o * c ≤ 10 ^ 19
+  five a b d f o c ha hb hf ho hc = let m : countedDifference b d ≤ 10000 = omega (arith, counted-le b d) in grw (bound, ha, m, hf, ho, hc) (lit≤ tt)
 
   pub cleared-below : clearedPart r ≤ 10 ^ 13
   unfolding clearedPart
   cleared-below =
-      let m : before r - after r ≤ 10000 = omega (arith, period) in
+      let m : difference r ≤ 10000 = omega (arith, period, counted-le (before r) (after r)) in
       grw (bound, period .0, m, offsites .0) (lit≤ tt)
 
   pub onsite-below : onsitePart r ≤ 10 ^ 19

@@ -1,8 +1,9 @@
 -- The workbook's columns that are plain sums over rows, each an exact whole number in the unit of 01's "Worksheet rules".
-use Prim.Native.Nat.{ℕ, _+_, _-_, _*_}
+use Prim.Native.Nat.{ℕ, _+_, _*_}
+use mathlib.Core.Bool.{cond}
 use mathlib.Core.List.{List, [], _∷_}
 use lib.ListN.{getD}
-use Rattle.form.specs.Records.{areaOf, before, after, onsite, onsiteOxidised, onsiteCarbon, offsite, offsiteOxidised, offsiteCarbon, tenYearArea, tenYearBefore, tenYearAfter, decay, decayCarbon}
+use Rattle.form.specs.Records.{areaOf, before, after, onsite, onsiteOxidised, onsiteCarbon, offsite, offsiteOxidised, offsiteCarbon, tenYearArea, tenYearBefore, tenYearAfter, decay, decayCarbon, thinner, difference, tenYearDifference}
 use Rattle.form.specs.Verdict.{rows}
 
 -- a figure of each row, added up over the rows
@@ -41,17 +42,21 @@ unfoldable pub harvestPart : List ℕ → ℕ
 harvestPart r = commercial r * tonnesPerM3 r + 1000 * (fuelwood r + otherUse r)
 
 unfoldable pub clearedPart : List ℕ → ℕ
-clearedPart r = areaOf r * (before r - after r) * offsite r
+clearedPart r = areaOf r * difference r * offsite r
 
 unfoldable pub onsitePart : List ℕ → ℕ
-onsitePart r = areaOf r * (before r - after r) * onsite r * onsiteOxidised r * onsiteCarbon r
+onsitePart r = areaOf r * difference r * onsite r * onsiteOxidised r * onsiteCarbon r
 
 unfoldable pub offsitePart : List ℕ → ℕ
-offsitePart r = areaOf r * (before r - after r) * offsite r * offsiteOxidised r * offsiteCarbon r
+offsitePart r = areaOf r * difference r * offsite r * offsiteOxidised r * offsiteCarbon r
 
 -- "Decay carbon takes the ten-year fields with oxidised 1,000."
 unfoldable pub decayPart : List ℕ → ℕ
-decayPart r = tenYearArea r * (tenYearBefore r - tenYearAfter r) * decay r * 1000 * decayCarbon r
+decayPart r = tenYearArea r * tenYearDifference r * decay r * 1000 * decayCarbon r
+
+-- of the row's two periods, those with "after above before"
+unfoldable pub thinnerPart : List ℕ → ℕ
+thinnerPart r = cond (thinner (before r) (after r)) 1 0 + cond (thinner (tenYearBefore r) (tenYearAfter r)) 1 0
 
 -- 5-1: "E = sum of amount x rate x carbon fraction (10^-7 kt C)"
 abbrev pub columnE : List ℕ → ℕ
@@ -61,11 +66,11 @@ columnE s = sumOf stockPart (rows 2 s)
 abbrev pub columnK : List ℕ → ℕ
 columnK s = sumOf harvestPart (rows 3 s)
 
--- 5-1: "L = sum over conversion rows of area x (before - after) x off-site fraction (10^-6 kt)"
+-- 5-1: "L = sum over conversion rows of area x (before - after) x off-site fraction (10^-6 kt)", with the difference that counts
 abbrev pub columnL : List ℕ → ℕ
 columnL s = sumOf clearedPart (rows 1 s)
 
--- 5-2: "on-site and off-site carbon = sum of area x (before - after) x fraction x oxidised x carbon fraction (10^-12 kt C)"
+-- 5-2: "on-site and off-site carbon = sum of area x (before - after) x fraction x oxidised x carbon fraction (10^-12 kt C)", likewise
 abbrev pub onsiteTotal : List ℕ → ℕ
 onsiteTotal s = sumOf onsitePart (rows 1 s)
 
@@ -74,3 +79,7 @@ offsiteTotal s = sumOf offsitePart (rows 1 s)
 
 abbrev pub decayTotal : List ℕ → ℕ
 decayTotal s = sumOf decayPart (rows 1 s)
+
+-- "the number of (row, period) pairs with after above before"
+abbrev pub thinnerTotal : List ℕ → ℕ
+thinnerTotal s = sumOf thinnerPart (rows 1 s)

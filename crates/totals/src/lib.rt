@@ -2,15 +2,18 @@
 pub mod abandoned;
 
 ghost use mathlib.Core.Path.{_≡_};
-ghost use Prim.Native.Nat.{_+_, _-_, _*_, _/_, _%_, _^_, _≤_, _<_};
+ghost use Prim.Native.Nat.{_+_, _*_, _/_, _%_, _^_, _≤_, _<_};
 ghost use lib.ListN.{length};
-ghost use Rattle.form.specs.Layout.{conversion, stock, harvest, rowAt};
+ghost use mathlib.Core.Bool.{false, cond};
+ghost use Rattle.form.specs.Layout.{conversion, stock, harvest, rowAt, aboveLimit};
+ghost use Rattle.form.specs.Records.{thinner, countedDifference};
 ghost use Rattle.form.specs.Verdict.{rows, verdictOf};
 ghost use Rattle.form.specs.declared.Verdict.the-variants.{Accepted};
 ghost use Rattle.wide.specs.Numbers.{value, Is};
-ghost use Rattle.totals.specs.Columns.{stockPart, harvestPart, decayPart, columnE, columnK};
-ghost use Rattle.totals.specs.Sums.{Sound, partsOf, Added, Summed};
+ghost use Rattle.totals.specs.Columns.{stockPart, harvestPart, decayPart, thinnerPart, columnE, columnK};
+ghost use Rattle.totals.specs.Sums.{partsOf, Added, Summed};
 use form::Counts;
+use form::counted_difference;
 use form::first_block;
 use form::four_at;
 use form::row_start;
@@ -24,17 +27,22 @@ pub struct DryMatter(pub Wide);
 
 pub struct Carbon(pub Wide);
 
-// A row's part in a sum: one substance, in one word.
+// How many periods of rows.
+pub struct Periods(pub Wide);
+
+// A row's part in a sum: one substance, or its periods, in one word.
 pub struct DryMatterPart(pub u64);
 
 pub struct CarbonPart(pub u64);
 
+pub struct PeriodsPart(pub u64);
+
 // The biomass that an area loses.
 fn lost(area: u32, before: u32, after: u32) -> DryMatterPart
-    requires { ⌜ (area ≤ 1000000) × (before ≤ 10000) × (after ≤ before) ⌝ }
-    ensures { λ r. ⌜ (r .0 ≡ area * (before - after)) × (r .0 ≤ 10 ^ 10) ⌝ }
+    requires { ⌜ (area ≤ 1000000) × (before ≤ 10000) ⌝ }
+    ensures { λ r. ⌜ (r .0 ≡ area * countedDifference before after) × (r .0 ≤ 10 ^ 10) ⌝ }
 {
-    DryMatterPart((area as u64) * ((before - after) as u64))
+    DryMatterPart((area as u64) * (counted_difference(before, after) as u64))
 }
 
 // A fraction of dry matter.
@@ -67,12 +75,13 @@ pub struct Parts {
     pub onsite: CarbonPart,
     pub offsite: CarbonPart,
     pub decay: CarbonPart,
+    pub thinner: PeriodsPart,
 }
 
 // One row's part in decay carbon, from what was cleared in the ten years before.
 fn decay_at(bytes: &[u8], at: usize) -> CarbonPart
     requires { ⌜ at + 40 ≤ length (now bytes) ⌝ }
-    requires { ⌜ Sound (rowAt conversion (now bytes) at) ⌝ }
+    requires { ⌜ aboveLimit conversion (rowAt conversion (now bytes) at) ≡ false ⌝ }
     ensures { λ r. ⌜ r .0 ≡ decayPart (rowAt conversion (now (bytes .entry)) at) ⌝ }
 {
     let biomass = lost(
@@ -88,9 +97,26 @@ fn decay_at(bytes: &[u8], at: usize) -> CarbonPart
     )
 }
 
+// 1 for a period that is thinner before than after, and 0 for another.
+fn thinner_period(before: u32, after: u32) -> u64
+    ensures { λ r. ⌜ (r ≡ cond (thinner before after) 1 0) × (r ≤ 1) ⌝ }
+{
+    if before < after { 1 } else { 0 }
+}
+
+// The row's thinner periods.
+fn thinner_at(bytes: &[u8], at: usize) -> PeriodsPart
+    requires { ⌜ at + 40 ≤ length (now bytes) ⌝ }
+    ensures { λ r. ⌜ r .0 ≡ thinnerPart (rowAt conversion (now (bytes .entry)) at) ⌝ }
+{
+    let one = thinner_period(two_at(bytes, at + 8), two_at(bytes, at + 10));
+    let ten_years = thinner_period(two_at(bytes, at + 28), two_at(bytes, at + 30));
+    PeriodsPart(one + ten_years)
+}
+
 fn parts_at(bytes: &[u8], at: usize) -> Parts
     requires { ⌜ at + 40 ≤ length (now bytes) ⌝ }
-    requires { ⌜ Sound (rowAt conversion (now bytes) at) ⌝ }
+    requires { ⌜ aboveLimit conversion (rowAt conversion (now bytes) at) ≡ false ⌝ }
     ensures { λ r. ⌜ r ≡ partsOf (rowAt conversion (now (bytes .entry)) at) ⌝ }
 {
     let biomass = lost(
@@ -114,6 +140,7 @@ fn parts_at(bytes: &[u8], at: usize) -> Parts
             two_at(bytes, at + 22),
         ),
         decay: decay_at(bytes, at),
+        thinner: thinner_at(bytes, at),
     }
 }
 
@@ -123,9 +150,10 @@ pub struct Totals {
     pub onsite: Carbon,
     pub offsite: Carbon,
     pub decay: Carbon,
+    pub thinner: Periods,
 }
 
-// A row's part goes to the sum of its own substance.
+// A row's part goes to the sum of its own substance, or to that of periods.
 fn plus_dry_matter(sum: DryMatter, part: DryMatterPart) -> DryMatter
     requires { ⌜ value (sum .0) < 2 ^ 100 ⌝ }
     ensures { λ r. ⌜ Is (r .0) (value (sum .0) + part .0) ⌝ }
@@ -140,8 +168,15 @@ fn plus_carbon(sum: Carbon, part: CarbonPart) -> Carbon
     Carbon(add_word(sum.0, part.0))
 }
 
+fn plus_periods(sum: Periods, part: PeriodsPart) -> Periods
+    requires { ⌜ value (sum .0) < 2 ^ 100 ⌝ }
+    ensures { λ r. ⌜ Is (r .0) (value (sum .0) + part .0) ⌝ }
+{
+    Periods(add_word(sum.0, part.0))
+}
+
 fn add_row(t: Totals, p: Parts) -> Totals
-    requires { ⌜ (value (t .cleared .0) < 2 ^ 100) × (value (t .onsite .0) < 2 ^ 100) × (value (t .offsite .0) < 2 ^ 100) × (value (t .decay .0) < 2 ^ 100) ⌝ }
+    requires { ⌜ (value (t .cleared .0) < 2 ^ 100) × (value (t .onsite .0) < 2 ^ 100) × (value (t .offsite .0) < 2 ^ 100) × (value (t .decay .0) < 2 ^ 100) × (value (t .thinner .0) < 2 ^ 100) ⌝ }
     ensures { λ r. ⌜ Added t p r ⌝ }
 {
     Totals {
@@ -149,10 +184,11 @@ fn add_row(t: Totals, p: Parts) -> Totals
         onsite: plus_carbon(t.onsite, p.onsite),
         offsite: plus_carbon(t.offsite, p.offsite),
         decay: plus_carbon(t.decay, p.decay),
+        thinner: plus_periods(t.thinner, p.thinner),
     }
 }
 
-// One pass over the rows for all four: their biomass is worked out once.
+// One pass over the rows for all five: their biomass is worked out once.
 pub fn sum_conversion(bytes: &[u8], c: Counts) -> Totals
     requires { ⌜ verdictOf (now bytes) ≡ Accepted c ⌝ }
     ensures { λ r. ⌜ Summed r (rows 1 (now (bytes .entry))) ⌝ }
@@ -164,6 +200,7 @@ pub fn sum_conversion(bytes: &[u8], c: Counts) -> Totals
         onsite: Carbon(zero),
         offsite: Carbon(zero),
         decay: Carbon(zero),
+        thinner: Periods(zero),
     };
     let mut i: usize = 0;
     while i < n {

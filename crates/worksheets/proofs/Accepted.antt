@@ -31,13 +31,13 @@ ratios s c acc = record { n = fits 0 (lit< tt); ch4 = fits 1 (lit< tt); co = fit
 
 pub figures-are : (s : List ℕ) (f : Figures) {t : Totals} {p : Parameters} {e k u : ℕ} → Summed t (rows 1 s) → p ≡ given s → e ≡ columnE s → k ≡ columnK s → u ≡ uptakeTotal s
     → f .stocks ≡ stocksHeld (stocksOf e k (value (t .cleared .0)) (p .n))
-    → f .conversion ≡ conversionHeld (conversionOf (value (t .onsite .0)) (value (t .offsite .0)) (value (t .decay .0)))
+    → f .conversion ≡ conversionHeld (conversionOf (value (t .onsite .0)) (value (t .offsite .0)) (value (t .decay .0)) (value (t .thinner .0)))
     → f .gases ≡ gasesHeld (gasesOf (value (t .onsite .0)) p)
     → f .abandoned ≡ abandonedHeld (abandonedOf u)
     → f ≡ figuresHeld (figuresOf s)
 figures-are s f t p e k u stocks conversion gases abandoned =
     let a = stocks ∙ (λ i. stocksHeld (stocksOf (e i) (k i) (t .cleared .number i) (p i .n))) in
-    let b = conversion ∙ (λ i. conversionHeld (conversionOf (t .onsite .number i) (t .offsite .number i) (t .decay .number i))) in
+    let b = conversion ∙ (λ i. conversionHeld (conversionOf (t .onsite .number i) (t .offsite .number i) (t .decay .number i) (t .thinner .number i))) in
     let c = gases ∙ (λ i. gasesHeld (gasesOf (t .onsite .number i) (p i))) in
     let d = abandoned ∙ (λ i. abandonedHeld (abandonedOf (u i))) in
     λ i. record { stocks = a i; conversion = b i; gases = c i; abandoned = d i }

@@ -40,10 +40,10 @@ stocks-are f {e} {k} {l} n he hk hl hm ho hp hq hr =
       report = record { 0 = signed r i };
     }
 
-pub conversion-is : (f : Conversion) {a b d sum : ℕ} → Is (f .onsite .0) a → Is (f .offsite .0) b → Is (f .decay .0) d → Is (f .r .0) (a + b)
-    → sum ≡ value (f .r .0) + d → Is (f .co2 .0) (co2Of sum) → f ≡ conversionHeld (conversionOf a b d)
+pub conversion-is : (f : Conversion) {a b d t sum : ℕ} → Is (f .onsite .0) a → Is (f .offsite .0) b → Is (f .decay .0) d → Is (f .thinner .0) t → Is (f .r .0) (a + b)
+    → sum ≡ value (f .r .0) + d → Is (f .co2 .0) (co2Of sum) → f ≡ conversionHeld (conversionOf a b d t)
 unfolding conversionOf conversionHeld
-conversion-is f {a} {b} {d} ha hb hd hr s hc =
+conversion-is f {a} {b} {d} ha hb hd ht hr s hc =
     let c = is-as hc (ap co2Of (s ∙ ap (λ (n : ℕ). n + d) (hr .number))) in
     λ i. record {
       onsite = record { 0 = words ha i };
@@ -51,6 +51,7 @@ conversion-is f {a} {b} {d} ha hb hd hr s hc =
       r = record { 0 = words hr i };
       decay = record { 0 = words hd i };
       co2 = record { 0 = words c i };
+      thinner = record { 0 = words ht i };
     }
 
 -- so many sevenths of the nitrogen in the carbon

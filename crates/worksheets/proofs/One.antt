@@ -32,6 +32,7 @@ conversion-told v = λ i. record {
   r = value-words (v .r) .number i;
   decay = value-words (v .decay) .number i;
   co2 = value-words (v .co2) .number i;
+  thinner = value-words (v .thinner) .number i;
 }
 
 gases-told : (v : Sheet53) → gasesSaid (gasesHeld v) ≡ v

@@ -46,7 +46,7 @@ abbrev pub Small51 : Sheet51 → Type 0
 Small51 v = Fits (v .e) × Fits (v .k) × Fits (v .l) × Fits (natAbs (v .m)) × Fits (natAbs (v .o)) × Fits (natAbs (v .p)) × Fits (natAbs (v .q)) × Fits (natAbs (v .report))
 
 abbrev pub Small52 : Sheet52 → Type 0
-Small52 v = Fits (v .onsite) × Fits (v .offsite) × Fits (v .r) × Fits (v .decay) × Fits (v .co2)
+Small52 v = Fits (v .onsite) × Fits (v .offsite) × Fits (v .r) × Fits (v .decay) × Fits (v .co2) × Fits (v .thinner)
 
 abbrev pub Small53 : Sheet53 → Type 0
 Small53 v = Fits (v .ch4) × Fits (v .co) × Fits (v .n2o) × Fits (v .nox)
@@ -69,9 +69,9 @@ stocks-small e k l n he hk hl hn =
     eleven : (z : ℤ) → natAbs z < 2 ^ 91 → Fits (natAbs (columnQ z))
     eleven z h = omega (arith, nearest-abs (pos 11 *ℤ z) 3000000, ap natAbs (*ℤ-comm (pos 11) z), size-times z 11)
 
-conversion-small : (a b d : ℕ) → a < 2 ^ 80 → b < 2 ^ 80 → d < 2 ^ 80 → Small52 (conversionOf a b d)
+conversion-small : (a b d t : ℕ) → a < 2 ^ 80 → b < 2 ^ 80 → d < 2 ^ 80 → t ≤ 64 → Small52 (conversionOf a b d t)
 unfolding conversionOf
-conversion-small a b d ha hb hd = (omega arith, omega arith, omega arith, omega arith, omega (arith, nearest-le (11 * (a + b + d)) 3000000000))
+conversion-small a b d t ha hb hd ht = (omega arith, omega arith, omega arith, omega arith, omega (arith, nearest-le (11 * (a + b + d)) 3000000000), omega arith)
 
 gases-small : (c : ℕ) (p : Parameters) → c < 2 ^ 80 → Ratios p → Small53 (gasesOf c p)
 unfolding gasesOf
@@ -97,4 +97,4 @@ pub figures-small : (s : List ℕ) (c : Counts) → verdictOf s ≡ Accepted c �
 figures-small s c acc =
     let w = columns-small s c acc in
     let r = ratios s c acc in
-    (stocks-small _ _ _ _ (w .0) (w .1) (w .2) (r .n), conversion-small _ _ _ (w .3) (w .4) (w .5), gases-small _ _ (w .3) r, abandoned-small _ (w .6))
+    (stocks-small _ _ _ _ (w .0) (w .1) (w .2) (r .n), conversion-small _ _ _ _ (w .3) (w .4) (w .5) (w .6), gases-small _ _ (w .3) r, abandoned-small _ (w .7))

@@ -48,6 +48,7 @@ conversionSaid f = record {
   r = value (f .r .0);
   decay = value (f .decay .0);
   co2 = value (f .co2 .0);
+  thinner = value (f .thinner .0);
 }
 
 abbrev pub gasesSaid : Gases → Sheet53
@@ -84,6 +85,7 @@ conversionHeld v = record {
   r = record { 0 = wordsOf (v .r) };
   decay = record { 0 = wordsOf (v .decay) };
   co2 = record { 0 = wordsOf (v .co2) };
+  thinner = record { 0 = wordsOf (v .thinner) };
 }
 
 unfoldable pub gasesHeld : Sheet53 → Gases

@@ -7,7 +7,7 @@ use Rattle.form.specs.Layout.{parametersKind}
 use Rattle.form.specs.Verdict.{rows}
 use Rattle.wide.specs.Rounding.{nearest}
 use Rattle.wide.specs.Signs.{nearestZ}
-use Rattle.totals.specs.Columns.{columnE, columnK, columnL, onsiteTotal, offsiteTotal, decayTotal}
+use Rattle.totals.specs.Columns.{columnE, columnK, columnL, onsiteTotal, offsiteTotal, decayTotal, thinnerTotal}
 use Rattle.totals.specs.Abandoned.{uptakeTotal}
 use Rattle.worksheets.specs.declared.sheets.Parameters.{Parameters}
 
@@ -97,6 +97,7 @@ pub record Sheet52 : Type 0 where
   pub r : ℕ
   pub decay : ℕ
   pub co2 : ℕ
+  pub thinner : ℕ
 
 pub record Sheet53 : Type 0 where
   pub ch4 : ℕ
@@ -123,10 +124,10 @@ stocksOf e k l n =
     record { e = e; k = k; l = l; m = m; o = o; p = p; q = q; report = reported q }
 
 -- "R is their sum."
-unfoldable pub conversionOf : ℕ → ℕ → ℕ → Sheet52
-conversionOf onsite offsite decay =
+unfoldable pub conversionOf : ℕ → ℕ → ℕ → ℕ → Sheet52
+conversionOf onsite offsite decay thinner =
     let r = onsite + offsite in
-    record { onsite = onsite; offsite = offsite; r = r; decay = decay; co2 = co2Of (r + decay) }
+    record { onsite = onsite; offsite = offsite; r = r; decay = decay; co2 = co2Of (r + decay); thinner = thinner }
 
 unfoldable pub gasesOf : ℕ → Parameters → Sheet53
 gasesOf c p = record { ch4 = ch4Of c (p .ch4); co = coOf c (p .co); n2o = n2oOf c (p .nc) (p .n2o); nox = noxOf c (p .nc) (p .nox) }
@@ -138,7 +139,7 @@ abandonedOf u = record { uptake = u; co2 = uptakeCo2 u }
 abbrev pub figuresOf : List ℕ → Sheets
 figuresOf s = record {
   stocks = stocksOf (columnE s) (columnK s) (columnL s) (given s .n);
-  conversion = conversionOf (onsiteTotal s) (offsiteTotal s) (decayTotal s);
+  conversion = conversionOf (onsiteTotal s) (offsiteTotal s) (decayTotal s) (thinnerTotal s);
   gases = gasesOf (onsiteTotal s) (given s);
   abandoned = abandonedOf (uptakeTotal s);
 }

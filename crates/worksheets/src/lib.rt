@@ -30,7 +30,7 @@ pub fn work_out(bytes: &[u8], c: Counts) -> Figures
     let p = read_parameters(bytes, c);
     let t = sum_conversion(bytes, c);
     let stocks = work_stocks(sum_stocks(bytes, c), sum_harvest(bytes, c), t.cleared, p.n);
-    let conversion = work_conversion(t.onsite, t.offsite, t.decay);
+    let conversion = work_conversion(t.onsite, t.offsite, t.decay, t.thinner);
     let gases = work_gases(t.onsite, p);
     let abandoned = work_abandoned(sum_abandoned(bytes, c));
     Figures {

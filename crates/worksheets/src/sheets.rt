@@ -31,6 +31,7 @@ use form::row_start;
 use form::two_at;
 use totals::Carbon;
 use totals::DryMatter;
+use totals::Periods;
 
 // The parameter row, in thousandths.
 pub struct Parameters {
@@ -133,11 +134,17 @@ pub struct Conversion {
     pub r: Carbon,
     pub decay: Carbon,
     pub co2: Co2,
+    pub thinner: Periods,
 }
 
-pub fn work_conversion(onsite: Carbon, offsite: Carbon, decay: Carbon) -> Conversion
+pub fn work_conversion(
+    onsite: Carbon,
+    offsite: Carbon,
+    decay: Carbon,
+    thinner: Periods,
+) -> Conversion
     requires { ⌜ (value (onsite .0) < 2 ^ 80) × (value (offsite .0) < 2 ^ 80) × (value (decay .0) < 2 ^ 80) ⌝ }
-    ensures { λ r. ⌜ r ≡ conversionHeld (conversionOf (value (onsite .0)) (value (offsite .0)) (value (decay .0))) ⌝ }
+    ensures { λ r. ⌜ r ≡ conversionHeld (conversionOf (value (onsite .0)) (value (offsite .0)) (value (decay .0)) (value (thinner .0))) ⌝ }
 {
     let r = both(onsite, offsite);
     let co2 = co2_of(both(r, decay));
@@ -147,6 +154,7 @@ pub fn work_conversion(onsite: Carbon, offsite: Carbon, decay: Carbon) -> Conver
         r,
         decay,
         co2,
+        thinner,
     }
 }
 

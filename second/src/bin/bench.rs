@@ -191,7 +191,7 @@ mod run {
                 |bytes| assert_eq!(first_figures(black_box(bytes), Lent::whole(&mut a)), 0),
                 |bytes| assert_eq!(figures(black_box(bytes), &mut b), 0),
             );
-            let [mut a, mut b] = [[0; 950]; 2];
+            let [mut a, mut b] = [[0; 1_000]; 2];
             bench_two(
                 "lines",
                 load,

@@ -3,7 +3,7 @@
 //!
 //! `compare_lines [SEED [INPUTS]]`. Every input is asked for with a room of the
 //! text's length, one shorter, none at all and one of any length, and for its
-//! numbers with a room of 57, one shorter or longer, or of any length; all of
+//! numbers with a room of 60, one shorter or longer, or of any length; all of
 //! our memory is looked at afterwards, the guard behind the room included. The
 //! exact halves among the figures are counted, and enough of each are due.
 
@@ -27,7 +27,7 @@ mod run {
 
     const GUARD: usize = 24;
     /// More than the 50 bytes for each figure that are always enough.
-    const MOST_LENT: usize = 1_000;
+    const MOST_LENT: usize = 1_050;
     const MEMORY: usize = MOST_LENT + GUARD;
     const MOST_NUMBERS: usize = NUMBERS + 9;
     const NUMBER_MEMORY: usize = MOST_NUMBERS + GUARD;
@@ -42,7 +42,8 @@ mod run {
             name: "lines",
             inputs: inputs::least(),
             least: inputs::least(),
-            often: &[0, 1, 2, 3, 4, 5, 6, 7, 8],
+            often: &[0, 1, 2, 3, 4, 5, 6, 7],
+            thinner: 100,
         };
         let mut calls = 0;
         let mut halves = Halves::default();

@@ -81,7 +81,7 @@ fn near_limits(rng: &mut Rng, bytes: &mut [u8], rising: bool) {
                 if let Part::Field { width, limit } = *part {
                     let value = match rng.below(64) {
                         0 => limit.saturating_add(1),
-                        // Small, so that sums and differences are often good.
+                        // Small, so that sums are often good.
                         1..=24 => rng.from_to(0, limit.min(limit / 4 + 1)),
                         25..=40 => 0,
                         _ => rng.from_to(0, limit / 3),

@@ -1,23 +1,22 @@
-//! Numbers 5 to 8: the ids, and each record by its fields.
+//! Numbers 5 to 7: the ids, and each record by its fields.
 
 use super::{four, two, used_records, Block, Record, Refusal, RECORDS_PER_BLOCK};
 use super::{ABANDONED, CONVERSION, HARVEST, PARAMETERS, STOCK};
 
-/// Which of the numbers 6, 7 and 8 a record is at fault with.
+/// Which of the numbers 6 and 7 a record is at fault with.
 #[derive(Clone, Copy, PartialEq, Eq)]
 struct Faults {
     limit: bool,
     fractions: bool,
-    after: bool,
 }
 
-/// The first place of each of the numbers 6, 7 and 8.
-type FirstPlaces = [Option<u32>; 3];
+/// The first place of each of the numbers 6 and 7.
+type FirstPlaces = [Option<u32>; 2];
 
-/// Numbers 5 to 8. Only tried when 1 to 4 are clean, so the blocks of one kind
+/// Numbers 5 to 7. Only tried when 1 to 4 are clean, so the blocks of one kind
 /// stand together and every count is good.
 pub(super) fn records_hold(blocks: &[Block]) -> Result<(), Refusal> {
-    let mut first: FirstPlaces = [None; 3];
+    let mut first: FirstPlaces = [None; 2];
     let mut kind_before = 0;
     let mut least_id = 0;
     for (b, block) in blocks.iter().enumerate() {
@@ -71,8 +70,8 @@ fn note(
 ) {
     for (record, place) in records.iter().zip(place..) {
         let faults = faults_of(record);
-        if faults.limit | faults.fractions | faults.after {
-            let found = [faults.limit, faults.fractions, faults.after];
+        if faults.limit | faults.fractions {
+            let found = [faults.limit, faults.fractions];
             for (first, _) in first.iter_mut().zip(found).filter(|(_, found)| *found) {
                 first.get_or_insert(place);
             }
@@ -100,25 +99,21 @@ fn any_above<const N: usize>(fields: [u16; N], limit: u16) -> bool {
 
 fn conversion_faults(r: &Record) -> Faults {
     let [area, ten_year_area] = [four(r, 4), four(r, 24)];
-    let [before, after] = twos(r, 8);
+    let densities: [u16; 2] = twos(r, 8);
     let shares: [u16; 6] = twos(r, 12);
-    let [ten_year_before, ten_year_after] = twos(r, 28);
+    let ten_year_densities: [u16; 2] = twos(r, 28);
     let [decay, decay_carbon] = twos(r, 32);
     let [on_site, _, _, off_site, _, _] = shares;
     Faults {
         limit: (area > MOST_AREA)
             | (ten_year_area > MOST_AREA)
-            | any_above(
-                [before, after, ten_year_before, ten_year_after],
-                MOST_DENSITY,
-            )
+            | any_above(densities, MOST_DENSITY)
+            | any_above(ten_year_densities, MOST_DENSITY)
             | any_above(shares, MOST_FRACTION)
             | any_above([decay, decay_carbon], MOST_FRACTION),
         // Three numbers of two bytes: their sum needs the wider word.
         fractions: u32::from(on_site) + u32::from(off_site) + u32::from(decay)
             > u32::from(MOST_FRACTION),
-        // "after above before, either period"
-        after: (after > before) | (ten_year_after > ten_year_before),
     }
 }
 
@@ -156,11 +151,10 @@ fn abandoned_faults(r: &Record) -> Faults {
     only_limit(above(4) | above(12))
 }
 
-/// Numbers 7 and 8 are about conversion records alone.
+/// Number 7 is about conversion records alone.
 fn only_limit(limit: bool) -> Faults {
     Faults {
         limit,
         fractions: false,
-        after: false,
     }
 }

@@ -1,4 +1,4 @@
-//! Numbers 5 to 8, in edition 1.
+//! Numbers 5 to 7, in edition 1, and what was number 8.
 
 use super::{accepted, lone, one_conversion, refused, Hand, Verdict};
 
@@ -53,13 +53,18 @@ fn fractions() {
     assert_eq!(full.judged(), accepted([1, 0, 0, 1]));
 }
 
+/// "8 is never given again": after may be above before in either period.
 #[test]
 fn after_and_before() {
     for at in [8, 28] {
         let with = |after| one_conversion().two(0, 0, at, 100).two(0, 0, at + 2, after);
-        assert_eq!(with(100).judged(), accepted([1, 0, 0, 1]));
-        assert_eq!(with(101).judged(), refused(8, 0));
+        for after in [0, 100, 101, 10_000] {
+            assert_eq!(with(after).judged(), accepted([1, 0, 0, 1]));
+        }
+        assert_eq!(with(10_001).judged(), refused(6, 0));
     }
+    let both = one_conversion().two(0, 0, 10, 10_000).two(0, 0, 30, 1);
+    assert_eq!(both.judged(), accepted([1, 0, 0, 1]));
 }
 
 #[test]
@@ -92,7 +97,7 @@ fn ids() {
 fn limits() {
     // Kind, offset, width, limit.
     let mut fields = vec![(1, 4, 4, 1_000_000), (1, 24, 4, 1_000_000), (2, 4, 1, 1)];
-    fields.extend([8, 28].map(|at| (1, at, 2, 10_000)));
+    fields.extend([8, 10, 28, 30].map(|at| (1, at, 2, 10_000)));
     fields.extend([12, 14, 16, 18, 20, 22, 32, 34].map(|at| (1, at, 2, 1_000)));
     fields.extend([(2, 6, 2, 10_000), (2, 8, 4, 10_000_000), (2, 12, 2, 1_000)]);
     fields.extend([4, 12, 16].map(|at| (3, at, 4, 10_000_000)));
@@ -121,16 +126,6 @@ fn limits() {
             "kind {kind} at {at}"
         );
     }
-    // Densities after, each with the largest before.
-    for at in [8, 28] {
-        let with = |after| {
-            one_conversion()
-                .two(0, 0, at, 10_000)
-                .two(0, 0, at + 2, after)
-        };
-        assert_eq!(with(10_000).judged(), accepted([1, 0, 0, 1]));
-        assert_eq!(with(10_001).judged(), refused(6, 0));
-    }
     for at in (4..16).step_by(2) {
         assert_eq!(lone().two(0, 0, at, 1_000).judged(), accepted([0, 0, 0, 1]));
         assert_eq!(lone().two(0, 0, at, 1_001).judged(), refused(6, 0));
@@ -140,6 +135,7 @@ fn limits() {
 #[test]
 fn a_lower_number_wins_from_a_higher_place() {
     let base = || Hand::new(&[(1, 3), (4, 1)]).ids(0, 3, 0);
+    // What was number 8 at a lower place is no fault.
     let after = base().two(0, 0, 10, 1);
     assert_eq!(
         after.two(0, 1, 12, 1_000).two(0, 1, 18, 1).judged(),

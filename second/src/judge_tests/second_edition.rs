@@ -210,18 +210,27 @@ fn limits_of_abandoned_land() {
     }
 }
 
-/// Numbers 7 and 8 are about conversion rows alone, and a lower number wins from
+/// Number 7 is about conversion rows alone, and a lower number wins from
 /// abandoned land behind them.
 #[test]
-fn abandoned_land_breaks_no_7_or_8() {
+fn abandoned_land_breaks_no_7() {
     let base = || Hand::second(&[(1, 1), (4, 1), (5, 2)]).ids(2, 2, 0);
     // Both fractions at their limit: 2,000 together, and no fault.
     let full = base().two(2, 0, 10, 1_000).two(2, 0, 18, 1_000);
     assert_eq!(full.judged(), accepted_second([1, 0, 0, 1, 2]));
-    let after = || base().two(0, 0, 10, 1);
-    assert_eq!(after().judged(), refused(8, 0));
-    assert_eq!(after().two(2, 1, 18, 1_001).judged(), refused(6, 25));
-    assert_eq!(after().four(2, 1, 0, 0).judged(), refused(5, 25));
-    assert_eq!(after().byte(1024 + 507, 1).judged(), refused(4, 2));
-    assert_eq!(after().edition(2, 1).judged(), refused(3, 2));
+    let fractions = || base().two(0, 0, 12, 1_000).two(0, 0, 18, 1);
+    assert_eq!(fractions().judged(), refused(7, 0));
+    assert_eq!(fractions().two(2, 1, 18, 1_001).judged(), refused(6, 25));
+    assert_eq!(fractions().four(2, 1, 0, 0).judged(), refused(5, 25));
+    assert_eq!(fractions().byte(1024 + 507, 1).judged(), refused(4, 2));
+    assert_eq!(fractions().edition(2, 1).judged(), refused(3, 2));
+}
+
+/// What was number 8 is no fault in edition 2 either.
+#[test]
+fn after_and_before_in_edition_2() {
+    for at in [10, 30] {
+        let thinner = Hand::second(&[(1, 1), (4, 1)]).two(0, 0, at, 10_000);
+        assert_eq!(thinner.judged(), accepted_second([1, 0, 0, 1, 0]));
+    }
 }

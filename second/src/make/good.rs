@@ -3,6 +3,8 @@
 use super::{fields, RowCounts, Rows, AFTER, BEFORE, MOST_ROWS, SUMMED, WITH_IDS};
 use crate::rng::Rng;
 
+const MOST_DENSITY: u32 = 10_000;
+
 impl Rows {
     /// Good rows of edition 1, this many of each of the first three kinds. More
     /// than 32 are good in everything but their number.
@@ -15,11 +17,12 @@ impl Rows {
     pub fn good_in(rng: &mut Rng, edition: u16, counts: RowCounts) -> Self {
         let ids = counts.map(|count| good_ids(rng, count));
         let [conversion, stock, harvest, abandoned] = &ids;
+        let thinner = rng.pick(&THINNER);
         Rows {
             edition,
             conversion: conversion
                 .iter()
-                .map(|&id| good_conversion(rng, id))
+                .map(|&id| good_conversion(rng, id, thinner))
                 .collect(),
             stock: good_rows(rng, 2, stock),
             harvest: good_rows(rng, 3, harvest),
@@ -125,10 +128,17 @@ fn good_row<const N: usize>(rng: &mut Rng, kind: u8, id: Option<u32>) -> [u32; N
     row
 }
 
-fn good_conversion(rng: &mut Rng, id: u32) -> [u32; 15] {
+/// In which periods some of a return's rows have more after than before: in
+/// neither, in one alone, or in both.
+const THINNER: [[bool; 2]; 4] = [[false, false], [true, false], [false, true], [true, true]];
+
+fn good_conversion(rng: &mut Rng, id: u32, thinner: [bool; 2]) -> [u32; 15] {
     let mut row: [u32; 15] = good_row(rng, 1, Some(id));
-    for (before, after) in BEFORE.into_iter().zip(AFTER) {
-        row[after] = good_value(rng, row[before]);
+    for period in 0..2 {
+        row[AFTER[period]] = good_value(rng, row[BEFORE[period]]);
+        if thinner[period] && rng.one_in(3) {
+            thin(rng, &mut row, period);
+        }
     }
     // Each takes from what the ones before it left, in any order.
     let mut left = 1_000;
@@ -139,4 +149,16 @@ fn good_conversion(rng: &mut Rng, id: u32) -> [u32; 15] {
         left -= row[at];
     }
     row
+}
+
+/// Makes the density after larger than that before, by one, by any number or up
+/// to the limit.
+pub fn thin(rng: &mut Rng, row: &mut [u32; 15], period: usize) {
+    let before = row[BEFORE[period]].min(MOST_DENSITY - 1);
+    row[BEFORE[period]] = before;
+    row[AFTER[period]] = match rng.below(4) {
+        0 => MOST_DENSITY,
+        1 => rng.from_to(before + 1, MOST_DENSITY),
+        _ => before + 1,
+    };
 }

@@ -38,7 +38,7 @@ parts-at-requires : tie.Need-parts-at-requires Inv-loop μ-loop
 parts-at-requires c κs =
     let g = c .before .before .before .before .before in
     let h = standing (now (g .args .bytes)) (g .args .c) (g .pre) (c .before .before .before .loop .i) (omega arith) in
-    rw (start c) (h .inside, h .falls)
+    rw (start c) (h .inside)
 
 plus-requires : tie.Need-plus-requires Inv-loop μ-loop
 plus-requires c κs = search needs

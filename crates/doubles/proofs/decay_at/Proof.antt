@@ -1,7 +1,6 @@
 -- `doubles::decay_at` meets its contract. Assumes nothing.
 use denote.Ref.{now}
-use Rattle.doubles.proofs.Fields.{falls, decay-at}
-use native.Mathlib.Omega.{arith}
+use Rattle.doubles.proofs.Fields.{decay-at}
 use borrow.Author.Needs.{needs}
 use Rattle.doubles.proofs.decay_at.Statement.{statement}
 use Rattle.doubles.proofs.decay_at.Tie as tie
@@ -18,8 +17,8 @@ add-two-at-2 c = search needs
 two-at-requires-2 : tie.Need-two-at-requires-2
 two-at-requires-2 c κs = search needs
 
-sub-difference : tie.Need-sub-difference
-sub-difference c = let g = c .before .before .before in omega (arith, falls (now (g .args .bytes)) (g .args .at) (g .pre .1) .1)
+counted-difference-requires : tie.Need-counted-difference-requires
+counted-difference-requires c κs = search needs
 
 add-four-at : tie.Need-add-four-at
 add-four-at c = search needs
@@ -43,7 +42,7 @@ part-requires : tie.Need-part-requires
 part-requires c κs = search needs
 
 returns : tie.Need-returns
-returns c = let g = c .before .before .before .before .before .before .before .args in cc (decay-at (now (g .bytes)) (g .at))
+returns c = let g = c .before .before .before .before .before .before .before .before .args in cc (decay-at (now (g .bytes)) (g .at))
 
 pub decay-at-spec : {M : Type 1} → statement M
 decay-at-spec =
@@ -53,7 +52,7 @@ decay-at-spec =
     two-at-requires
     add-two-at-2
     two-at-requires-2
-    sub-difference
+    counted-difference-requires
     add-four-at
     four-at-requires
     add-two-at-3

@@ -1,7 +1,6 @@
 -- `doubles::parts_at` meets its contract. Assumes nothing.
 use denote.Ref.{now}
-use Rattle.doubles.proofs.Fields.{falls, onsite-at, offsite-at}
-use native.Mathlib.Omega.{arith}
+use Rattle.doubles.proofs.Fields.{onsite-at, offsite-at}
 use borrow.Author.Needs.{needs}
 use Rattle.doubles.proofs.parts_at.Statement.{statement}
 use Rattle.doubles.proofs.parts_at.Tie as tie
@@ -24,8 +23,8 @@ add-two-at-2 c = search needs
 two-at-requires-2 : tie.Need-two-at-requires-2
 two-at-requires-2 c κs = search needs
 
-sub-difference : tie.Need-sub-difference
-sub-difference c = let g = c .before .before .before .before in omega (arith, falls (now (g .args .bytes)) (g .args .at) (g .pre .1) .0)
+counted-difference-requires : tie.Need-counted-difference-requires
+counted-difference-requires c κs = search needs
 
 add-burnt-at : tie.Need-add-burnt-at
 add-burnt-at c = search needs
@@ -43,7 +42,7 @@ decay-at-requires : tie.Need-decay-at-requires
 decay-at-requires c κs = search needs
 
 returns : tie.Need-returns
-returns c = let g = c .before .before .before .before .before .before .before .args in cc (onsite-at (now (g .bytes)) (g .at), offsite-at (now (g .bytes)) (g .at))
+returns c = let g = c .before .before .before .before .before .before .before .before .args in cc (onsite-at (now (g .bytes)) (g .at), offsite-at (now (g .bytes)) (g .at))
 
 pub parts-at-spec : {M : Type 1} → statement M
 parts-at-spec =
@@ -55,7 +54,7 @@ parts-at-spec =
     two-at-requires
     add-two-at-2
     two-at-requires-2
-    sub-difference
+    counted-difference-requires
     add-burnt-at
     burnt-at-requires
     add-burnt-at-2

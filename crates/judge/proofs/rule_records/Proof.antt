@@ -28,9 +28,6 @@ past2 c = passed _ _ (past1 (c .before .before .before)) (c .before .before .fir
 past3 : (c : tie.After-enum-told3) → Past 3 (c .before .before .before .before .before .before)
 past3 c = passed _ _ (past2 (c .before .before .before)) (c .before .before .first-broken3 .ensures) (c .enum-told3 .given .1)
 
-past4 : (c : tie.After-enum-told4) → Past 4 (c .before .before .before .before .before .before .before .before .before)
-past4 c = passed _ _ (past3 (c .before .before .before)) (c .before .before .first-broken4 .ensures) (c .enum-told4 .given .1)
-
 first-broken-requires : tie.Need-first-broken-requires
 first-broken-requires c κs = search needs
 
@@ -67,21 +64,9 @@ returns-3 c = let e = c .before .before .before in stopped _ _ (past2 (e .before
 enum-told-3 : tie.Need-enum-told-3
 enum-told-3 c = search needs
 
-first-broken-requires-4 : tie.Need-first-broken-requires-4
-first-broken-requires-4 c κs = search needs
-
-enum-known-densities : tie.Need-enum-known-densities
-enum-known-densities c = search needs
-
 returns-4 : tie.Need-returns-4
-returns-4 c = let e = c .before .before .before in stopped _ _ (past3 (e .before)) (e .first-broken4 .ensures) (c .before .densities .given .1)
-
-enum-told-4 : tie.Need-enum-told-4
-enum-told-4 c = search needs
-
-returns-5 : tie.Need-returns-5
 unfolding ruling
-returns-5 c = sym (past4 c)
+returns-4 c = sym (past3 c)
 
 pub rule-records-spec : {M : Type 1} → statement M
 rule-records-spec =
@@ -99,8 +84,4 @@ rule-records-spec =
     enum-known-fractions
     returns-3
     enum-told-3
-    first-broken-requires-4
-    enum-known-densities
-    returns-4
-    enum-told-4
-    returns-5)
+    returns-4)

@@ -1,5 +1,5 @@
 -- `listed::list` meets its contract: each value by its place. Assumes nothing.
-use Rattle.listed.specs.Listed.{listed, listed51, listed52, listed53, listed54}
+use Rattle.listed.specs.Listed.{listed, listed51, listed52, listed53, listed54, listedPeriods}
 use mathlib.Core.Path.{ap}
 use Rattle.worksheets.specs.Answers.{stocksHeld, conversionHeld, gasesHeld, abandonedHeld}
 use Rattle.listed.proofs.Laws.{listOf}
@@ -9,8 +9,8 @@ use Rattle.listed.proofs.list.Reads as reads
 use Rattle.listed.proofs.list.Lts as lts
 
 returns : tie.Need-returns
-unfolding listed listed51 listed52 listed53 listed54 stocksHeld conversionHeld gasesHeld abandonedHeld
-returns c = ap listOf (c .before .before .before .before .before .before .before .before .before .before .before .before .before .before .before .before .before .before .before .pre)
+unfolding listed listed51 listed52 listed53 listed54 listedPeriods stocksHeld conversionHeld gasesHeld abandonedHeld
+returns c = ap listOf (c .before .before .before .before .before .before .before .before .before .before .before .before .before .before .before .before .before .before .before .before .pre)
 
 pub list-spec : {M : Type 1} → statement M
 list-spec = tie.close (tie.spec returns)

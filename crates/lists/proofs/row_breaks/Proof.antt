@@ -4,7 +4,7 @@ use mathlib.Core.Path.{sym, _∙_}
 use Prim.Native.Nat.{_+_, _*_, _≤_}
 use lib.ListN.{length}
 use Rattle.filing.proofs.Parts.{row-in}
-use Rattle.lists.proofs.Numbers.{no-conversion, fractions-of, densities-of}
+use Rattle.lists.proofs.Numbers.{no-conversion, fractions-of}
 use borrow.Author.Needs.{needs}
 use borrow.Author.Tests.{ne-eqb}
 use native.Mathlib.Omega.{arith}
@@ -46,20 +46,11 @@ returns-3 c =
     let a = at-numbers .before .before .before .before .args in
     rw (c .before .if3 .taken, inside at-numbers .0) (c .overspent-at .ensures ∙ rw (at-numbers .numbers .ensures .0, fractions-of (a .rows .now) (a .j)))
 
-grown-at-requires : tie.Need-grown-at-requires
-grown-at-requires c κs = inside (c .before .before) .1
-
 returns-4 : tie.Need-returns-4
 returns-4 c =
-    let at-numbers = c .before .before .before in
-    let a = at-numbers .before .before .before .before .args in
-    rw (c .before .if4 .taken, inside at-numbers .0) (c .grown-at .ensures ∙ rw (at-numbers .numbers .ensures .0, densities-of (a .rows .now) (a .j)))
-
-returns-5 : tie.Need-returns-5
-returns-5 c =
-    let one = c .before .before .before .before in
+    let one = c .before .before .before in
     let a = one .before .before .args in
-    rw (ne-eqb (a .number) 6 (one .if1 .left), ne-eqb (a .number) 7 (c .before .if3 .left), ne-eqb (a .number) 8 (c .if4 .left))
+    rw (ne-eqb (a .number) 6 (one .if1 .left), ne-eqb (a .number) 7 (c .if3 .left))
 
 pub row-breaks-spec : {M : Type 1} → statement M
 row-breaks-spec =
@@ -72,6 +63,4 @@ row-breaks-spec =
     mul-at
     overspent-at-requires
     returns-3
-    grown-at-requires
-    returns-4
-    returns-5)
+    returns-4)

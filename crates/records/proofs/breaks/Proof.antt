@@ -2,7 +2,7 @@
 use denote.Ref.{now}
 use borrow.Author.Tests.{ne-eqb}
 use borrow.Author.Needs.{needs}
-use Rattle.form.specs.Records.{overspent, grown}
+use Rattle.form.specs.Records.{overspent}
 use Rattle.records.proofs.Rows.{of-kind}
 use Rattle.records.proofs.breaks.Statement.{statement}
 use Rattle.records.proofs.breaks.Tie as tie
@@ -13,9 +13,6 @@ above-at-requires c κs = search needs
 overspent-at-requires : tie.Need-overspent-at-requires
 overspent-at-requires c κs = search needs
 
-grown-at-requires : tie.Need-grown-at-requires
-grown-at-requires c κs = search needs
-
 returns : tie.Need-returns
 returns c = rw (c .before .match .keys1) (c .above-at .ensures)
 
@@ -25,12 +22,7 @@ returns-2 c =
     rw (c .before .match .keys2) (of-kind 1 (a .kind) overspent (now (a .bytes)) (a .at) (c .overspent-at .ensures))
 
 returns-3 : tie.Need-returns-3
-returns-3 c =
-    let a = c .before .before .before .args in
-    rw (c .before .match .keys3) (of-kind 1 (a .kind) grown (now (a .bytes)) (a .at) (c .grown-at .ensures))
-
-returns-4 : tie.Need-returns-4
-returns-4 c = let r = c .match .rest in rw (ne-eqb _ 6 (r .0 .0 .1), ne-eqb _ 7 (r .0 .1), ne-eqb _ 8 (r .1))
+returns-3 c = let r = c .match .rest in rw (ne-eqb _ 6 (r .0 .1), ne-eqb _ 7 (r .1))
 
 pub breaks-spec : {M : Type 1} → statement M
 breaks-spec =
@@ -38,8 +30,6 @@ breaks-spec =
     (tie.spec
     above-at-requires
     overspent-at-requires
-    grown-at-requires
     returns
     returns-2
-    returns-3
-    returns-4)
+    returns-3)

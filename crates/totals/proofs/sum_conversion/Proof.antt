@@ -1,15 +1,16 @@
 -- `totals::sum_conversion` meets its contract. Assumes nothing.
-use Rattle.totals.proofs.Accepted.{Stands, conversion-row, sound, room, turn, whole}
+use Rattle.totals.proofs.Accepted.{Stands, conversion-row, kept, room, turn, whole}
 use Rattle.form.proofs.EachKind.{one-kind}
-use Rattle.totals.specs.Columns.{sumOf, clearedPart, onsitePart, offsitePart, decayPart}
+use Rattle.totals.specs.Columns.{sumOf, clearedPart, onsitePart, offsitePart, decayPart, thinnerPart}
 use Prim.Native.Nat.{ℕ, _-_, _≤_}
-use mathlib.Core.Path.{_≡_, subst}
+use mathlib.Core.Path.{_≡_}
+use lib.Dec.{lit≤}
 use mathlib.Core.List.{List}
 use denote.Ref.{now}
 use Rattle.wide.proofs.Laws.{is-as}
 use lib.ListN.{take}
 use Rattle.form.specs.Verdict.{rows}
-use Rattle.totals.specs.Sums.{Sound, Summed}
+use Rattle.totals.specs.Sums.{Summed}
 use borrow.Author.Needs.{needs}
 use native.Mathlib.Omega.{arith}
 use Rattle.totals.proofs.sum_conversion.Statement.{statement}
@@ -33,7 +34,7 @@ of-requires c κs = search needs
 loop-holds : tie.Need-loop-holds Inv-loop μ-loop
 unfolding sumOf
 loop-holds c =
-    (search needs, record { cleared = c .of .ensures; onsite = c .of .ensures; offsite = c .of .ensures; decay = c .of .ensures })
+    (search needs, record { cleared = c .of .ensures; onsite = c .of .ensures; offsite = c .of .ensures; decay = c .of .ensures; thinner = c .of .ensures })
 
 row-start-requires : tie.Need-row-start-requires Inv-loop μ-loop
 row-start-requires c κs = search needs
@@ -42,7 +43,7 @@ parts-at-requires : tie.Need-parts-at-requires Inv-loop μ-loop
 parts-at-requires c κs =
     let s = c .before .before .before .before .before .before in
     let w = row c in
-    (w .inside, subst Sound (w .row) (sound (now (s .args .bytes)) (s .args .c) (s .pre) (c .before .before .loop .i) (w .there)))
+    (w .inside, rw (← w .row) (kept (now (s .args .bytes)) (s .args .c) (s .pre) 1 (c .before .before .loop .i) (lit≤ tt) one-kind (w .there)))
 
 add-row-requires : tie.Need-add-row-requires Inv-loop μ-loop
 add-row-requires c κs =
@@ -69,6 +70,7 @@ returns c =
       onsite = is-as (e .onsite) (all c onsitePart);
       offsite = is-as (e .offsite) (all c offsitePart);
       decay = is-as (e .decay) (all c decayPart);
+      thinner = is-as (e .thinner) (all c thinnerPart);
     }
 
 pub sum-conversion-spec : {M : Type 1} → statement M

@@ -49,7 +49,7 @@ sum-abandoned-requires c κs = c .before .before .before .before .before .before
 work-abandoned-requires : tie.Need-work-abandoned-requires
 work-abandoned-requires c κs =
     let s = c .before .before .before .before .before .before .before .before .before in
-    omega (arith, columns-small (now (s .args .bytes)) (s .args .c) (s .pre) .6, c .sum-abandoned .ensures .number)
+    omega (arith, columns-small (now (s .args .bytes)) (s .args .c) (s .pre) .7, c .sum-abandoned .ensures .number)
 
 returns : tie.Need-returns
 returns c =

@@ -17,7 +17,8 @@ pub fn compare(arguments: Arguments) -> bool {
         name: "read",
         inputs: inputs::least(),
         least: inputs::least(),
-        often: &[0, 1, 2, 3, 4, 5, 6, 7, 8, 9],
+        often: &[0, 1, 2, 3, 4, 5, 6, 7, 9],
+        thinner: 100,
     };
     let mut tally = Tally::default();
     let good = run(&plan, arguments, inputs::with_figures, |case, rng| {

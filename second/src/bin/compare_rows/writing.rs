@@ -23,7 +23,8 @@ pub fn compare(arguments: Arguments) -> bool {
         name: "write",
         inputs: least,
         least,
-        often: &[0, 5, 6, 7, 8, 9, 10],
+        often: &[0, 5, 6, 7, 9, 10],
+        thinner: 100,
     };
     let make = |index: usize, rng: &mut Rng| {
         let turn = index / SWEEP_EVERY;

@@ -6,8 +6,9 @@
 //! `fenced heap [SEED [INPUTS]]`: each area allocated by itself, for valgrind.
 //! `fenced cross [heap] [before|behind] [read|write]`: touches one byte outside
 //! an area on purpose and must be stopped. Without `heap` that is tried first.
-//! All answers and all memory are compared with the second program's, and the
-//! exact halves among the figures are counted; each is due.
+//! All answers and all memory are compared with the second program's. The exact
+//! halves among the figures are counted, and so are the returns with thinner
+//! rows; each sort is due.
 
 #[cfg(door_missing)]
 compile_error!(
@@ -32,10 +33,12 @@ mod run {
     use second::drive::{exit, Arguments, Input};
     use second::fence::Place;
     use second::halves::Halves;
+    use second::judge::judge;
     use second::rng::Rng;
     use second::row_sweeps;
     use second::rowlists::{self, RowLists};
     use second::sweep::Case;
+    use second::thinner::Thinner;
     use second::{figures, mix, sweep};
     use std::process::ExitCode;
 
@@ -64,14 +67,14 @@ mod run {
         };
         let mut fences = Fences::default();
         let mut tallies = [
-            Tally::new("judge", &[0, 1, 2, 3, 4, 5, 6, 7, 8, 9]),
-            Tally::new("figures", &[0, 1, 2, 3, 4, 5, 6, 7, 8, 9]),
-            Tally::new("lines", &[0, 1, 2, 3, 4, 5, 6, 7, 8, 9]),
-            Tally::new("subtotal", &[0, 1, 2, 3, 4, 5, 6, 7, 8, 9, 11]),
-            Tally::new("read", &[0, 1, 2, 3, 4, 5, 6, 7, 8, 9]),
-            Tally::new("write", &[0, 5, 6, 7, 8, 9, 10]),
+            Tally::new("judge", &[0, 1, 2, 3, 4, 5, 6, 7, 9]),
+            Tally::new("figures", &[0, 1, 2, 3, 4, 5, 6, 7, 9]),
+            Tally::new("lines", &[0, 1, 2, 3, 4, 5, 6, 7, 9]),
+            Tally::new("subtotal", &[0, 1, 2, 3, 4, 5, 6, 7, 9, 11]),
+            Tally::new("read", &[0, 1, 2, 3, 4, 5, 6, 7, 9]),
+            Tally::new("write", &[0, 5, 6, 7, 9, 10]),
         ];
-        let mut halves = Halves::default();
+        let (mut halves, mut thinner) = (Halves::default(), Thinner::default());
         for index in 0..arguments.inputs.unwrap_or(INPUTS) {
             let mut rng = Rng::for_input(arguments.seed, index as u64);
             let case = any_return(&mut rng);
@@ -108,13 +111,18 @@ mod run {
             }
             // A difference has ended the program before this.
             halves.note(&case.bytes);
+            if judge(&case.bytes).answer() == 0 {
+                thinner.note(case.thinner());
+            }
         }
         tallies.iter().for_each(Tally::print);
         halves.print();
+        thinner.print();
         let calls: usize = tallies.iter().map(Tally::calls).sum();
         println!("fenced: {calls} calls at {places:?}, 0 differences");
         let usual = arguments.inputs.is_none();
-        exit(!usual || (tallies.iter().all(Tally::all_came) & halves.reach(1)))
+        let all_came = || tallies.iter().all(Tally::all_came) & halves.reach(1) & thinner.reach(1);
+        exit(!tallies.iter().any(Tally::retired_came) && (!usual || all_came()))
     }
 
     /// From the comparisons' makers; of the sweeps any, for they are long.

@@ -1,5 +1,7 @@
 //! How often each answer of a function came, in each edition.
 
+use second::drive::RETIRED;
+
 /// Refusal numbers go up to 11.
 const NUMBERS: usize = 12;
 /// Editions 1 and 2, and all others as 0.
@@ -47,6 +49,15 @@ impl Tally {
             }
         }
         println!();
+    }
+
+    /// Whether the number that is never given again came after all.
+    pub fn retired_came(&self) -> bool {
+        let came = self.given[RETIRED] != [0; EDITIONS];
+        if came {
+            eprintln!("{}: number {RETIRED} is never given again", self.name);
+        }
+        came
     }
 
     pub fn all_came(&self) -> bool {

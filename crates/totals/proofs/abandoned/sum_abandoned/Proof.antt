@@ -48,7 +48,7 @@ row-start-requires c κs = search needs
 plus-row-requires : tie.Need-plus-row-requires Inv-loop μ-loop
 plus-row-requires c κs =
     let s = c .before .before .before .before .before .before .before in
-    (omega (arith, columns-small (now (s .args .bytes)) (s .args .c) (s .pre) .6, sum-le abandonedPart (rows 5 (now (s .args .bytes))) (c .before .before .loop .i)), row c .inside)
+    (omega (arith, columns-small (now (s .args .bytes)) (s .args .c) (s .pre) .7, sum-le abandonedPart (rows 5 (now (s .args .bytes))) (c .before .before .loop .i)), row c .inside)
 
 add-i : tie.Need-add-i Inv-loop μ-loop
 add-i c = search needs

@@ -15,7 +15,7 @@ co2-of-requires : tie.Need-co2-of-requires
 co2-of-requires c κs = search needs
 
 returns : tie.Need-returns
-returns c = conversion-is _ (is-itself (search needs)) (is-itself (search needs)) (is-itself (search needs)) (c .before .before .both .ensures) (c .before .both2 .ensures .number) (c .co2-of .ensures)
+returns c = conversion-is _ (is-itself (search needs)) (is-itself (search needs)) (is-itself (search needs)) (is-itself (search needs)) (c .before .before .both .ensures) (c .before .both2 .ensures .number) (c .co2-of .ensures)
 
 pub work-conversion-spec : {M : Type 1} → statement M
 work-conversion-spec = tie.close (tie.spec both-requires both-requires-2 co2-of-requires returns)
