@@ -1,6 +1,7 @@
 -- What acceptance says of a return. Each law takes `verdictOf s ≡ Accepted c` and nothing else. Assumes nothing.
 --     accepted-counts    the counts are the sums of the kinds' counts; counted, kind by kind
 --     whole-blocks       one block or more, not more than a return can have, and no byte more
+--     check-right        each block's check is the one that is due
 --     one-edition        one edition throughout; known-edition, which there is; no-rows, none of a kind that it does not have
 --     few-rows           at most 32 rows of a kind; one-row, one parameter row
 --     first-block        a kind's first block, by the counts
@@ -20,7 +21,7 @@ use lib.Dec.{ltb, eqb}
 use Rattle.form.specs.Ruling.{Rule, rule, ruling}
 use Rattle.form.specs.Layout.{Field, Layout, kinds, parametersKind, layout, rowAt, aboveLimit}
 use Rattle.form.specs.Edition.{lastKind}
-use Rattle.form.specs.Block.{mostBlocks, longest, blocks, kindOf, edition, recordAt, badLength}
+use Rattle.form.specs.Block.{mostBlocks, longest, blocks, kindOf, edition, recordAt, checkSaid, checkDue, badLength, badCheck}
 use Rattle.form.specs.Records.{filed, RowTest, RowRule, rowRules, badId, brokenBy, overPlaces, recordRules, overspent}
 use Rattle.form.specs.Verdict.{blockRules, rules, countBelow, rowCount, rows, countsOf, countList, countIn, verdictOf}
 use Rattle.form.specs.Standing.{blocksFor, startBlock, firstBlock, startPlace, rowsFrom}
@@ -104,6 +105,14 @@ module _ (s : List ℕ) (c : Counts) (acc : verdictOf s ≡ Accepted c) where
     where
       go : AllKept (blockRules s) → (b : ℕ) → b < blocks s → Headed s b
       go (more h₁ (more h₂ (more h₃ rest))) b l = headed s b (h₃ b l)
+
+  -- the check of each block is right
+  pub check-right : (b : ℕ) → b < blocks s → checkSaid s b ≡ checkDue s b
+  unfolding blockRules Kept badCheck
+  check-right = go (kept .0)
+    where
+      go : AllKept (blockRules s) → (b : ℕ) → b < blocks s → checkSaid s b ≡ checkDue s b
+      go (more h₁ (more h₂ rest)) b l = same-of (checkSaid s b) (checkDue s b) (h₂ b l)
 
   pub whole-blocks : (1 ≤ blocks s) × (blocks s ≤ mostBlocks) × (length s ≡ 512 * blocks s)
   unfolding badLength

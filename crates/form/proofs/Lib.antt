@@ -2,8 +2,7 @@ pub mod Tests
 pub mod Search
 pub mod Order
 pub mod Numbers
-pub mod Sums
-pub mod Check
+pub mod Adding
 pub mod EachKind
 pub mod Fields
 pub mod Tables

@@ -5,6 +5,7 @@ pub mod Bytes
 pub mod Layout
 pub mod Edition
 pub mod Block
+pub mod Adding
 pub mod Records
 pub mod Verdict
 pub mod Standing

@@ -12,7 +12,7 @@ ghost use Rattle.form.specs.Block.{recordAt, checkDue};
 ghost use Rattle.form.specs.Records.{countedDifference};
 ghost use Rattle.form.specs.Verdict.{countIn};
 ghost use Rattle.form.specs.Standing.{blocksFor, firstBlock};
-ghost use Rattle.form.specs.Steps.{columnDue, checkWeighed, Few};
+ghost use Rattle.form.specs.Steps.{Few};
 
 // How many kinds there are, the most blocks of a return, and its most bytes. Every bound follows from the first.
 pub const KINDS: usize = 5;
@@ -107,45 +107,22 @@ pub fn stray_in(bytes: &[u8], at: usize, n: usize) -> bool
     bits != 0
 }
 
-// Column k of a block's sixteen rows of 32 bytes, by running sums: they stay within 16 bits, so that many columns are taken at once.
-fn column_due(bytes: &[u8], b: usize, k: usize) -> u32
-    requires { ⌜ (512 * b + 512 ≤ length (now bytes)) × (k < 32) ⌝ }
-    ensures { λ r. ⌜ (r ≡ columnDue (now (bytes .entry)) b k) × (r ≤ 2219520) ⌝ }
-{
-    let mut sum: u16 = 0;
-    let mut sums: u16 = 0;
-    let mut r: usize = 0;
-    while r < 16 {
-        sum += byte_at(bytes, 512 * b + (32 * r + k)) as u16;
-        sums += sum;
-        r += 1;
-    }
-    (513 + k as u32) * (sum as u32) - 32 * (sums as u32)
-}
-
-// The four bytes of the check itself, weighed as those before them.
-fn check_weighed(bytes: &[u8], b: usize) -> u32
-    requires { ⌜ 512 * b + 512 ≤ length (now bytes) ⌝ }
-    ensures { λ r. ⌜ r ≡ checkWeighed (now (bytes .entry)) b ⌝ }
-{
-    509 * byte_at(bytes, 512 * b + 508)
-        + 510 * byte_at(bytes, 512 * b + 509)
-        + 511 * byte_at(bytes, 512 * b + 510)
-        + 512 * byte_at(bytes, 512 * b + 511)
-}
-
-// All 32 columns of the block, less the check's own bytes.
+// A block's check, worked out as on a department's adding sheet: from offset 507 down to 0 a running sum of the bytes, and the total of those
+// running sums. Additions alone: no byte is multiplied.
 pub fn check_due(bytes: &[u8], b: usize) -> u32
     requires { ⌜ 512 * b + 512 ≤ length (now bytes) ⌝ }
     ensures { λ r. ⌜ r ≡ checkDue (now (bytes .entry)) b ⌝ }
 {
-    let mut due: u32 = 0;
-    let mut k: usize = 0;
-    while k < 32 {
-        due += column_due(bytes, b, k);
-        k += 1;
+    let start = 512 * b;
+    let mut running: u32 = 0;
+    let mut total: u32 = 0;
+    let mut offset: usize = 508;
+    while 0 < offset {
+        offset -= 1;
+        running += byte_at(bytes, start + offset);
+        total += running;
     }
-    due - check_weighed(bytes, b)
+    total
 }
 
 // What a period loses: nothing, where it is thinner before than after.

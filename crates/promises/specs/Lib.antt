@@ -5,6 +5,7 @@
 --     Demand2     the figures are the workbook's columns, rounded once; rows written read back, and a return read is written again to the same bytes
 --     Demand3     each subtotal's double is as near as 01 says
 --     Editions    edition 1 returns are read as before
+--     Adding      the check is the last total of a department's adding sheet
 --     ShutOut     wrong answers that the contracts refuse
 --     Answers     whatever meets an entry point's contract is the answer that the demands speak of; no contract asks anything of its caller
 --     OneAnswer   so each admits one answer
@@ -16,6 +17,7 @@ pub mod Rounding
 pub mod Demand2
 pub mod Demand3
 pub mod Editions
+pub mod Adding
 pub mod ShutOut
 pub mod Answers
 pub mod OneAnswer

@@ -1,57 +1,45 @@
 -- `form::check_due` meets its contract. Assumes nothing.
-use Prim.Native.Nat.{_≤_, _+_, _*_, _-_}
-use mathlib.Core.Path.{_≡_, sym, ap}
-use denote.Ref.{now}
-use Rattle.form.specs.Block.{checkDue}
-use Rattle.form.specs.Steps.{sumTo, columnDue}
-use Rattle.form.proofs.Sums.{sum-none, sum-more}
-use Rattle.form.proofs.Check.{check-all}
+use Rattle.form.proofs.Adding.{Entered, entered-none, entered-more, entered-all}
 use borrow.Author.Needs.{needs}
 use native.Mathlib.Omega.{arith}
 use Rattle.form.proofs.check_due.Statement.{statement}
 use Rattle.form.proofs.check_due.Tie as tie
 
 abbrev Inv-loop : tie.InvT-loop
-Inv-loop bytes b due₀ k₀ due k = (k ≤ 32) × (due ≤ 2219520 * k) × (due ≡ sumTo (columnDue bytes b) k)
+Inv-loop bytes b start running₀ total₀ offset₀ running total offset = Entered bytes b running total offset
 
 abbrev μ-loop : tie.MeasureT-loop
-μ-loop bytes b due₀ k₀ due k = 32 - k
+μ-loop bytes b start running₀ total₀ offset₀ running total offset = offset
+
+mul-start : tie.Need-mul-start Inv-loop μ-loop
+mul-start c = search needs
 
 loop-holds : tie.Need-loop-holds Inv-loop μ-loop
-loop-holds c = (search needs, search needs, sym (sum-none _))
+loop-holds c = entered-none _ _
 
-column-due-requires : tie.Need-column-due-requires Inv-loop μ-loop
-column-due-requires c κs = search needs
+sub-offset : tie.Need-sub-offset Inv-loop μ-loop
+sub-offset c = search needs
 
-add-due : tie.Need-add-due Inv-loop μ-loop
-add-due c = search needs
+add-byte-at : tie.Need-add-byte-at Inv-loop μ-loop
+add-byte-at c = search needs
 
-add-k : tie.Need-add-k Inv-loop μ-loop
-add-k c = search needs
+byte-at-requires : tie.Need-byte-at-requires Inv-loop μ-loop
+byte-at-requires c κs = search needs
+
+add-running : tie.Need-add-running Inv-loop μ-loop
+add-running c = search needs
+
+add-total : tie.Need-add-total Inv-loop μ-loop
+add-total c = search needs
 
 loop-less : tie.Need-loop-less Inv-loop μ-loop
 loop-less c = search needs
 
 loop-again : tie.Need-loop-again Inv-loop μ-loop
-loop-again c =
-    let a = c .before .before .before .before .args in
-    (search needs, search needs, cc (sum-more (columnDue (now (a .bytes)) (a .b)) (c .before .before .loop .k)))
-
-check-weighed-requires : tie.Need-check-weighed-requires Inv-loop μ-loop
-check-weighed-requires c κs = search needs
-
--- all columns
-whole : (c : tie.After-check-weighed Inv-loop μ-loop) → c .before .before .loop .due ≡ checkDue (now (c .before .before .before .before .args .bytes)) (c .before .before .before .before .args .b) + c .check-weighed .result
-whole c =
-    let a = c .before .before .before .before .args in
-    let e : c .before .before .loop .k ≡ 32 = omega arith in
-    omega (arith, ap (sumTo (columnDue (now (a .bytes)) (a .b))) e, check-all (now (a .bytes)) (a .b) (search needs))
-
-sub-result : tie.Need-sub-result Inv-loop μ-loop
-sub-result c = omega (arith, whole c)
+loop-again c = entered-more (c .before .before .loop .inv) (search needs) (c .byte-at .ensures .0) (c .byte-at .ensures .1)
 
 returns : tie.Need-returns Inv-loop μ-loop
-returns c = omega (arith, whole c)
+returns c = entered-all (c .before .loop .inv) (omega arith)
 
 pub check-due-spec : {M : Type 1} → statement M
 check-due-spec =
@@ -59,12 +47,13 @@ check-due-spec =
     (tie.spec
     Inv-loop
     μ-loop
+    mul-start
     loop-holds
-    column-due-requires
-    add-due
-    add-k
+    sub-offset
+    add-byte-at
+    byte-at-requires
+    add-running
+    add-total
     loop-less
     loop-again
-    check-weighed-requires
-    sub-result
     returns)
