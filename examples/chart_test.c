@@ -76,34 +76,53 @@ static void put_check(uint8_t *block) {
     put(block + 508, check, 4);
 }
 
-/* n conversion rows, the default parameters, and so many of the largest rows of abandoned land, which no subtotal takes. */
-static void make(struct bytes *r, row *rows, uint32_t n, uint32_t edition, uint32_t land) {
-    static const int conversion[FIELDS] = {4, 4, 2, 2, 2, 2, 2, 2, 2, 2, 4, 2, 2, 2, 2}, parameters[7] = {4, 2, 2, 2, 2, 2, 2};
-    static const int abandoned[NILOFERQ_ABANDONED_NUMBERS] = {4, 4, 2, 2, 4, 2, 2};
+/* What a return has besides its conversion rows and the default parameters, which no subtotal takes: so many of the largest rows. */
+struct besides {
+    uint32_t edition, land, savanna;
+};
+
+/* A row of a kind above 1 as a record, by its position in its kind. */
+static void put_other(uint8_t *at, uint32_t kind, uint32_t position) {
+    static const int parameters[7] = {4, 2, 2, 2, 2, 2, 2}, abandoned[NILOFERQ_ABANDONED_NUMBERS] = {4, 4, 2, 2, 4, 2, 2};
+    static const int savanna[NILOFERQ_SAVANNA_NUMBERS] = {4, 4, 2, 2, 2, 2, 2, 2, 2, 2, 2, 2, 2, 2};
     static const uint32_t defaults[7] = {0, 500, 12, 60, 10, 7, 121}; /* the zero is no number of the row */
-    uint32_t largest[NILOFERQ_ABANDONED_NUMBERS] = {0, 10000000, 10000, 1000, 10000000, 10000, 1000};
-    uint32_t first = (n + 11) / 12, blocks = first + 1 + (land + 11) / 12; /* the parameters are block number first */
-    memset(r->b, 0, sizeof r->b);
-    r->length = 512 * blocks;
-    for (uint32_t b = 0; b < blocks; b++) {
-        uint8_t *block = r->b + 512 * b;
-        uint32_t kind = b < first ? 1 : b == first ? 4 : 5;
-        uint32_t before = 12 * (kind == 1 ? b : kind == 4 ? 0 : b - first - 1); /* rows of its kind in the blocks before it */
-        uint32_t left = (kind == 1 ? n : kind == 4 ? 1 : land) - before, count = left < 12 ? left : 12;
-        put_front(block, kind, count, b, blocks, edition);
-        for (uint32_t i = 0; i < count; i++) {
-            uint8_t *at = block + 8 + 40 * i;
-            largest[0] = before + i;
-            if (kind == 1) put_record(at, rows[before + i], conversion, FIELDS);
-            else if (kind == 4) put_record(at, defaults, parameters, 7);
-            else put_record(at, largest, abandoned, NILOFERQ_ABANDONED_NUMBERS);
-        }
-        put_check(block);
-    }
+    uint32_t land[NILOFERQ_ABANDONED_NUMBERS] = {position, 10000000, 10000, 1000, 10000000, 10000, 1000};
+    uint32_t grass[NILOFERQ_SAVANNA_NUMBERS] = {position, 1000000, 10000, 1000, 500, 1000, 1000, 1000, 1000, 1000, 1000, 1000, 1000, 1000};
+    if (kind == 4) put_record(at, defaults, parameters, 7);
+    else if (kind == 5) put_record(at, land, abandoned, NILOFERQ_ABANDONED_NUMBERS);
+    else put_record(at, grass, savanna, NILOFERQ_SAVANNA_NUMBERS);
 }
 
-/* From none to all rows of abandoned land, by turns; edition 1 has none. */
-static uint32_t land_in(uint32_t edition, unsigned long which) { return edition == 1 ? 0 : (uint32_t)(which % (NILOFERQ_MOST_ROWS + 1)); }
+/* n conversion rows, the default parameters, and what else there is. */
+static void make(struct bytes *r, row *rows, uint32_t n, struct besides more) {
+    static const int conversion[FIELDS] = {4, 4, 2, 2, 2, 2, 2, 2, 2, 2, 4, 2, 2, 2, 2};
+    const uint32_t counts[NILOFERQ_COUNTS] = {more.edition, n, 0, 0, 1, more.land, more.savanna};
+    uint32_t blocks = 0, b = 0;
+    for (int kind = 1; kind <= NILOFERQ_KINDS; kind++) blocks += (counts[kind] + 11) / 12;
+    memset(r->b, 0, sizeof r->b);
+    r->length = 512 * blocks;
+    for (uint32_t kind = 1; kind <= NILOFERQ_KINDS; kind++)
+        for (uint32_t before = 0; before < counts[kind]; before += 12, b++) { /* rows of its kind in the blocks before it */
+            uint8_t *block = r->b + 512 * b;
+            uint32_t left = counts[kind] - before, count = left < 12 ? left : 12;
+            put_front(block, kind, count, b, blocks, more.edition);
+            for (uint32_t i = 0; i < count; i++) {
+                uint8_t *at = block + 8 + 40 * i;
+                if (kind == 1) put_record(at, rows[before + i], conversion, FIELDS);
+                else put_other(at, kind, before + i);
+            }
+            put_check(block);
+        }
+}
+
+/* From none to all rows of abandoned land and of savanna, by turns that differ; edition 1 has none. */
+static struct besides in_edition(uint32_t edition, unsigned long which) {
+    struct besides more = {edition, 0, 0};
+    if (edition == 1) return more;
+    more.land = (uint32_t)(which % (NILOFERQ_MOST_ROWS + 1));
+    more.savanna = (uint32_t)(which / 2 % (NILOFERQ_MOST_ROWS + 1));
+    return more;
+}
 
 /* A row's part of a subtotal, by the rules of worksheet 5-2, without the library. */
 static whole part(const uint32_t *r, int code) {
@@ -141,7 +160,7 @@ static bool contains_totals(const char *text, const whole exact[3]) {
 static void must_pass(row *rows, uint32_t n, uint32_t edition, const char *what, unsigned long which, bool picture) {
     static struct bytes r;
     static struct figures f;
-    make(&r, rows, n, edition, land_in(edition, which));
+    make(&r, rows, n, in_edition(edition, which));
     if (gather(r.b, r.length, &f) != 0) {
         must(false, what, which);
         return;
@@ -314,9 +333,9 @@ static void missing_row(void) {
         if (gone * UINT64_C(100000000000000) < total) continue; /* decay moves in steps of 1,000 */
         memcpy(fewer, rows, sizeof rows);
         memmove(fewer[small], fewer[small + 1 < ROWS ? small + 1 : small], (n - 1 - small) * sizeof(row));
-        uint32_t edition = 1 + (uint32_t)(k / 12 % 2), land = land_in(edition, k);
-        make(&full, rows, n, edition, land);
-        make(&less, fewer, n - 1, edition, land);
+        struct besides more = in_edition(1 + (uint32_t)(k / 12 % 2), k);
+        make(&full, rows, n, more);
+        make(&less, fewer, n - 1, more);
         cases++;
         of_each[code]++;
         other_bytes = less.b, other_length = less.length;
@@ -369,7 +388,7 @@ static void broken_doubles(void) {
     for (unsigned long k = 0; k < 1000; k++) {
         uint32_t n = from_to(0, ROWS);
         for (uint32_t i = 0; i < n; i++) random_row(rows[i], i);
-        make(&r, rows, n, 1, 0);
+        make(&r, rows, n, in_edition(1, k));
         must(gather(r.b, r.length, &f) == 0, "a random return is good", k);
         for (int c = 0; c < 3; c++) {
             whole exact = f.exact[c], allowed = (n + 2) * exact >> 53;
@@ -425,7 +444,7 @@ static void messages(char *day) {
     unlink(pipe);
     must(run(day, picture_path, "more") == 2 && strncmp(caught, "usage: ", 7) == 0, "too many words", 0);
     must(run("--check", NULL, NULL) == 2 && strncmp(caught, "usage: ", 7) == 0, "too few words", 0);
-    make(&r, rows, 0, 1, 0);
+    make(&r, rows, 0, in_edition(1, 0));
     spill(return_path, &r);
     must(run(return_path, return_path, NULL) == 2 && strstr(caught, "the return itself"), "the return is not written over", 0);
     r.b[508] ^= 1;

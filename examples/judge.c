@@ -29,7 +29,7 @@ int main(int count, char **words) {
         printf("refused %u %u\n", answer / 1000, answer % 1000);
         return 1;
     }
-    printf("accepted: edition %u, conversion %u, stock %u, harvest %u, parameters %u, abandoned %u\n", counts[0], counts[1], counts[2],
-           counts[3], counts[4], counts[5]);
+    printf("accepted: edition %u, conversion %u, stock %u, harvest %u, parameters %u, abandoned %u, savanna %u\n", counts[0], counts[1],
+           counts[2], counts[3], counts[4], counts[5], counts[6]);
     return 0;
 }

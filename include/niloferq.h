@@ -9,11 +9,11 @@
  * examples/door_test and works, though the compiler's guide does not promise it.
  *
  * A refusal is 1,000 times its number plus its place, by the paper's table, tried in its order; number 8 is not given any more; the refusal of a room that is too
- * short, 9000 and when reading also 9001 to 9005, comes last. On a refusal no lent element has changed, but for niloferq_lines: the text
+ * short, 9000 and when reading also 9001 to 9006, comes last. On a refusal no lent element has changed, but for niloferq_lines: the text
  * of a refusal is its line, and it is written like any other.
  *
  * Rows in lent memory: a row is its fields in the order of the paper, each a uint32_t, with no zero bytes between. The rows of all kinds
- * lie in one area, kind after kind: conversion, stock, harvest, parameters, abandoned land, which are kinds 1 to 5.
+ * lie in one area, kind after kind: conversion, stock, harvest, parameters, abandoned land, savanna, which are kinds 1 to 6.
  *
  * A return is of edition 1 or 2. Edition 1 has kinds 1 to 4 alone. The judge and a read tell the edition, and a write is told it.
  */
@@ -23,27 +23,29 @@
 #include <stddef.h>
 #include <stdint.h>
 
-#define NILOFERQ_VERSION 4 /* of the functions below; 3 had no `thinner` and number 8, 2 no edition and four kinds, 1 an area for the rows of each kind */
+#define NILOFERQ_VERSION 5 /* of the functions below; 4 had five kinds, 3 number 8 and no `thinner`, 2 four kinds and no edition, 1 an area for each kind */
 
 #define NILOFERQ_EDITIONS 2            /* the latest edition */
-#define NILOFERQ_KINDS 5               /* the kinds of rows */
+#define NILOFERQ_KINDS 6               /* the kinds of rows */
 #define NILOFERQ_COUNTS (NILOFERQ_KINDS + 1) /* the edition and a count for each kind: counts[0] is the edition, counts[k] the rows of kind k */
 #define NILOFERQ_CONVERSION_NUMBERS 15 /* the numbers in a conversion row */
 #define NILOFERQ_STOCK_NUMBERS 5       /* the numbers in a stock row */
 #define NILOFERQ_HARVEST_NUMBERS 5     /* the numbers in a harvest row */
 #define NILOFERQ_PARAMETERS_NUMBERS 6  /* the numbers in the row of parameters */
 #define NILOFERQ_ABANDONED_NUMBERS 7   /* the numbers in a row of abandoned land */
+#define NILOFERQ_SAVANNA_NUMBERS 14    /* the numbers in a row of savanna */
 #define NILOFERQ_MOST_ROWS 32          /* the most rows of a kind in a return; of parameters there is always one */
-#define NILOFERQ_FIGURES 20            /* the figures of a return */
+#define NILOFERQ_FIGURES 25            /* the figures of a return */
 
 /* Rooms that are always enough. */
 #define NILOFERQ_ROWS_ROOM                                                                                        \
     (NILOFERQ_MOST_ROWS * NILOFERQ_CONVERSION_NUMBERS + NILOFERQ_MOST_ROWS * NILOFERQ_STOCK_NUMBERS +             \
      NILOFERQ_MOST_ROWS * NILOFERQ_HARVEST_NUMBERS + NILOFERQ_PARAMETERS_NUMBERS +                                \
-     NILOFERQ_MOST_ROWS * NILOFERQ_ABANDONED_NUMBERS) /* elements for the rows of a return, 1,030 */
-#define NILOFERQ_RETURN_ROOM 6656                    /* bytes for a return */
-#define NILOFERQ_FIGURES_ROOM (3 * NILOFERQ_FIGURES) /* elements for the figures, 60 */
-#define NILOFERQ_LINES_ROOM 1000                     /* bytes for the lines */
+     NILOFERQ_MOST_ROWS * NILOFERQ_ABANDONED_NUMBERS +                                                            \
+     NILOFERQ_MOST_ROWS * NILOFERQ_SAVANNA_NUMBERS) /* elements for the rows of a return, 1,478 */
+#define NILOFERQ_RETURN_ROOM 8192                    /* bytes for a return */
+#define NILOFERQ_FIGURES_ROOM (3 * NILOFERQ_FIGURES) /* elements for the figures, 75 */
+#define NILOFERQ_LINES_ROOM 1500                     /* bytes for the lines */
 
 #ifdef __cplusplus
 extern "C" {
@@ -51,16 +53,16 @@ extern "C" {
 
 /* Judges a return: any bytes of any length.
  * 0: accepted, and the first NILOFERQ_COUNTS elements of counts are the edition and the numbers of conversion, stock, harvest,
- *    parameter and abandoned land rows; later elements keep their values.
- * 1000 to 7155: refused by one of the numbers 1 to 7. 9000: a good return, and counts_len is below NILOFERQ_COUNTS. */
+ *    parameter, abandoned land and savanna rows; later elements keep their values.
+ * 1000 to 7191: refused by one of the numbers 1 to 7. 9000: a good return, and counts_len is below NILOFERQ_COUNTS. */
 uint32_t niloferq_judge(const uint8_t *bytes, size_t bytes_len, uint32_t *counts, size_t counts_len);
 
 /* The NILOFERQ_FIGURES figures as numbers, in the order in which `sheets` prints them: E, K, L, M, O, P, Q, report, onsite, offsite, R,
- * decay, co2, ch4, co, n2o, nox, uptake, uptake_co2, thinner. thinner is a count, of the periods of conversion rows whose density after
- * is above that before, 0 to 64: such a period counts with a difference of 0.
+ * decay, co2, ch4, co, n2o, nox, uptake, uptake_co2, thinner, savanna_carbon, savanna_ch4, savanna_co, savanna_n2o, savanna_nox. thinner is
+ * a count, of the periods of conversion rows whose density after is above that before, 0 to 64: such a period counts with a difference of 0.
  * 0: the first NILOFERQ_FIGURES_ROOM elements of room are three for each figure: 1 where it is below zero and else 0, then the upper
  *    and the lower word of its size, which is lower + 2^64 upper; later elements keep their values.
- * 1000 to 7155: refused by one of the numbers 1 to 7. 9000: a good return, and room_len is below NILOFERQ_FIGURES_ROOM. */
+ * 1000 to 7191: refused by one of the numbers 1 to 7. 9000: a good return, and room_len is below NILOFERQ_FIGURES_ROOM. */
 uint32_t niloferq_figures(const uint8_t *bytes, size_t bytes_len, uint64_t *room, size_t room_len);
 
 /* The text that the program `sheets` prints: a line for each figure of a good return, or `refused`, number and place.
@@ -72,14 +74,14 @@ size_t niloferq_lines(const uint8_t *bytes, size_t bytes_len, uint8_t *room, siz
  * 0: the first eight bytes of room are the double's bits, the lowest byte first; later bytes keep their values. The double is a
  *    whole number of 10^-12 kt C, and its distance from the exact subtotal, times 2^53, is at most n + 2 times the exact subtotal,
  *    where n is the number of conversion rows.
- * 1000 to 7155: refused by one of the numbers 1 to 7. 11000: a good return and a code above 2. 9000: and room_len is below 8. */
+ * 1000 to 7191: refused by one of the numbers 1 to 7. 11000: a good return and a code above 2. 9000: and room_len is below 8. */
 uint32_t niloferq_subtotal(const uint8_t *bytes, size_t bytes_len, uint32_t code, uint8_t *room, size_t room_len);
 
 /* The rows of a return, kind after kind. NILOFERQ_ROWS_ROOM and NILOFERQ_COUNTS elements are always enough.
  * 0: the rows of all kinds stand at the front of rows, and the first NILOFERQ_COUNTS elements of counts are the edition and the numbers
- *    of conversion, stock, harvest, parameter and abandoned land rows; later elements of both keep their values.
- * 1000 to 7155: refused by one of the numbers 1 to 7. Then, of a good return, the lowest place: 9000, counts_len is below
- *    NILOFERQ_COUNTS; 9001 to 9005, the lowest kind whose rows no longer fit: the rows of the kinds up to it have more numbers than
+ *    of conversion, stock, harvest, parameter, abandoned land and savanna rows; later elements of both keep their values.
+ * 1000 to 7191: refused by one of the numbers 1 to 7. Then, of a good return, the lowest place: 9000, counts_len is below
+ *    NILOFERQ_COUNTS; 9001 to 9006, the lowest kind whose rows no longer fit: the rows of the kinds up to it have more numbers than
  *    rows_len. */
 uint32_t niloferq_read(const uint8_t *bytes, size_t bytes_len, uint32_t *rows, size_t rows_len, uint32_t *counts, size_t counts_len);
 
@@ -94,8 +96,8 @@ uint32_t niloferq_defaults(uint32_t *room, size_t room_len);
  * 0: the blocks stand at the front of room, and the first element of size is their number of bytes; later elements of both keep
  *    their values. niloferq_read gives the same rows and the edition back.
  * First the lowest place of the number 10: 10000, there is no such edition, or lengths_len is not NILOFERQ_KINDS, or the lengths do not
- *    add up to rows_len; 10001 to 10005, the length of this kind is no whole number of its rows, or is more than NILOFERQ_MOST_ROWS of
- *    them, or for parameters isn't exactly one row, or isn't 0 though the edition does not have the kind. Then 5000 to 7155: refused by
+ *    add up to rows_len; 10001 to 10006, the length of this kind is no whole number of its rows, or is more than NILOFERQ_MOST_ROWS of
+ *    them, or for parameters isn't exactly one row, or isn't 0 though the edition does not have the kind. Then 5000 to 7191: refused by
  *    one of the numbers 5 to 7, the place being where the record would stand. Last 9000: room_len is below the number of bytes, or
  *    size_len is 0. */
 uint32_t niloferq_write(uint32_t edition, const uint32_t *rows, size_t rows_len, const uint32_t *lengths, size_t lengths_len, uint8_t *room,

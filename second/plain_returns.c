@@ -20,10 +20,18 @@ static const struct field abandoned[] = {
     {0, 4, 4294967295u}, {0, 4, 10000000}, {0, 2, 10000}, {0, 2, 1000}, {0, 4, 10000000}, {0, 2, 10000}, {0, 2, 1000},
 };
 
+static const struct field savanna[] = {
+    {0, 4, 4294967295u}, {0, 4, 1000000}, {0, 2, 10000}, {0, 2, 1000}, {0, 2, 1000}, {0, 2, 1000}, {0, 2, 1000},
+    {0, 2, 1000}, {0, 2, 1000}, {0, 2, 1000}, {0, 2, 1000}, {0, 2, 1000}, {0, 2, 1000}, {0, 2, 1000},
+};
+
 static const struct {
     const struct field *fields;
     uint32_t count;
-} kinds[6] = {{0, 0}, {conversion, 15}, {stock, 5}, {harvest, 5}, {parameters, 6}, {abandoned, 7}};
+} kinds[7] = {{0, 0}, {conversion, 15}, {stock, 5}, {harvest, 5}, {parameters, 6}, {abandoned, 7}, {savanna, 14}};
+
+/* The last kind of each edition. */
+static const uint32_t last_kind[3] = {0, 4, 6};
 
 static uint32_t two(const uint8_t *p) { return p[0] | (uint32_t)p[1] << 8; }
 static uint32_t four(const uint8_t *p) { return two(p) | two(p + 2) << 16; }
@@ -99,8 +107,8 @@ static int broken(const uint8_t *bytes, uint32_t n, uint32_t rule, uint32_t b, u
 }
 
 /* 0 with the edition and the counts, or 1,000 times the number plus the place. */
-uint32_t plain_judge(const uint8_t *bytes, size_t length, uint32_t counts[6]) {
-    if (length == 0 || length > 6656 || length % 512 != 0) return 1000;
+uint32_t plain_judge(const uint8_t *bytes, size_t length, uint32_t counts[7]) {
+    if (length == 0 || length > 8192 || length % 512 != 0) return 1000;
     uint32_t n = (uint32_t)(length / 512);
     for (uint32_t b = 0; b < n; b++) {
         const uint8_t *p = bytes + 512 * b;
@@ -112,7 +120,7 @@ uint32_t plain_judge(const uint8_t *bytes, size_t length, uint32_t counts[6]) {
         const uint8_t *p = bytes + 512 * b;
         uint32_t edition = two(p + 6);
         if (edition < 1 || edition > 2 || edition != two(bytes + 6)) return 3000 + b;
-        if (p[0] < 1 || p[0] > 3 + edition || two(p + 2) != b || two(p + 4) != n) return 3000 + b;
+        if (p[0] < 1 || p[0] > last_kind[edition] || two(p + 2) != b || two(p + 4) != n) return 3000 + b;
     }
     for (uint32_t b = 0; b < n; b++)
         if (bad_block(bytes, n, b)) return 4000 + b;
@@ -120,7 +128,7 @@ uint32_t plain_judge(const uint8_t *bytes, size_t length, uint32_t counts[6]) {
         for (uint32_t b = 0; b < n; b++)
             for (uint32_t r = 0; r < bytes[512 * b + 1]; r++)
                 if (broken(bytes, n, rule, b, r)) return 1000 * rule + 12 * b + r;
-    memset(counts, 0, 6 * sizeof *counts);
+    memset(counts, 0, 7 * sizeof *counts);
     counts[0] = two(bytes + 6);
     for (uint32_t b = 0; b < n; b++) counts[bytes[512 * b]] += bytes[512 * b + 1];
     return 0;
@@ -130,7 +138,7 @@ uint32_t plain_judge(const uint8_t *bytes, size_t length, uint32_t counts[6]) {
 static uint32_t difference(const uint8_t *p) { return two(p) > two(p + 2) ? two(p) - two(p + 2) : 0; }
 
 uint32_t plain_subtotal(const uint8_t *bytes, size_t length, uint32_t code, double *room) {
-    uint32_t counts[6];
+    uint32_t counts[7];
     uint32_t answer = plain_judge(bytes, length, counts);
     if (answer) return answer;
     if (code > 2) return 11000;
@@ -149,7 +157,7 @@ uint32_t plain_subtotal(const uint8_t *bytes, size_t length, uint32_t code, doub
 }
 
 /* Rows of all kinds, kind after kind, as the blocks have them. The room is long enough for any return. */
-uint32_t plain_read(const uint8_t *bytes, size_t length, uint32_t *rows, uint32_t counts[6]) {
+uint32_t plain_read(const uint8_t *bytes, size_t length, uint32_t *rows, uint32_t counts[7]) {
     uint32_t answer = plain_judge(bytes, length, counts);
     if (answer) return answer;
     for (uint32_t b = 0; 512 * b < length; b++) {

@@ -9,7 +9,7 @@ mod random;
 
 pub use random::random_blocks;
 
-use crate::make::{repair_checks, BLOCK};
+use crate::make::{last_kind, repair_checks, BLOCK};
 use crate::rng::Rng;
 use headers::{break_check, break_header, break_length};
 use layout::break_layout;
@@ -36,8 +36,9 @@ fn parameters_at(bytes: &[u8]) -> Option<usize> {
     (0..block_count(bytes)).find(|&b| kind(bytes, b) == 4)
 }
 
-fn has_abandoned(bytes: &[u8]) -> bool {
-    (0..block_count(bytes)).any(|b| kind(bytes, b) == 5)
+/// Whether there are blocks of a kind that edition 1 doesn't have.
+fn has_later_kinds(bytes: &[u8]) -> bool {
+    (0..block_count(bytes)).any(|b| kind(bytes, b) > last_kind(1))
 }
 
 /// Used records: an earlier damage may have left a count above 12.

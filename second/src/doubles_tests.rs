@@ -48,7 +48,7 @@ fn the_order_shows_in_the_bits() {
     assert_eq!(found.map(f64::to_bits), due.map(f64::to_bits));
 }
 
-/// The edition and abandoned land change no double.
+/// The edition, abandoned land and savannas change no double.
 #[test]
 fn editions_have_the_same_doubles() {
     let mut rng = Rng::new(83);
@@ -56,7 +56,8 @@ fn editions_have_the_same_doubles() {
         let mut rows = Rows::good(&mut rng, [count; 3]);
         let first = subtotals(&rows.to_bytes()).expect("good rows").in_order();
         rows.edition = 2;
-        rows.abandoned = Rows::good_in(&mut rng, 2, [0, 0, 0, count]).abandoned;
+        let later = Rows::good_in(&mut rng, 2, [0, 0, 0, count, count]);
+        (rows.abandoned, rows.savanna) = (later.abandoned, later.savanna);
         let second = subtotals(&rows.to_bytes()).expect("good rows").in_order();
         assert_eq!(first.map(f64::to_bits), second.map(f64::to_bits));
     }

@@ -1,6 +1,7 @@
 //! What all comparisons have in common: the run over the inputs, the table of
 //! answers, the report of differences and the verdict at the end.
 
+use crate::burned::{Burned, Savannas};
 use crate::rng::Rng;
 use crate::sentences;
 use crate::sweep::Case;
@@ -33,8 +34,8 @@ pub struct Plan<'a> {
     /// The answers (0 for acceptance) due on at least 1 % of the inputs each, and
     /// in each edition on a fifth of that.
     pub often: &'a [u32],
-    /// The fewest accepted inputs of each sort of thinner rows.
-    pub thinner: usize,
+    /// The fewest accepted inputs of each sort of thinner rows and of savannas.
+    pub sorts: usize,
 }
 
 /// What came of one input.
@@ -52,12 +53,14 @@ pub trait Input {
     fn dump(&self) -> Vec<u8>;
     /// The edition that it says.
     fn edition(&self) -> u32;
-    /// The request's own sentences, each of which has to be met.
+    /// The requests' own sentences, each of which has to be met.
     const SENTENCES: &'static [&'static str];
     /// Which of them it meets, when this answer is due.
     fn sentences(&self, answer: u32) -> Vec<usize>;
     /// Which of its rows are thinner, when it is accepted.
     fn thinner(&self) -> Sort;
+    /// Its savannas, when it is accepted.
+    fn burned(&self) -> Savannas;
 }
 
 impl Input for Case {
@@ -81,6 +84,10 @@ impl Input for Case {
 
     fn thinner(&self) -> Sort {
         Sort::of_return(&self.bytes)
+    }
+
+    fn burned(&self) -> Savannas {
+        Savannas::of_return(&self.bytes)
     }
 }
 
@@ -142,11 +149,12 @@ impl Arguments {
 }
 
 /// How often each answer was due, in each edition, each sentence met, and each
-/// sort of thinner rows accepted.
+/// sort of thinner rows and of savannas accepted.
 struct Given {
     answers: [[usize; EDITIONS]; NUMBERS],
     sentences: Vec<usize>,
     thinner: Thinner,
+    burned: Burned,
 }
 
 impl Given {
@@ -155,6 +163,7 @@ impl Given {
             answers: [[0; EDITIONS]; NUMBERS],
             sentences: vec![0; I::SENTENCES.len()],
             thinner: Thinner::default(),
+            burned: Burned::default(),
         }
     }
 
@@ -167,6 +176,7 @@ impl Given {
         }
         if answer == 0 {
             self.thinner.note(input.thinner());
+            self.burned.note(&input.burned());
         }
     }
 
@@ -189,6 +199,7 @@ impl Given {
             println!("{sentence}: {times}");
         }
         self.thinner.print();
+        self.burned.print();
     }
 
     /// Whether the number that is never given again was due after all.
@@ -198,6 +209,11 @@ impl Given {
             eprintln!("number {RETIRED} was due, which is never given again");
         }
         came
+    }
+
+    /// Whether so many accepted inputs came of each sort.
+    fn reach(&self, least: usize) -> bool {
+        self.thinner.reach(least) & self.burned.reach(least)
     }
 
     /// Whether every answer came often enough, in each edition too, and every
@@ -266,8 +282,7 @@ pub fn run<I: Input>(
         good = false;
     }
     good &= !arguments.shares_due(made) || given.suffices::<I>(plan.often, made);
-    let thinner = &given.thinner;
-    good & (!arguments.counts_due(thinner.accepted()) || thinner.reach(plan.thinner))
+    good & (!arguments.counts_due(given.thinner.accepted()) || given.reach(plan.sorts))
 }
 
 fn show(name: &str, (seed, index): (u64, usize), input: &impl Input, difference: &str) {

@@ -1,6 +1,8 @@
 //! Good returns made for the sake of their figures: on a half and beside it,
 //! at the limits, and with doubles that round badly.
 
+mod savanna;
+
 use crate::make::{thin, Rows, AFTER, BEFORE, MOST_ROWS, SUMMED, WITH_IDS};
 use crate::rng::Rng;
 use crate::sweep::Case;
@@ -8,7 +10,7 @@ use crate::worst;
 
 /// A random return of this kind.
 pub fn case(rng: &mut Rng) -> Case {
-    let (how, mut rows) = match rng.below(13) {
+    let (how, mut rows) = match rng.below(18) {
         0..3 => ("Q near a half", q_near_half(rng)),
         3 => ("co2 near a half", co2_near_half(rng)),
         4..8 => ("a gas near a half", gas_near_half(rng)),
@@ -22,21 +24,25 @@ pub fn case(rng: &mut Rng) -> Case {
             Rows::good_in(rng, 2, [MOST_ROWS; WITH_IDS.len()]),
         ),
         11 => ("uptake near a half", uptake_near_half(rng)),
+        12..16 => ("a savanna gas near a half", savanna::gas_near_half(rng)),
+        16 => ("large savannas", savanna::large_alone(rng)),
         _ => ("all rows", Rows::good(rng, [MOST_ROWS; 3])),
     };
     if rows.edition == 1 && rng.one_in(2) {
-        add_abandoned(rng, &mut rows);
+        add_later_kinds(rng, &mut rows);
     }
     let how = format!("{how}, edition {}, {:?} rows", rows.edition, rows.counts());
     let bytes = rows.to_bytes();
     Case { how, bytes }
 }
 
-/// The same rows in edition 2, with some of abandoned land.
-fn add_abandoned(rng: &mut Rng, rows: &mut Rows) {
-    let count = rng.pick(&[0, 1, 2, 12, 13, 32]);
+/// The same rows in edition 2, with some of abandoned land and savannas.
+fn add_later_kinds(rng: &mut Rng, rows: &mut Rows) {
+    let [abandoned, savanna] = [0; 2].map(|_| rng.pick(&[0, 1, 2, 12, 13, 32]));
+    let later = Rows::good_in(rng, 2, [0, 0, 0, abandoned, savanna]);
     rows.edition = 2;
-    rows.abandoned = Rows::good_in(rng, 2, [0, 0, 0, count]).abandoned;
+    rows.abandoned = later.abandoned;
+    rows.savanna = later.savanna;
 }
 
 /// Uptake on a half or beside it. The last row is one for single units, of land
@@ -306,6 +312,7 @@ fn large(rng: &mut Rng) -> Rows {
         let at = 1 + rng.below(6);
         row[at] -= rng.pick(&[0, 0, 1]);
     }
+    savanna::enlarge(rng, &mut rows.savanna);
     // All of one sign, or the largest of both.
     match rng.below(3) {
         0 => rows.stock.clear(),

@@ -96,7 +96,7 @@ mod tests {
         let found: Vec<(String, Ways)> = halves.lines().filter(|(_, w)| *w != [0, 0]).collect();
         let due = [("Q above zero", [0, 1]), ("report below zero", [1, 0])];
         assert_eq!(found, due.map(|(name, ways)| (name.to_string(), ways)));
-        assert_eq!(halves.lines().count(), 10);
+        assert_eq!(halves.lines().count(), 14);
         assert!(!halves.reach(1));
     }
 
@@ -104,10 +104,10 @@ mod tests {
     #[test]
     fn halves_come_of_every_figure() {
         let mut halves = Halves::default();
-        for index in 0..4_000 {
+        for index in 0..6_000 {
             halves.note(&figures::case(&mut Rng::for_input(56, index)).bytes);
         }
-        assert_eq!(halves.accepted(), 4_000);
+        assert_eq!(halves.accepted(), 6_000);
         assert!(halves.reach(50));
     }
 }

@@ -1,7 +1,7 @@
 //! The judge of a return: refusal numbers 1 to 7 of the paper (01), in order,
-//! with edition 2 and its kind 5 from the request on abandoned land (02, §1).
-//! "8 is never given again, its number isn't reused, and 01's order closes over
-//! it" (02, §3).
+//! with edition 2 and its kinds 5 and 6 from the requests on abandoned land and
+//! on savannas (02, §1 and §5). "8 is never given again, its number isn't reused,
+//! and 01's order closes over it" (02, §3).
 //!
 //! "Each number is tried over the whole input before the next, and the lowest
 //! place is given": numbers 1 to 4 are a pass each. The faults of 5 to 7 belong
@@ -22,19 +22,19 @@ pub enum Verdict {
 }
 
 /// What an accepted return is: its edition, and the numbers of conversion,
-/// stock, harvest, parameter and abandoned rows.
+/// stock, harvest, parameter, abandoned and savanna rows.
 #[derive(Clone, Copy, Debug, PartialEq, Eq)]
 pub struct Counts {
     pub edition: u16,
-    pub rows: [u32; 5],
+    pub rows: [u32; LAST_KIND],
 }
 
 impl Counts {
     /// As C gets them: the edition, then the rows of each kind.
-    pub fn numbers(self) -> [u32; 6] {
-        let [conversion, stock, harvest, parameters, abandoned] = self.rows;
-        let edition = u32::from(self.edition);
-        [edition, conversion, stock, harvest, parameters, abandoned]
+    pub fn numbers(self) -> [u32; LAST_KIND + 1] {
+        let mut numbers = [u32::from(self.edition); LAST_KIND + 1];
+        numbers[1..].copy_from_slice(&self.rows);
+        numbers
     }
 }
 
@@ -46,8 +46,9 @@ pub struct Refusal {
 }
 
 const BLOCK: usize = 512;
-/// "Lengths go to 13 blocks in either edition".
-const MOST_BLOCKS: usize = 13;
+/// "Lengths go to 13 blocks in either edition" (02, §1), and "grow by three
+/// blocks" (02, §5).
+const MOST_BLOCKS: usize = 16;
 const RECORD: usize = 40;
 const RECORDS_PER_BLOCK: usize = 12;
 const RECORDS_AT: usize = 8;
@@ -58,6 +59,8 @@ const STOCK: u8 = 2;
 const HARVEST: u8 = 3;
 const PARAMETERS: u8 = 4;
 const ABANDONED: u8 = 5;
+const SAVANNA: u8 = 6;
+const LAST_KIND: usize = SAVANNA as usize;
 
 type Block = [u8; BLOCK];
 pub type Record = [u8; RECORD];
@@ -70,7 +73,7 @@ pub struct Checked<'a> {
 }
 
 impl<'a> Checked<'a> {
-    /// The used records of kind 1 to 5, in order.
+    /// The used records of kind 1 to 6, in order.
     pub fn records(self, kind: u8) -> impl Iterator<Item = &'a Record> {
         self.blocks
             .iter()
@@ -119,7 +122,7 @@ pub fn check(bytes: &[u8]) -> Result<Checked<'_>, Refusal> {
     layout_holds(blocks)?;
     records_hold(blocks)?;
 
-    let mut rows = [0; 5];
+    let mut rows = [0; LAST_KIND];
     for block in blocks {
         rows[usize::from(block[0] - 1)] += u32::from(block[1]);
     }

@@ -121,6 +121,28 @@ impl Layout<7> for Abandoned {
     ];
 }
 
+/// Area and density, then the part burned, the live part of that, oxidised and
+/// carbon fraction of the live and of the dead, N/C, CH4, CO, N2O and NOx.
+struct Savanna;
+impl Layout<14> for Savanna {
+    const FIELDS: [Field; 14] = [
+        ID,
+        field(4, 4, AREA),
+        field(8, 2, DENSITY),
+        field(10, 2, SHARE),
+        field(12, 2, SHARE),
+        field(14, 2, SHARE),
+        field(16, 2, SHARE),
+        field(18, 2, SHARE),
+        field(20, 2, SHARE),
+        field(22, 2, SHARE),
+        field(24, 2, SHARE),
+        field(26, 2, SHARE),
+        field(28, 2, SHARE),
+        field(30, 2, SHARE),
+    ];
+}
+
 /// The first place of each of the numbers 5, 6 and 7.
 pub(crate) type FirstPlaces = [Option<usize>; 3];
 
@@ -143,13 +165,14 @@ pub struct Kind {
 
 /// "At most 32 rows of each of the first three kinds, none needed; always one
 /// parameter row." Abandoned land: "kind 5, after the parameter block, up to 32,
-/// in edition 2".
-pub static KINDS: [Kind; 5] = [
+/// in edition 2". Savannas: "Kind 6, edition 2, up to 32 rows".
+pub static KINDS: [Kind; 6] = [
     Kind::of::<15, Conversion>("conversion", 1, 0, 32),
     Kind::of::<5, Stock>("stock", 1, 0, 32),
     Kind::of::<5, Harvest>("harvest", 1, 0, 32),
     Kind::of::<6, Parameters>("parameters", 1, 1, 1),
     Kind::of::<7, Abandoned>("abandoned", 2, 0, 32),
+    Kind::of::<14, Savanna>("savanna", 2, 0, 32),
 ];
 
 /// "an unknown edition" is any other.
@@ -168,8 +191,8 @@ pub const ROWS_ROOM: usize = {
     room
 };
 
-/// Bytes that the blocks of any rows fit: "13 blocks in either edition".
-pub const RETURN_ROOM: usize = 6_656;
+/// Bytes that the blocks of any rows fit: 13 blocks, and "three blocks" more.
+pub const RETURN_ROOM: usize = 8_192;
 
 impl Kind {
     const fn of<const N: usize, L: Layout<N>>(
@@ -269,11 +292,13 @@ mod tests {
     use super::*;
 
     /// By the paper's own numbers: "15, 5, 5 and 6". An abandoned row is an id
-    /// and twice three fields; 806 numbers and 32 times 7 are 1,030.
+    /// and twice three fields, a savanna row an id and 13 fields; 806 numbers, 32
+    /// times 7 and 32 times 14 are 1,478.
     #[test]
     fn rows_have_the_papers_lengths() {
-        assert_eq!(KINDS.each_ref().map(|kind| kind.numbers), [15, 5, 5, 6, 7]);
-        assert_eq!(ROWS_ROOM, 1_030);
+        let numbers = KINDS.each_ref().map(|kind| kind.numbers);
+        assert_eq!(numbers, [15, 5, 5, 6, 7, 14]);
+        assert_eq!((ROWS_ROOM, COUNTS_ROOM), (1_478, 7));
     }
 
     /// Each field behind the one before, inside the record, and wide enough.
@@ -293,6 +318,7 @@ mod tests {
         fields_stand_in_order::<5, Harvest>();
         fields_stand_in_order::<6, Parameters>();
         fields_stand_in_order::<7, Abandoned>();
+        fields_stand_in_order::<14, Savanna>();
     }
 
     /// By hand: ages of eight bytes each behind the id, 20 in all.
@@ -302,9 +328,16 @@ mod tests {
         assert_eq!(ends, [4, 8, 10, 12, 16, 18, 20]);
     }
 
+    /// By hand: id and area of four bytes, then twelve numbers of two, 32 in all.
+    #[test]
+    fn savannas_have_no_gaps() {
+        let ends = Savanna::FIELDS.map(|field| field.at + field.bytes);
+        assert_eq!(ends, [4, 8, 10, 12, 14, 16, 18, 20, 22, 24, 26, 28, 30, 32]);
+    }
+
     #[test]
     fn lengths_are_whole_rows_inside_the_limits() {
-        let [conversion, stock, _, parameters, abandoned] = &KINDS;
+        let [conversion, stock, _, parameters, abandoned, savanna] = &KINDS;
         for (kind, length, due) in [
             (conversion, 0, Some(0)),
             (conversion, 14, None),
@@ -321,17 +354,24 @@ mod tests {
                 assert_eq!(found, due, "{} of {length}", kind.name);
             }
         }
-        for (length, first, second) in [
-            (0, Some(0), Some(0)),
-            (1, None, None),
-            (6, None, None),
-            (7, None, Some(1)),
-            (224, None, Some(32)),
-            (225, None, None),
-            (231, None, None),
+        for (kind, length, first, second) in [
+            (abandoned, 0, Some(0), Some(0)),
+            (abandoned, 1, None, None),
+            (abandoned, 6, None, None),
+            (abandoned, 7, None, Some(1)),
+            (abandoned, 224, None, Some(32)),
+            (abandoned, 225, None, None),
+            (abandoned, 231, None, None),
+            (savanna, 0, Some(0), Some(0)),
+            (savanna, 7, None, None),
+            (savanna, 13, None, None),
+            (savanna, 14, None, Some(1)),
+            (savanna, 448, None, Some(32)),
+            (savanna, 449, None, None),
+            (savanna, 462, None, None),
         ] {
-            let found = [1, 2].map(|edition| abandoned.rows_in(edition, length));
-            assert_eq!(found, [first, second], "{length}");
+            let found = [1, 2].map(|edition| kind.rows_in(edition, length));
+            assert_eq!(found, [first, second], "{} of {length}", kind.name);
         }
     }
 }

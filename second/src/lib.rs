@@ -1,7 +1,7 @@
 //! The second program, written from the paper (01) and the requests on abandoned
-//! land, on halves and on thinner grass (02, §1 to §3) alone: a judge, a reader
-//! and a writer of returns, the worksheets and the doubles, with makers of good
-//! and damaged inputs to compare all of it with the first program.
+//! land, on halves, on thinner grass and on savannas (02, §1 to §3 and §5) alone:
+//! a judge, a reader and a writer of returns, the worksheets and the doubles, with
+//! makers of good and damaged inputs to compare all of it with the first program.
 //!
 //! It shares no code and no definition with the first program. The unit tests
 //! (`NILOFERQ_LIB= cargo test --lib`) need nothing else; the comparisons and
@@ -11,6 +11,7 @@
 #![deny(unsafe_code)]
 
 pub mod bound;
+pub mod burned;
 pub mod damage;
 pub mod doubles;
 pub mod drive;
@@ -28,10 +29,12 @@ pub mod make;
 pub mod mix;
 pub mod order_sweeps;
 pub mod reader;
+pub mod request;
 pub mod rng;
 pub mod rounding;
 pub mod row_sweeps;
 pub mod rowlists;
+pub mod savanna;
 pub mod sentences;
 pub mod sheets;
 pub mod spoil;

@@ -5,9 +5,11 @@
 
 mod bytes;
 mod good;
+mod savannas;
 
 pub use bytes::{renumber, repair_check, repair_checks, seal};
-pub use good::{drawn_counts, good_ids, thin};
+pub use good::{drawn_counts, good_ids, later, thin};
+pub use savannas::{largest, savanna_carbon};
 
 use std::ops::Range;
 
@@ -15,11 +17,13 @@ pub const BLOCK: usize = 512;
 pub const CHECK_AT: usize = 508;
 pub const MOST_ROWS: usize = 32;
 /// Of a return, in either edition.
-pub const MOST_BLOCKS: usize = 13;
+pub const MOST_BLOCKS: usize = 16;
 /// All that edition 1 has rows for.
 pub const FIRST_FULL: usize = 10;
-/// The kinds whose rows have ids, in order. Kind 5 is edition 2's alone.
-pub const WITH_IDS: [u8; 4] = [1, 2, 3, 5];
+/// The kinds whose rows have ids, in order.
+pub const WITH_IDS: [u8; 5] = [1, 2, 3, 5, 6];
+/// How many of them edition 1 has; the later ones are edition 2's alone.
+pub const FIRST_WITH_IDS: usize = 3;
 /// Numbers of rows of the kinds with ids.
 pub type RowCounts = [usize; WITH_IDS.len()];
 
@@ -58,6 +62,11 @@ const PARAMETERS: [Part; 8] = [
 
 #[rustfmt::skip]
 const ABANDONED: [Part; 8] = [ID, LARGE, RATE, SHARE, LARGE, RATE, SHARE, Part::Zero(20)];
+#[rustfmt::skip]
+const SAVANNA: [Part; 15] = [
+    ID, AREA, DENSITY, SHARE, SHARE, SHARE, SHARE, SHARE, SHARE,
+    SHARE, SHARE, SHARE, SHARE, SHARE, Part::Zero(8),
+];
 
 /// Positions in a conversion row.
 pub const BEFORE: [usize; 2] = [2, 11];
@@ -65,9 +74,33 @@ pub const AFTER: [usize; 2] = [3, 12];
 /// On-site, off-site and decay: together at most 1,000.
 pub const SUMMED: [usize; 3] = [4, 7, 13];
 
-const RECORDS: [&[Part]; 5] = [&CONVERSION, &STOCK, &HARVEST, &PARAMETERS, &ABANDONED];
+/// Positions in a savanna row: the live fraction, oxidised and carbon fraction of
+/// the live part, the same two of the dead, N/C, and CH4, CO, N2O and NOx.
+pub const LIVE: usize = 4;
+pub const LIVE_BURNT: [usize; 2] = [5, 6];
+pub const DEAD_BURNT: [usize; 2] = [7, 8];
+pub const NITROGEN: usize = 9;
+pub const GASES: [usize; 4] = [10, 11, 12, 13];
 
-/// The parts of a record of kind 1 to 5, in order; together 40 bytes.
+const RECORDS: [&[Part]; 6] = [
+    &CONVERSION,
+    &STOCK,
+    &HARVEST,
+    &PARAMETERS,
+    &ABANDONED,
+    &SAVANNA,
+];
+
+/// The last kind that an edition has.
+pub fn last_kind(edition: u16) -> u8 {
+    if edition == 1 {
+        4
+    } else {
+        RECORDS.len() as u8
+    }
+}
+
+/// The parts of a record of kind 1 to 6, in order; together 40 bytes.
 pub fn parts(kind: u8) -> &'static [Part] {
     RECORDS[usize::from(kind) - 1]
 }
@@ -134,8 +167,8 @@ pub fn place_of(kind: u8) -> Option<usize> {
 }
 
 /// The rows of a return. A good one has at most 32 of each kind with ids, of
-/// abandoned land only in edition 2, and exactly one of parameters; more or
-/// fewer are written just the same.
+/// abandoned land and savannas only in edition 2, and exactly one of parameters;
+/// more or fewer are written just the same.
 #[derive(Clone, Debug)]
 pub struct Rows {
     pub edition: u16,
@@ -144,6 +177,7 @@ pub struct Rows {
     pub harvest: Vec<[u32; 5]>,
     pub parameters: Vec<[u32; 6]>,
     pub abandoned: Vec<[u32; 7]>,
+    pub savanna: Vec<[u32; 14]>,
 }
 
 /// No rows, in edition 1.
@@ -156,6 +190,7 @@ impl Default for Rows {
             harvest: Vec::new(),
             parameters: Vec::new(),
             abandoned: Vec::new(),
+            savanna: Vec::new(),
         }
     }
 }
@@ -167,7 +202,8 @@ impl Rows {
             2 => self.stock.len(),
             3 => self.harvest.len(),
             4 => self.parameters.len(),
-            _ => self.abandoned.len(),
+            5 => self.abandoned.len(),
+            _ => self.savanna.len(),
         }
     }
 
@@ -177,7 +213,8 @@ impl Rows {
             2 => &mut self.stock[row],
             3 => &mut self.harvest[row],
             4 => &mut self.parameters[row],
-            _ => &mut self.abandoned[row],
+            5 => &mut self.abandoned[row],
+            _ => &mut self.savanna[row],
         }
     }
 
@@ -189,6 +226,7 @@ impl Rows {
             self.harvest.concat(),
             self.parameters.concat(),
             self.abandoned.concat(),
+            self.savanna.concat(),
         ]
     }
 

@@ -4,7 +4,7 @@ use crate::rng::Rng;
 
 #[test]
 fn every_kind_is_forty_bytes() {
-    for kind in 1..=5 {
+    for kind in 1..=6 {
         let width = |part: &Part| match *part {
             Part::Field { width, .. } => width,
             Part::Zero(width) => width,
@@ -14,12 +14,13 @@ fn every_kind_is_forty_bytes() {
 }
 
 /// "15, 5, 5 and 6" numbers, of which the first three have an id, and 7 of
-/// abandoned land, which has one too.
+/// abandoned land and 14 of savannas, which have one too.
 #[test]
 fn limited_fields_come_once_each() {
-    let due = [(1, 1..15), (2, 1..5), (3, 1..5), (4, 0..6), (5, 1..7)];
+    let first = [(1, 1..15), (2, 1..5), (3, 1..5), (4, 0..6)];
+    let due = first.into_iter().chain([(5, 1..7), (6, 1..14)]);
     let due = due.map(|(kind, positions)| positions.map(move |position| (kind, position)));
-    let due: Vec<(u8, usize)> = due.into_iter().flatten().collect();
+    let due: Vec<(u8, usize)> = due.flatten().collect();
     let found: Vec<(u8, usize)> = (0..LIMITED).map(limited).collect();
     assert_eq!(found, due);
 }
@@ -31,34 +32,39 @@ fn good_rows_are_accepted_with_their_counts() {
         for counts in [[count, 0, 0], [0, count, 32], [32, 32, count], [count; 3]] {
             let bytes = Rows::good(&mut rng, counts).to_bytes();
             let [c, s, h] = counts.map(|count| count as u32);
-            assert_eq!(judge(&bytes), accepted(1, [c, s, h, 1, 0]));
+            assert_eq!(judge(&bytes), accepted(1, [c, s, h, 1, 0, 0]));
         }
     }
 }
 
-fn accepted(edition: u16, rows: [u32; 5]) -> Verdict {
+fn accepted(edition: u16, rows: [u32; 6]) -> Verdict {
     Verdict::Accepted(Counts { edition, rows })
 }
 
 #[test]
-fn abandoned_land_is_accepted_in_edition_2() {
+fn later_kinds_are_accepted_in_edition_2() {
     let mut rng = Rng::new(5);
     for count in 0..=MOST_ROWS {
-        for counts in [[0, 0, 0, count], [count, 0, 32, count], [32, 32, 32, count]] {
+        for counts in [
+            [0, 0, 0, count, 0],
+            [0, 0, 0, 0, count],
+            [count, 0, 32, count, count],
+            [32, 32, 32, count, MOST_ROWS - count],
+        ] {
             let mut rows = Rows::good_in(&mut rng, 2, counts);
-            let [c, s, h, a] = counts.map(|count| count as u32);
-            assert_eq!(judge(&rows.to_bytes()), accepted(2, [c, s, h, 1, a]));
+            let [c, s, h, a, v] = counts.map(|count| count as u32);
+            assert_eq!(judge(&rows.to_bytes()), accepted(2, [c, s, h, 1, a, v]));
             rows.edition = 1;
-            let alone = count == 0;
+            let alone = a + v == 0;
             assert_eq!(
-                judge(&rows.to_bytes()) == accepted(1, [c, s, h, 1, 0]),
+                judge(&rows.to_bytes()) == accepted(1, [c, s, h, 1, 0, 0]),
                 alone
             );
         }
     }
 }
 
-/// Thirteen blocks in edition 2 and ten in edition 1 come often.
+/// Sixteen blocks in edition 2 and ten in edition 1 come often.
 #[test]
 fn full_returns_come() {
     let mut rng = Rng::new(6);
@@ -109,4 +115,42 @@ fn thinner_rows_come_of_all_sizes() {
     assert!(sizes.iter().all(|&times| times > 20), "{sizes:?}");
     let least = rows.iter().flatten().min();
     assert!(least.is_some_and(|&times| times > 1_000), "{rows:?}");
+}
+
+/// By hand, with primes: 2 x 3 x 5 x (7 x 11 x 13 + 993 x 17 x 19).
+#[test]
+fn carbon_of_a_savanna() {
+    let row = [9, 2, 3, 5, 7, 11, 13, 17, 19, 1, 1, 1, 1, 1];
+    assert_eq!(savanna_carbon(&row), [30_030, 9_622_170]);
+}
+
+/// Savannas are all live, all dead and both, without carbon and with the most
+/// there is, in returns of any number of them and in those of 32.
+#[test]
+fn savannas_come_of_all_sizes() {
+    let mut rng = Rng::new(8);
+    let mut sizes = [0; 24];
+    let mut live = [0; 3];
+    let mut all_largest = 0;
+    for _ in 0..1_000 {
+        let rows = Rows::good_in(&mut rng, 2, [0, 0, 0, 0, 32]).savanna;
+        let both = |row: &[u32; 14]| savanna_carbon(row).iter().sum();
+        let found: Vec<u128> = rows.iter().map(both).collect();
+        all_largest += u32::from(found.iter().all(|&c| c == 10u128.pow(22)));
+        for (row, carbon) in rows.iter().zip(found) {
+            sizes[carbon
+                .checked_ilog10()
+                .map_or(0, |power| power as usize + 1)] += 1;
+            live[match row[LIVE] {
+                0 => 0,
+                1_000 => 1,
+                _ => 2,
+            }] += 1;
+        }
+    }
+    // None, and every power of ten up to 10^22.
+    assert!(sizes.iter().all(|&times| times > 0), "{sizes:?}");
+    assert!(sizes[0] > 1_000 && sizes[23] > 1_000, "{sizes:?}");
+    assert!(live.iter().all(|&times| times > 2_000), "{live:?}");
+    assert!(all_largest > 50, "{all_largest}");
 }

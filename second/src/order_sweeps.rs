@@ -2,34 +2,19 @@
 //! Everything else in them is good.
 
 use crate::damage::{block, block_count};
-use crate::make::{place_of, repair_checks, seal, Rows, BLOCK, WITH_IDS};
+use crate::make::{last_kind, place_of, repair_checks, seal, RowCounts, Rows, BLOCK};
 use crate::rng::Rng;
 use crate::sweep::Case;
 
-/// The kinds 1 to 6 in one to four blocks.
-pub const ORDERS: usize = 6 + 36 + 216 + 1_296;
+/// The kinds 1 to 7 in one to four blocks.
+pub const ORDERS: usize = 7 + 49 + 343 + 2_401;
 /// Editions 0 to 3 in one to four blocks.
 pub const EDITIONS: usize = 4 + 16 + 64 + 256;
 /// Numbers of blocks from eight to some more than there may be.
-pub const CROWDS: usize = 9;
-
-/// The orders and the editions of one block and of two, and the crowds.
-pub const REQUEST: usize = SHORT_ORDERS + SHORT_EDITIONS + 2 * CROWDS;
-const SHORT_ORDERS: usize = 2 * (6 + 36);
-const SHORT_EDITIONS: usize = 4 + 16;
-
-/// A few inputs that meet all the request says of refusals, for a comparison
-/// that is too slow for the whole sweeps.
-pub fn request(index: usize, rng: &mut Rng) -> Case {
-    if index < SHORT_ORDERS {
-        return orders(index, rng);
-    }
-    let index = index - SHORT_ORDERS;
-    if index < SHORT_EDITIONS {
-        return editions(index, rng);
-    }
-    crowds(index - SHORT_EDITIONS, rng)
-}
+pub const CROWDS: usize = 12;
+/// The orders and the editions of one block and of two, which come first.
+pub const SHORT_ORDERS: usize = 2 * (7 + 49);
+pub const SHORT_EDITIONS: usize = 4 + 16;
 
 /// The `index`-th list of numbers below `below`, the shorter lists first.
 fn nth_list(mut index: usize, below: usize) -> Vec<u8> {
@@ -42,11 +27,11 @@ fn nth_list(mut index: usize, below: usize) -> Vec<u8> {
     (0..length).map(digit).collect()
 }
 
-/// Every order of kinds in each edition, 5 and 6 in edition 1 and 6 in edition 2
+/// Every order of kinds in each edition, 5 to 7 in edition 1 and 7 in edition 2
 /// included.
 pub fn orders(index: usize, rng: &mut Rng) -> Case {
     let edition = 1 + (index % 2) as u16;
-    let kinds: Vec<u8> = nth_list(index / 2, 6).iter().map(|kind| kind + 1).collect();
+    let kinds: Vec<u8> = nth_list(index / 2, 7).iter().map(|kind| kind + 1).collect();
     of_kinds(rng, edition, &kinds)
 }
 
@@ -56,9 +41,9 @@ pub fn editions(index: usize, rng: &mut Rng) -> Case {
     let editions = nth_list(index, 4);
     let kinds: &[u8] = match editions.len() {
         1 => &[4],
-        2 => rng.pick(&[&[1, 4], &[4, 5]]),
-        3 => rng.pick(&[&[1, 2, 4], &[2, 4, 5]]),
-        _ => rng.pick(&[&[1, 2, 3, 4], &[1, 3, 4, 5]]),
+        2 => rng.pick(&[&[1, 4], &[4, 5], &[4, 6]]),
+        3 => rng.pick(&[&[1, 2, 4], &[2, 4, 5], &[4, 5, 6]]),
+        _ => rng.pick(&[&[1, 2, 3, 4], &[1, 3, 4, 5], &[2, 4, 5, 6]]),
     };
     let mut bytes = of_kinds(rng, 2, kinds).bytes;
     for (b, &edition) in editions.iter().enumerate() {
@@ -72,12 +57,12 @@ pub fn editions(index: usize, rng: &mut Rng) -> Case {
 }
 
 /// Rising kinds in eight blocks and more, in each edition: from eleven on edition
-/// 1 has no place for them, from fourteen on neither has.
+/// 1 has no place for them, from seventeen on neither has.
 pub fn crowds(index: usize, rng: &mut Rng) -> Case {
     let (edition, blocks) = (1 + (index % 2) as u16, 8 + index / 2 % CROWDS);
     let mut kinds = vec![1, 1, 1, 2, 2, 2, 3, 3, 3, 4];
     if edition == 2 {
-        kinds.extend([5, 5, 5]);
+        kinds.extend([5, 5, 5, 6, 6, 6]);
     }
     while kinds.len() > blocks {
         let b = rng.below(kinds.len());
@@ -85,7 +70,7 @@ pub fn crowds(index: usize, rng: &mut Rng) -> Case {
             kinds.remove(b);
         }
     }
-    let last = 3 + usize::from(edition);
+    let last = usize::from(last_kind(edition));
     kinds.extend((kinds.len()..blocks).map(|_| 1 + rng.below(last) as u8));
     kinds.sort_unstable();
     of_kinds(rng, edition, &kinds)
@@ -116,7 +101,7 @@ fn of_kinds(rng: &mut Rng, edition: u16, kinds: &[u8]) -> Case {
 
 /// A good block of this kind; of one that there isn't, a header and zeros.
 fn good_block(rng: &mut Rng, edition: u16, kind: u8, count: usize) -> Vec<u8> {
-    let mut counts = [0; WITH_IDS.len()];
+    let mut counts = RowCounts::default();
     if let Some(place) = place_of(kind) {
         counts[place] = count;
     }
@@ -133,16 +118,19 @@ fn good_block(rng: &mut Rng, edition: u16, kind: u8, count: usize) -> Vec<u8> {
 #[cfg(test)]
 mod tests {
     use super::*;
-    use crate::drive::Input;
     use crate::judge::judge;
-    use crate::sentences::OF_RETURNS;
+
+    /// By hand: four kinds in edition 1, six in edition 2.
+    fn known(edition: u8, kind: u8) -> bool {
+        kind <= [4, 6][usize::from(edition) - 1]
+    }
 
     /// All rules on kinds together: the kinds rise, one of them is 4 and there are
     /// no others than the edition's. So says each edition as a whole.
     fn form_is_good(edition: u8, kinds: &[u8]) -> bool {
         let times = |kind: u8| kinds.iter().filter(|&&other| other == kind).count();
-        let known = kinds.iter().all(|&kind| kind <= 3 + edition);
-        let few = (1..=5).all(|kind| times(kind) <= 3);
+        let known = kinds.iter().all(|&kind| known(edition, kind));
+        let few = (1..=6).all(|kind| times(kind) <= 3);
         kinds.is_sorted() && times(4) == 1 && known && few
     }
 
@@ -156,7 +144,7 @@ mod tests {
             let case = orders(index, &mut Rng::for_input(111, index as u64));
             let (edition, kinds) = (case.bytes[6], kinds_of(&case.bytes));
             let answer = judge(&case.bytes).answer();
-            let unknown = kinds.iter().position(|&kind| kind > 3 + edition);
+            let unknown = kinds.iter().position(|&kind| !known(edition, kind));
             match unknown {
                 Some(b) => assert_eq!(answer, 3000 + b as u32, "{}", case.how),
                 None if form_is_good(edition, &kinds) => assert_eq!(answer, 0, "{}", case.how),
@@ -173,7 +161,7 @@ mod tests {
             let kinds = kinds_of(&case.bytes);
             let first = editions[0];
             let good = |(&edition, &kind): (&u8, &u8)| {
-                edition == first && [1, 2].contains(&first) && kind <= 3 + first
+                edition == first && [1, 2].contains(&first) && known(first, kind)
             };
             let bad = editions.iter().zip(&kinds).position(|block| !good(block));
             let due = bad.map_or(0, |b| 3000 + b as u32);
@@ -189,24 +177,12 @@ mod tests {
             let number = judge(&case.bytes).answer() / 1000;
             let good = form_is_good(edition, &kinds);
             let due = match kinds.len() {
-                14.. => 1,
+                17.. => 1,
                 _ if good => 0,
                 _ => 4,
             };
             assert_eq!(number, due, "{}", case.how);
             assert!(edition == 2 || kinds.len() < 11 || !good);
         }
-    }
-
-    /// The few inputs that stand for the request meet all of its sentences.
-    #[test]
-    fn the_request_is_met() {
-        let mut met = [0; OF_RETURNS.len()];
-        for index in 0..REQUEST {
-            let case = request(index, &mut Rng::for_input(114, index as u64));
-            let found = case.sentences(judge(&case.bytes).answer());
-            found.into_iter().for_each(|i| met[i] += 1);
-        }
-        assert!(!met.contains(&0), "{met:?}");
     }
 }

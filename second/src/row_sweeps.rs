@@ -3,7 +3,7 @@
 
 use crate::kinds::KINDS;
 use crate::make::{drawn_counts, fields, limited, place_of, RowCounts, Rows};
-use crate::make::{LIMITED, MOST_ROWS, WITH_IDS};
+use crate::make::{FIRST_WITH_IDS, LIMITED, MOST_ROWS, WITH_IDS};
 use crate::rng::Rng;
 use crate::rowlists::{wrap_sum, RowLists, UNKNOWN_EDITIONS};
 use crate::spoil::{spoil_id, BAD_IDS};
@@ -46,12 +46,10 @@ pub fn case(mut index: usize, rng: &mut Rng) -> RowLists {
 fn counts(index: usize, rng: &mut Rng) -> RowLists {
     let (turn, alone) = (index / 2, index.is_multiple_of(2));
     let (count, place) = (turn / WITH_IDS.len(), turn % WITH_IDS.len());
-    let any = |rng: &mut Rng| rng.below(MOST_ROWS + 1);
-    let mut counts = if alone {
-        [0; 4]
-    } else {
-        drawn_counts(rng, any)
-    };
+    let mut counts = RowCounts::default();
+    if !alone {
+        counts = drawn_counts(rng, |rng| rng.below(MOST_ROWS + 1));
+    }
     counts[place] = count;
     let rows = Rows::good_in_either(rng, counts);
     RowLists::of(format!("row counts {counts:?}"), &rows)
@@ -82,7 +80,7 @@ fn lengths(index: usize, rng: &mut Rng) -> RowLists {
     }
     let mut counts = [0; WITH_IDS.len()].map(|_| rng.below(4));
     if edition == 1 {
-        counts[3] = 0;
+        counts[FIRST_WITH_IDS..].fill(0);
     }
     if let Some(place) = place_of(kind as u8 + 1) {
         counts[place] = index.div_ceil(KINDS[kind].numbers);
@@ -162,12 +160,13 @@ fn ids(index: usize, rng: &mut Rng) -> RowLists {
 const EDITIONS: usize = UNKNOWN_EDITIONS.len() + 2;
 const EDITION_TRIES: usize = 40;
 
-/// Every edition, with and without abandoned land.
+/// Every edition, with and without abandoned land and savannas.
 fn editions(index: usize, rng: &mut Rng) -> RowLists {
     let (which, turn) = (index % EDITIONS, index / EDITIONS);
     let mut counts = some_counts(rng);
-    if turn.is_multiple_of(2) {
-        counts[3] = 1 + rng.below(MOST_ROWS + 1);
+    for (bit, count) in counts[FIRST_WITH_IDS..].iter_mut().enumerate() {
+        let some = 1 + rng.below(MOST_ROWS + 1);
+        *count = (turn >> bit) % 2 * some;
     }
     let mut made = RowLists::of(String::new(), &Rows::good_in(rng, 2, counts));
     let unknown = UNKNOWN_EDITIONS.get(which).copied();

@@ -2,6 +2,7 @@
 //! of rows, too many or don't add up, editions that there aren't or that don't
 //! have a kind, and each rule broken alone and beside others.
 
+use crate::burned::Savannas;
 use crate::drive::Input;
 use crate::kinds::KINDS;
 use crate::make::{fields, Rows};
@@ -67,6 +68,10 @@ impl Input for RowLists {
 
     fn thinner(&self) -> Sort {
         Sort::of_lists(self)
+    }
+
+    fn burned(&self) -> Savannas {
+        Savannas::of_lists(self)
     }
 }
 
@@ -156,7 +161,8 @@ pub const UNKNOWN_EDITIONS: [u32; 18] = [
     1 << 24, 1 << 31, (1 << 31) + 1, (1 << 31) + 2, u32::MAX - 1, u32::MAX,
 ];
 
-/// Another edition: one that there isn't, or 1, which has no abandoned land.
+/// Another edition: one that there isn't, or 1, which has neither abandoned land
+/// nor savannas.
 fn break_edition(rng: &mut Rng, made: &mut RowLists) {
     let any = rng.from_to(3, u32::MAX);
     made.edition = match rng.below(4) {

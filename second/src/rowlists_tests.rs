@@ -2,7 +2,7 @@ use super::*;
 use crate::row_sweeps;
 
 fn answer(made: &RowLists) -> u32 {
-    made.write(&mut [0; 6_656], &mut [0])
+    made.write(&mut [0; 8_192], &mut [0])
 }
 
 #[test]
@@ -22,7 +22,7 @@ fn every_index_makes_lists() {
 #[test]
 fn every_answer_comes_often() {
     let mut given = [0; 12];
-    let mut places = [0; 6];
+    let mut places = [0; 7];
     for index in 0..20_000 {
         let answer = answer(&case(&mut Rng::for_input(42, index)));
         given[(answer / 1000) as usize] += 1;
@@ -96,52 +96,63 @@ fn lengths_add_up() {
     let rows: Vec<u32> = (0..31).map(|i| if i == 0 { 9 } else { 0 }).collect();
     let answer =
         |rows: &[u32], lengths: &[u32]| write(1, rows, lengths, &mut [0; 5_120], &mut [0; 1]);
-    assert_eq!(answer(&rows, &[15, 5, 5, 6, 0]), 0);
+    assert_eq!(answer(&rows, &[15, 5, 5, 6, 0, 0]), 0);
     // Each sum is 31, or would be in 32 bits.
     for lengths in [
         &[15, 5, 11][..],
         &[15, 5, 5, 6],
-        &[15, 5, 5, 6, 0, 0],
-        &[15, 5, 5, 5, 0, 1],
+        &[15, 5, 5, 6, 0],
+        &[15, 5, 5, 6, 0, 0, 0],
+        &[15, 5, 5, 5, 0, 0, 1],
         &[31],
-        &[15, 5, u32::MAX, 12, 0],
-        &[15, 5, 5, 5, 0],
-        &[15, 5, 5, 12, 0],
-        &[0, 0, 0, 0, 0],
-        &[1 << 31, 1 << 31, 25, 6, 0],
-        &[1 << 30, 1 << 30, 1 << 30, (1 << 30) + 31, 0],
-        &[u32::MAX, u32::MAX, u32::MAX, 34, 0],
-        &[u32::MAX, u32::MAX, u32::MAX, u32::MAX, 35],
+        &[15, 5, u32::MAX, 12, 0, 0],
+        &[15, 5, 5, 5, 0, 0],
+        &[15, 5, 5, 12, 0, 0],
+        &[0, 0, 0, 0, 0, 0],
+        &[1 << 31, 1 << 31, 25, 6, 0, 0],
+        &[1 << 30, 1 << 30, 1 << 30, (1 << 30) + 31, 0, 0],
+        &[u32::MAX, u32::MAX, u32::MAX, 34, 0, 0],
+        &[u32::MAX, u32::MAX, u32::MAX, u32::MAX, 35, 0],
+        &[15, 5, 5, 6, 1 << 31, 1 << 31],
     ] {
         assert_eq!(answer(&rows, lengths), 10_000, "{lengths:?}");
     }
     assert_eq!(answer(&[], &[]), 10_000);
     // The sum is right: the kinds come next.
-    assert_eq!(answer(&[], &[0, 0, 0, 0, 0]), 10_004);
-    assert_eq!(answer(&rows, &[15, 5, 6, 5, 0]), 10_003);
-    assert_eq!(answer(&rows, &[16, 4, 5, 6, 0]), 10_001);
-    assert_eq!(answer(&rows, &[0, 20, 5, 6, 0]), 5001);
-    assert_eq!(answer(&rows[15..], &[0, 10, 0, 6, 0]), 5001);
-    assert_eq!(answer(&rows[20..], &[0, 5, 0, 6, 0]), 0);
-    assert_eq!(answer(&rows[20..], &[0, 0, 5, 6, 0]), 0);
+    assert_eq!(answer(&[], &[0, 0, 0, 0, 0, 0]), 10_004);
+    assert_eq!(answer(&rows, &[15, 5, 6, 5, 0, 0]), 10_003);
+    assert_eq!(answer(&rows, &[16, 4, 5, 6, 0, 0]), 10_001);
+    assert_eq!(answer(&rows, &[0, 20, 5, 6, 0, 0]), 5001);
+    assert_eq!(answer(&rows[15..], &[0, 10, 0, 6, 0, 0]), 5001);
+    assert_eq!(answer(&rows[20..], &[0, 5, 0, 6, 0, 0]), 0);
+    assert_eq!(answer(&rows[20..], &[0, 0, 5, 6, 0, 0]), 0);
 }
 
-/// By hand: the edition is tried at place 0, abandoned land at place 5.
+/// By hand: the edition is tried at place 0, abandoned land at place 5, savannas
+/// at place 6.
 #[test]
 fn editions() {
-    let rows = [0; 13];
+    let rows = [0; 27];
     let answer = |edition: u32, lengths: &[u32]| {
         let rows = &rows[..lengths.iter().sum::<u32>() as usize];
-        write(edition, rows, lengths, &mut [0; 1_024], &mut [0; 1])
+        write(edition, rows, lengths, &mut [0; 1_536], &mut [0; 1])
     };
     for (lengths, first, second) in [
-        (&[0, 0, 0, 6, 7][..], 10_005, 0),
-        (&[0, 0, 0, 6, 0], 0, 0),
-        (&[0, 0, 0, 6, 1], 10_005, 10_005),
-        (&[0, 0, 0, 6, 6], 10_005, 10_005),
+        (&[0, 0, 0, 6, 7, 0][..], 10_005, 0),
+        (&[0, 0, 0, 6, 0, 14], 10_006, 0),
+        (&[0, 0, 0, 6, 7, 14], 10_005, 0),
+        (&[0, 0, 0, 6, 0, 0], 0, 0),
+        (&[0, 0, 0, 6, 1, 0], 10_005, 10_005),
+        (&[0, 0, 0, 6, 6, 0], 10_005, 10_005),
+        (&[0, 0, 0, 6, 0, 1], 10_006, 10_006),
+        (&[0, 0, 0, 6, 0, 7], 10_006, 10_006),
+        (&[0, 0, 0, 6, 0, 13], 10_006, 10_006),
         // A lower kind's fault comes first, and so does place 0.
-        (&[0, 0, 0, 5, 7], 10_004, 10_004),
-        (&[1, 0, 0, 5, 7], 10_001, 10_001),
+        (&[0, 0, 0, 6, 1, 13], 10_005, 10_005),
+        (&[0, 0, 0, 5, 7, 0], 10_004, 10_004),
+        (&[0, 0, 0, 5, 0, 14], 10_004, 10_004),
+        (&[1, 0, 0, 5, 7, 14], 10_001, 10_001),
+        (&[0, 0, 0, 6, 7], 10_000, 10_000),
         (&[0, 0, 0, 6], 10_000, 10_000),
     ] {
         assert_eq!(answer(1, lengths), first, "{lengths:?}");
@@ -184,11 +195,51 @@ fn places_of_abandoned_land() {
     assert_eq!(judged(&rows), 0);
 }
 
+/// By hand: savannas stand behind abandoned land, with an area and a density of
+/// conversion rows and else fractions.
+#[test]
+fn places_of_savannas() {
+    let mut rows = Rows {
+        edition: 2,
+        parameters: vec![[1; 6]],
+        abandoned: vec![[9, 1, 1, 1, 1, 1, 1]],
+        savanna: (0..32).map(|id| [id; 14]).collect(),
+        ..Rows::default()
+    };
+    let judged = |rows: &Rows| answer(&RowLists::of(String::new(), rows));
+    assert_eq!(judged(&rows), 0);
+    rows.savanna[31][1..4].copy_from_slice(&[1_000_000, 10_000, 1_000]);
+    rows.savanna[31][4..].fill(1_000);
+    assert_eq!(judged(&rows), 0);
+    // The parameters are block 0, abandoned land 1, savannas 2 to 4.
+    rows.savanna[31][13] = 1_001;
+    assert_eq!(judged(&rows), 6055);
+    rows.savanna[30][4] = 65_536;
+    assert_eq!(judged(&rows), 6054);
+    rows.savanna[24][2] = 10_001;
+    assert_eq!(judged(&rows), 6048);
+    rows.savanna[0][1] = 1_000_001;
+    assert_eq!(judged(&rows), 6024);
+    rows.savanna[31][0] = 30;
+    assert_eq!(judged(&rows), 5055);
+    rows.savanna[24][0] = 23;
+    assert_eq!(judged(&rows), 5048);
+    rows.savanna.push([99; 14]);
+    assert_eq!(judged(&rows), 10_006);
+    rows.abandoned.resize(33, [99; 7]);
+    assert_eq!(judged(&rows), 10_005);
+    rows.abandoned.clear();
+    rows.edition = 1;
+    assert_eq!(judged(&rows), 10_006);
+    rows.savanna.clear();
+    assert_eq!(judged(&rows), 0);
+}
+
 /// Right in 32 bits and wrong by 2^32 or more.
 #[test]
 fn sums_wrap() {
-    let mut over = [0; 5];
-    for index in 0..2_000 {
+    let mut over = [0; 6];
+    for index in 0..6_000 {
         let made = row_sweeps::case(row_sweeps::size() - 1, &mut Rng::for_input(45, index));
         let sum: u64 = made.lengths.iter().map(|&length| u64::from(length)).sum();
         assert_eq!(sum as u32 as usize, made.rows.len());

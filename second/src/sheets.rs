@@ -1,5 +1,5 @@
-//! Worksheets 5-1, 5-2 and 5-3 of the paper (01) and 5-4 (02, §1), in whole
-//! numbers, with the count of thinner periods (02, §3).
+//! Worksheets 5-1, 5-2 and 5-3 of the paper (01), 5-4 (02, §1) and 4-3 (02, §5,
+//! in `savanna`), in whole numbers, with the count of thinner periods (02, §3).
 //!
 //! The largest values at the limits say how wide each figure must be:
 //! E 3.2 x 10^15, K 3.84 x 10^12, L 3.2 x 10^14, O 3.84 x 10^17, 11 P
@@ -11,6 +11,7 @@
 use crate::judge::{check, four, two, Checked, Record, Refusal};
 use crate::land::{Conversion, Period, Share};
 use crate::rounding::Tonnes;
+use crate::savanna::Savannas;
 use crate::text::Text;
 
 /// Every figure that isn't a plain sum or turn of another.
@@ -34,6 +35,11 @@ pub struct Worksheets {
     pub uptake: u64,
     pub uptake_co2: u64,
     pub thinner: u64,
+    pub savanna_carbon: u128,
+    pub savanna_ch4: u64,
+    pub savanna_co: u64,
+    pub savanna_n2o: u64,
+    pub savanna_nox: u64,
 }
 
 /// The worksheets of a return, or its refusal.
@@ -66,7 +72,7 @@ pub fn lines(bytes: &[u8], room: &mut [u8]) -> usize {
 }
 
 /// How many numbers C gets for all figures, three for each.
-pub const NUMBERS: usize = 60;
+pub const NUMBERS: usize = 75;
 
 /// As C asks for the figures: 0 and their numbers at the front of `room`, or
 /// 1,000 times the refusal number plus the place and `room` as it was.
@@ -99,6 +105,7 @@ struct Sums {
     uptake: u64,
     /// "the number of (row, period) pairs with after above before"
     thinner: u64,
+    savannas: Savannas,
     /// N, CH4, CO, N/C, N2O and NOx.
     parameters: [u64; 6],
 }
@@ -124,6 +131,7 @@ impl Sums {
             decay,
             uptake: checked.records(5).map(regrown).sum(),
             thinner,
+            savannas: Savannas::of(checked.records(6)),
             parameters: [4, 6, 8, 10, 12, 14].map(|at| u64::from(two(parameters, at))),
         }
     }
@@ -140,14 +148,16 @@ impl Sums {
         100 * self.e as i64 - self.o()
     }
 
-    /// Q, co2, ch4, co, n2o, nox and uptake_co2 before they are rounded.
-    fn tonnes(&self) -> [Tonnes; 7] {
+    /// Q, co2, ch4, co, n2o, nox, uptake_co2 and the gases of savannas before they
+    /// are rounded.
+    fn tonnes(&self) -> [Tonnes; ROUNDED.len() - 1] {
         let [_, ch4, co, nitrogen, n2o, nox] = self.parameters;
         // "from on-site carbon C only"
         let gas = |times: u64, ratio: u64, below: u64| {
             Tonnes::of(self.onsite as i128 * i128::from(times * ratio), below)
         };
         let all = (self.onsite + self.offsite + self.decay) as i128;
+        let [savanna_ch4, savanna_co, savanna_n2o, savanna_nox] = self.savannas.tonnes();
         [
             Tonnes::of(11 * self.p(), 3_000_000),
             Tonnes::of(11 * all, 3_000_000_000),
@@ -157,12 +167,16 @@ impl Sums {
             gas(23, nitrogen * nox, 7_000_000_000_000_000),
             // In 10^-7 kt C = 10^-4 t C, "then CO2 by 11/3, rounded once".
             Tonnes::of(11 * self.uptake, 30_000),
+            savanna_ch4,
+            savanna_co,
+            savanna_n2o,
+            savanna_nox,
         ]
     }
 }
 
 /// The figures that are rounded.
-pub const ROUNDED: [&str; 8] = [
+pub const ROUNDED: [&str; 12] = [
     "Q",
     "report",
     "co2",
@@ -171,13 +185,20 @@ pub const ROUNDED: [&str; 8] = [
     "n2o",
     "nox",
     "uptake_co2",
+    "savanna_ch4",
+    "savanna_co",
+    "savanna_n2o",
+    "savanna_nox",
 ];
 
 /// Each of [`ROUNDED`] before it is rounded.
 pub fn exact_tonnes(checked: Checked) -> [Tonnes; ROUNDED.len()] {
-    let [q, co2, ch4, co, n2o, nox, uptake_co2] = Sums::of(checked).tonnes();
-    let report = Tonnes::of(-q.above, q.below);
-    [q, report, co2, ch4, co, n2o, nox, uptake_co2]
+    let [q, rest @ ..] = Sums::of(checked).tonnes();
+    let mut exact = [q; ROUNDED.len()];
+    // The report is -Q.
+    exact[1] = Tonnes::of(-q.above, q.below);
+    exact[2..].copy_from_slice(&rest);
+    exact
 }
 
 impl Worksheets {
@@ -185,7 +206,8 @@ impl Worksheets {
         let sums = Sums::of(checked);
         let [q, rest @ ..] = sums.tonnes().map(Tonnes::rounded);
         // Only P goes below zero.
-        let [co2, ch4, co, n2o, nox, uptake_co2] = rest.map(i64::unsigned_abs);
+        let [co2, ch4, co, n2o, nox, uptake_co2, savannas @ ..] = rest.map(i64::unsigned_abs);
+        let [savanna_ch4, savanna_co, savanna_n2o, savanna_nox] = savannas;
         Worksheets {
             e: sums.e,
             k: sums.k,
@@ -205,6 +227,11 @@ impl Worksheets {
             uptake: sums.uptake,
             uptake_co2,
             thinner: sums.thinner,
+            savanna_carbon: sums.savannas.carbon,
+            savanna_ch4,
+            savanna_co,
+            savanna_n2o,
+            savanna_nox,
         }
     }
 
@@ -245,6 +272,11 @@ impl Worksheets {
             above(self.uptake),
             above(self.uptake_co2),
             above(self.thinner),
+            wide(self.savanna_carbon),
+            above(self.savanna_ch4),
+            above(self.savanna_co),
+            above(self.savanna_n2o),
+            above(self.savanna_nox),
         ]
     }
 
@@ -271,6 +303,11 @@ impl Worksheets {
         text.line("uptake ", self.uptake);
         text.line("uptake_co2 ", self.uptake_co2);
         text.line("thinner ", self.thinner);
+        text.wide_line("savanna_carbon ", self.savanna_carbon);
+        text.line("savanna_ch4 ", self.savanna_ch4);
+        text.line("savanna_co ", self.savanna_co);
+        text.line("savanna_n2o ", self.savanna_n2o);
+        text.line("savanna_nox ", self.savanna_nox);
     }
 }
 

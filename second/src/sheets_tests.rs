@@ -39,6 +39,11 @@ nox 129
 uptake 0
 uptake_co2 0
 thinner 0
+savanna_carbon 0
+savanna_ch4 0
+savanna_co 0
+savanna_n2o 0
+savanna_nox 0
 ";
 
 fn zero_parameters() -> Rows {
@@ -383,26 +388,34 @@ fn abandoned_land_leaves_the_other_figures() {
     assert_eq!(text_of(&rows.to_bytes()), "refused 3 4\n");
 }
 
-/// Three numbers for each of the twenty: those of 5-4, then the count.
+/// Three numbers for each of the 25: those of 5-4, the count, and those of 4-3.
 #[test]
 fn numbers_of_the_figures() {
     let bytes = with_abandoned(&[[1, 1_000, 300, 500, 2_000, 100, 500]]).to_bytes();
-    let mut room = [7; 61];
-    assert_eq!(figures(&bytes, &mut room[..59]), 9000);
-    assert_eq!(room, [7; 61]);
+    let mut room = [7; 76];
+    assert_eq!(figures(&bytes, &mut room[..74]), 9000);
+    assert_eq!(room, [7; 76]);
     assert_eq!(figures(&bytes, &mut room), 0);
     assert_eq!(room[..51], [0; 51]);
-    assert_eq!(room[51..], [0, 0, 250_000_000, 0, 0, 91_667, 0, 0, 0, 7]);
+    assert_eq!(room[51..57], [0, 0, 250_000_000, 0, 0, 91_667]);
+    assert_eq!(room[57..75], [0; 18]);
+    assert_eq!(room[75], 7);
 }
 
-/// 50 bytes for each of the twenty lines are always enough.
+/// 50 bytes for each of the 25 lines are always enough.
 #[test]
 fn long_texts_have_room() {
     let mut rng = Rng::new(63);
     let longest = (0..2_000).map(|_| text_of(&case(&mut rng).bytes).len());
     let longest = longest.max();
     assert!(
-        longest.is_some_and(|length| (300..=1_000).contains(&length)),
+        longest.is_some_and(|length| (400..=1_250).contains(&length)),
         "{longest:?}"
     );
+}
+
+/// The worked day's text is as long as `plain.c` writes.
+#[test]
+fn the_worked_day_is_321_bytes() {
+    assert_eq!(WORKED_TEXT.len(), 321);
 }

@@ -1,6 +1,6 @@
 //! Rows that are bad in one chosen way: numbers 5 to 7 of the paper.
 
-use crate::make::{fields, Rows, SUMMED, WITH_IDS};
+use crate::make::{fields, Rows, FIRST_WITH_IDS, SUMMED, WITH_IDS};
 use crate::rng::Rng;
 
 /// How an id fails to be above the one before it.
@@ -111,7 +111,11 @@ pub fn spoil_fractions(rng: &mut Rng, row: &mut [u32; 15]) {
 
 /// A kind with ids that this edition has.
 fn any_with_ids(rng: &mut Rng, rows: &Rows) -> u8 {
-    let known = if rows.edition == 1 { 3 } else { 4 };
+    let known = if rows.edition == 1 {
+        FIRST_WITH_IDS
+    } else {
+        WITH_IDS.len()
+    };
     WITH_IDS[rng.below(known)]
 }
 

@@ -2,7 +2,7 @@
 //! Only what a sweep doesn't name is left to the generator.
 
 use crate::damage::{block, block_count};
-use crate::make::{drawn_counts, fields, limited, place_of, repair_checks, seal};
+use crate::make::{drawn_counts, fields, later, limited, place_of, repair_checks, seal};
 use crate::make::{zero_areas, RowCounts, Rows, BLOCK, CHECK_AT};
 use crate::make::{LIMITED, MOST_BLOCKS, MOST_ROWS, SUMMED, WITH_IDS};
 use crate::order_sweeps::{crowds, editions, orders, CROWDS, EDITIONS, ORDERS};
@@ -17,7 +17,7 @@ pub struct Case {
 
 type Family = (usize, fn(usize, &mut Rng) -> Case);
 
-/// Some more than thirteen blocks have.
+/// Some more than sixteen blocks have.
 const LENGTHS: usize = BLOCK * MOST_BLOCKS + 81;
 const FILLINGS: usize = 5;
 /// The kinds with ids with counts 1 to 12, and the parameters.
@@ -60,14 +60,14 @@ pub fn case(mut index: usize, rng: &mut Rng) -> Case {
     panic!("the sweeps have {} inputs", size())
 }
 
-/// All blocks of an edition, in either.
+/// All blocks of edition 1, with none, one or both of the kinds of edition 2.
 fn full(rng: &mut Rng) -> Vec<u8> {
-    let abandoned = rng.pick(&[0, 32]);
-    let edition = if abandoned == 0 { 1 } else { 2 };
-    Rows::good_in(rng, edition, [32, 32, 32, abandoned]).to_bytes()
+    let [abandoned, savanna] = rng.pick(&[[0, 0], [32, 0], [0, 32], [32, 32], [32, 32]]);
+    let counts = [32, 32, 32, abandoned, savanna];
+    Rows::good_in(rng, 1 + u16::from(later(&counts)), counts).to_bytes()
 }
 
-/// Every length from 0 to some more than thirteen blocks.
+/// Every length from 0 to some more than sixteen blocks.
 fn lengths(index: usize, rng: &mut Rng) -> Case {
     let length = index / FILLINGS;
     let (how, bytes) = match index % FILLINGS {
@@ -86,7 +86,7 @@ fn lengths(index: usize, rng: &mut Rng) -> Case {
             // As many whole good blocks as fit, one of them parameters.
             let blocks = (length / BLOCK).min(MOST_BLOCKS);
             let rows = blocks.saturating_sub(1) * 12;
-            let counts = [0, 36, 72, 108].map(|before| rows.saturating_sub(before).min(32));
+            let counts = [0, 36, 72, 108, 144].map(|before| rows.saturating_sub(before).min(32));
             let mut bytes = Rows::good_in_either(rng, counts).to_bytes();
             let kept = bytes.len().min(length);
             bytes.resize(length, 0);
@@ -187,7 +187,10 @@ fn few_counts(rng: &mut Rng) -> RowCounts {
 fn counts(index: usize, rng: &mut Rng) -> Case {
     let (turn, alone) = (index / 2, index.is_multiple_of(2));
     let (count, place) = (turn / WITH_IDS.len(), turn % WITH_IDS.len());
-    let mut counts = if alone { [0; 4] } else { any_counts(rng) };
+    let mut counts = RowCounts::default();
+    if !alone {
+        counts = any_counts(rng);
+    }
     counts[place] = count;
     let bytes = Rows::good_in_either(rng, counts).to_bytes();
     Case {

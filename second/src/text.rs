@@ -3,8 +3,10 @@
 
 use crate::judge::Refusal;
 
-/// Twenty lines of at most 11 + 21 + 1 bytes come to 660.
-const MOST: usize = 660;
+/// What is always enough for C: 50 bytes for each of 25 lines.
+pub const LINES_ROOM: usize = 1_250;
+/// 25 lines of at most 15 + 24 + 1 bytes come to 1,000.
+const MOST: usize = 1_000;
 
 pub struct Text {
     bytes: [u8; MOST],

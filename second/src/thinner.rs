@@ -171,7 +171,7 @@ mod tests {
         let mut thinner = Thinner::default();
         for index in 0..10_000 {
             let lists = rowlists::case(&mut Rng::for_input(122, index));
-            if lists.write(&mut [0; 6_656], &mut [0]) == 0 {
+            if lists.write(&mut [0; 8_192], &mut [0]) == 0 {
                 thinner.note(lists.thinner());
             }
         }

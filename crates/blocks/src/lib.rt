@@ -158,6 +158,7 @@ fn stray_at(bytes: &[u8], kind: u32, at: usize) -> bool
         3 => stray_fields(bytes, 3, at),
         4 => stray_fields(bytes, 4, at),
         5 => stray_fields(bytes, 5, at),
+        6 => stray_fields(bytes, 6, at),
         _ => stray_fields(bytes, 0, at),
     }
 }

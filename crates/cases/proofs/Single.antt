@@ -22,7 +22,7 @@ use Rattle.filing.specs.Lists.{filedList, behind, filedFrom}
 use Rattle.filing.specs.Written.{recordFrom, inTurn, headOf, sealed, recordOn, usedFrom, bodyOf, blockOf, bytesOf}
 use Rattle.totals.specs.Columns.{sumOf, onsitePart}
 use Rattle.worksheets.specs.Answers.{Outcome, worked, refusal, outcomeOf}
-use Rattle.listed.specs.Listed.{listed51, listed52, listed53, listed54, listedPeriods, listed, figureCount}
+use Rattle.listed.specs.Listed.{listed51, listed52, listed53, listed54, listedPeriods, listed43, listed, figureCount}
 use Rattle.listed.proofs.Laws.{figureAt}
 use Rattle.cases.specs.Cases.{Complete, Case, refused, largest, table, all-answered}
 
@@ -33,7 +33,7 @@ nth i = getD table i (refused [] 0 0)
 abbrev sheetsAt : ℕ → List Complete → Outcome
 sheetsAt i l = getD l i (record { sheets = refusal 0 0; doubles = [] }) .sheets
 
--- where the worked day with a row of grass and a row of abandoned land stands
+-- where the worked day with a row each of grass, abandoned land and savanna stands
 abbrev pub landCase : ℕ
 landCase = 12
 
@@ -54,7 +54,7 @@ abbrev agrees : ℕ → Bool
 agrees i = eqb (natAbs (figureIn i (nth landCase .answer .sheets))) (natAbs (figureIn i (nth 1 .answer .sheets)))
 
 none-agrees : first agrees figureCount ≡ Nowhere
-unfolding first listed51 listed52 listed53 listed54 listedPeriods listed
+unfolding first listed51 listed52 listed53 listed54 listedPeriods listed43 listed
 none-agrees = refl
 
 pub each-differs : (i : ℕ) → i < figureCount → figureIn i (nth landCase .answer .sheets) ≡ figureIn i (nth 1 .answer .sheets) → ⊥

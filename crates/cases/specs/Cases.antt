@@ -1,4 +1,4 @@
--- "Proved as a single table, under one claim about all of it": 01's cases (a) to (j), three of edition 2, four of halves and one of a row thinner in both periods, each a whole return with its complete answer, every figure of it.
+-- "Proved as a single table, under one claim about all of it": 01's cases (a) to (j), three of edition 2, four of halves, one of a row thinner in both periods and one of the largest savannas, each a whole return with its complete answer, every figure of it.
 -- Where the case is about rows, the return is made of them by the definition of writing; where it is about bytes, the bytes stand here.
 use Prim.Native.Nat.{ℕ, zero, suc}
 use mathlib.Core.Path.{_≡_, refl, sym, ap₂, _∙_}
@@ -18,6 +18,8 @@ use Rattle.rows.specs.Writing.{written}
 use Rattle.wide.specs.Rounding.{evenOf, settled}
 use Rattle.totals.specs.Abandoned.{abandonedPart}
 use Rattle.totals.specs.Columns.{sumOf, stockPart, harvestPart, clearedPart, onsitePart, offsitePart, decayPart, thinnerPart}
+use Rattle.savannas.specs.Savannas.{carbonShare, carbonPart, ch4Part, coPart, n2oPart, noxPart}
+use Rattle.savannas.specs.Sheet.{Sheet43, savannasOf}
 use Rattle.worksheets.specs.Sheets.{standard, parameterNumbers, Sheet51, Sheet52, Sheet53, Sheet54, stocksOf, conversionOf, gasesOf, abandonedOf}
 use Rattle.worksheets.specs.Answers.{Outcome, worked, refusal, outcomeOf}
 use Rattle.doubles.specs.Subtotals.{onsiteDouble, offsiteDouble, decayDouble, addRows, answerOf}
@@ -42,8 +44,16 @@ pub record Case : Type 0 where
   pub bytes : List ℕ
   pub answer : Complete
 
+abbrev pub worked-all : List ℕ → Sheet51 → Sheet52 → Sheet53 → Sheet54 → Sheet43 → List ℕ → Case
+worked-all s a b c l v d = record { bytes = s; answer = record { sheets = worked (record { stocks = a; conversion = b; gases = c; abandoned = l; savannas = v }); doubles = d } }
+
+-- savannas, in the order of their lines
+abbrev pub sheet43 : ℕ → ℕ → ℕ → ℕ → ℕ → Sheet43
+sheet43 b h c n x = record { carbon = b; ch4 = h; co = c; n2o = n; nox = x }
+
+-- with none
 abbrev pub worked-out : List ℕ → Sheet51 → Sheet52 → Sheet53 → Sheet54 → List ℕ → Case
-worked-out s a b c l d = record { bytes = s; answer = record { sheets = worked (record { stocks = a; conversion = b; gases = c; abandoned = l }); doubles = d } }
+worked-out s a b c l d = worked-all s a b c l (sheet43 0 0 0 0 0) d
 
 abbrev pub refused : List ℕ → ℕ → ℕ → Case
 refused s n p = record { bytes = s; answer = record { sheets = refusal n p; doubles = [] } }
@@ -104,10 +114,10 @@ largest i (suc n) = row i 1000000 10000 0 1000 ++ largest (suc i) n
 
 -- a return of conversion rows alone, and of stock and harvest rows alone, with the default parameters
 abbrev converted : List ℕ → List ℕ
-converted c = written 1 (c ∷ [] ∷ [] ∷ defaults ∷ [] ∷ [])
+converted c = written 1 (c ∷ [] ∷ [] ∷ defaults ∷ [] ∷ [] ∷ [])
 
 abbrev grown : List ℕ → List ℕ → List ℕ
-grown s h = written 1 ([] ∷ s ∷ h ∷ defaults ∷ [] ∷ [])
+grown s h = written 1 ([] ∷ s ∷ h ∷ defaults ∷ [] ∷ [] ∷ [])
 
 -- 10 kha growing 6.8 t/ha a year, half of it carbon; and 20 kha, abandoned longer, growing 3 t/ha, 0.45 of it carbon
 abbrev land : List ℕ
@@ -117,9 +127,20 @@ land = 1 ∷ 1000 ∷ 680 ∷ 500 ∷ 2000 ∷ 300 ∷ 450 ∷ []
 abbrev grass : List ℕ
 grass = 8 ∷ 50 ∷ 49 ∷ 100 ∷ 100 ∷ 900 ∷ 450 ∷ 100 ∷ 900 ∷ 450 ∷ 0 ∷ 0 ∷ 0 ∷ 0 ∷ 0 ∷ []
 
--- the worked day's rows with a row of grass behind its conversion row and a row of abandoned land behind all, in an edition
+-- 5 kha of savanna with 7 t/ha, 0.85 of it really burned: 0.45 of that live, with 0.8 oxidised and 0.45 carbon, and the rest dead, with all of it oxidised and 0.4 carbon; and the row's own ratios
+abbrev burning : List ℕ
+burning = 1 ∷ 500 ∷ 70 ∷ 850 ∷ 450 ∷ 800 ∷ 450 ∷ 1000 ∷ 400 ∷ 6 ∷ 4 ∷ 60 ∷ 7 ∷ 121 ∷ []
+
+-- n of the largest savanna rows, with the ids i, i + 1 and so on
+unfoldable pub largestFires : ℕ → ℕ → List ℕ
+largestFires i zero = []
+largestFires i (suc n) =
+    i ∷ 1000000 ∷ 10000 ∷ 1000 ∷ 500 ∷ 1000 ∷ 1000 ∷ 1000 ∷ 1000 ∷ 1000 ∷ 1000 ∷ 1000 ∷ 1000 ∷ 1000
+    ∷ largestFires (suc i) n
+
+-- the worked day's rows with a row of grass behind its conversion row, and a row of abandoned land and one of savanna behind all, in an edition
 abbrev with-land : ℕ → List ℕ
-with-land edition = written edition (cut (30 ∷ 5 ∷ 5 ∷ 6 ∷ 7 ∷ []) (take 15 dayArea ++ (grass ++ (drop 15 dayArea ++ land))))
+with-land edition = written edition (cut (30 ∷ 5 ∷ 5 ∷ 6 ∷ 7 ∷ 14 ∷ []) (take 15 dayArea ++ (grass ++ (drop 15 dayArea ++ (land ++ burning)))))
 
 -- thinner before than after in both periods, on areas that would count
 abbrev twice-thinner : List ℕ
@@ -127,7 +148,7 @@ twice-thinner = 1 ∷ 7 ∷ 49 ∷ 100 ∷ 500 ∷ 900 ∷ 450 ∷ 300 ∷ 900 �
 
 -- an area burned whole, at a difference of 1 and a fraction of 250, and land that was given up, at a growth of 10 and a carbon fraction of 100
 abbrev burned : ℕ → ℕ → List ℕ
-burned area young = written 2 (row 1 area 1 0 250 ∷ [] ∷ [] ∷ defaults ∷ (1 ∷ young ∷ 10 ∷ 100 ∷ 0 ∷ 0 ∷ 0 ∷ []) ∷ [])
+burned area young = written 2 (row 1 area 1 0 250 ∷ [] ∷ [] ∷ defaults ∷ (1 ∷ young ∷ 10 ∷ 100 ∷ 0 ∷ 0 ∷ 0 ∷ []) ∷ [] ∷ [])
 
 abbrev table01 : List Case
 table01 =
@@ -167,17 +188,19 @@ table01 =
 -- and of edition 2
 abbrev table-1 : List Case
 table-1 =
-    -- the day in edition 2 with a row of grass, which is thinner in its one period, and a row of abandoned land: (a)'s figures, and 34 + 27 kt C, by 11/3
-    worked-out (with-land 2)
+    -- the day in edition 2 with a row of grass, which is thinner in its one period, one of abandoned land, 34 + 27 kt C by 11/3, and one of savanna: (a)'s figures, and
+    -- 29,750,000 x (162,000,000 + 220,000,000), which is 60.6, 1,591.03, 0.75 and 27.1 t
+    worked-all (with-land 2)
     (sheet51 340000000 775000 36000000 (pos 41500000) (pos 20750000000) (pos 13250000000) (pos 48583) (negsuc 48582))
     (sheet52 32400000000000 16200000000000 48600000000000 40500000000000 326700 1)
     (sheet53 518 4536 4 129)
     (sheet54 610000000 223667)
+    (sheet43 11364500000000000 61 1591 1 27)
     (4809131602776948736 ∷ 4804628003149578240 ∷ 4810524802404319232 ∷ [])
     -- the same rows in edition 1: "3 for .. a kind above 4 in edition 1", at the block of abandoned land
     ∷ refused (with-land 1) 3 4
     -- edition 2 that ends with a harvest row: "4 .. a last block below kind 4"
-    ∷ refused (written 2 ([] ∷ [] ∷ (1 ∷ 30 ∷ 1 ∷ 0 ∷ 0 ∷ []) ∷ [] ∷ [] ∷ [])) 4 0
+    ∷ refused (written 2 ([] ∷ [] ∷ (1 ∷ 30 ∷ 1 ∷ 0 ∷ 0 ∷ []) ∷ [] ∷ [] ∷ [] ∷ [])) 4 0
     ∷ []
 
 -- and of halves, which go to the even neighbour
@@ -196,8 +219,16 @@ table-2 =
 abbrev table-3 : List Case
 table-3 = worked-out (converted twice-thinner) none51 (thin52 2) none53 none54 zeros ∷ []
 
+-- 32 of the largest savanna rows: 10^22 each, beyond one word
+abbrev table-5 : List Case
+table-5 =
+    worked-all (written 2 ([] ∷ [] ∷ [] ∷ defaults ∷ [] ∷ largestFires 1 32 ∷ [])) none51 none52 none53 none54
+    (sheet43 320000000000000000000000 426666666667 746666666667 502857142857 1051428571429)
+    zeros
+    ∷ []
+
 abbrev pub table : List Case
-table = table01 ++ (table-1 ++ (table-2 ++ table-3))
+table = table01 ++ (table-1 ++ (table-2 ++ (table-3 ++ table-5)))
 
 -- what is to be answered, and what is written beside it
 abbrev dueOf : Case → Complete
@@ -207,20 +238,24 @@ abbrev said : Case → Complete
 said c = c .answer
 
 answered01 : map dueOf table01 ≡ map said table01
-unfolding toBits ofInt mul add onsiteDouble offsiteDouble decayDouble addRows largest computed cut filedList behind filedFrom littleEndian recordFrom inTurn headOf sealed weighed recordOn usedFrom bodyOf blockOf bytesOf rowsBelow rowFrom number evenOf settled sumOf stockPart harvestPart clearedPart onsitePart offsitePart decayPart countedDifference thinnerPart stocksOf conversionOf gasesOf abandonedOf abandonedPart
+unfolding toBits ofInt mul add onsiteDouble offsiteDouble decayDouble addRows largest largestFires computed cut filedList behind filedFrom littleEndian recordFrom inTurn headOf sealed weighed recordOn usedFrom bodyOf blockOf bytesOf rowsBelow rowFrom number evenOf settled sumOf stockPart harvestPart clearedPart onsitePart offsitePart decayPart countedDifference thinnerPart stocksOf conversionOf gasesOf abandonedOf abandonedPart savannasOf carbonShare carbonPart ch4Part coPart n2oPart noxPart
 answered01 = refl
 
 answered-1 : map dueOf table-1 ≡ map said table-1
-unfolding toBits ofInt mul add onsiteDouble offsiteDouble decayDouble addRows largest computed cut filedList behind filedFrom littleEndian recordFrom inTurn headOf sealed weighed recordOn usedFrom bodyOf blockOf bytesOf rowsBelow rowFrom number evenOf settled sumOf stockPart harvestPart clearedPart onsitePart offsitePart decayPart countedDifference thinnerPart stocksOf conversionOf gasesOf abandonedOf abandonedPart
+unfolding toBits ofInt mul add onsiteDouble offsiteDouble decayDouble addRows largest largestFires computed cut filedList behind filedFrom littleEndian recordFrom inTurn headOf sealed weighed recordOn usedFrom bodyOf blockOf bytesOf rowsBelow rowFrom number evenOf settled sumOf stockPart harvestPart clearedPart onsitePart offsitePart decayPart countedDifference thinnerPart stocksOf conversionOf gasesOf abandonedOf abandonedPart savannasOf carbonShare carbonPart ch4Part coPart n2oPart noxPart
 answered-1 = refl
 
 answered-2 : map dueOf table-2 ≡ map said table-2
-unfolding toBits ofInt mul add onsiteDouble offsiteDouble decayDouble addRows largest computed cut filedList behind filedFrom littleEndian recordFrom inTurn headOf sealed weighed recordOn usedFrom bodyOf blockOf bytesOf rowsBelow rowFrom number evenOf settled sumOf stockPart harvestPart clearedPart onsitePart offsitePart decayPart countedDifference thinnerPart stocksOf conversionOf gasesOf abandonedOf abandonedPart
+unfolding toBits ofInt mul add onsiteDouble offsiteDouble decayDouble addRows largest largestFires computed cut filedList behind filedFrom littleEndian recordFrom inTurn headOf sealed weighed recordOn usedFrom bodyOf blockOf bytesOf rowsBelow rowFrom number evenOf settled sumOf stockPart harvestPart clearedPart onsitePart offsitePart decayPart countedDifference thinnerPart stocksOf conversionOf gasesOf abandonedOf abandonedPart savannasOf carbonShare carbonPart ch4Part coPart n2oPart noxPart
 answered-2 = refl
 
 answered-3 : map dueOf table-3 ≡ map said table-3
-unfolding toBits ofInt mul add onsiteDouble offsiteDouble decayDouble addRows largest computed cut filedList behind filedFrom littleEndian recordFrom inTurn headOf sealed weighed recordOn usedFrom bodyOf blockOf bytesOf rowsBelow rowFrom number evenOf settled sumOf stockPart harvestPart clearedPart onsitePart offsitePart decayPart countedDifference thinnerPart stocksOf conversionOf gasesOf abandonedOf abandonedPart
+unfolding toBits ofInt mul add onsiteDouble offsiteDouble decayDouble addRows largest largestFires computed cut filedList behind filedFrom littleEndian recordFrom inTurn headOf sealed weighed recordOn usedFrom bodyOf blockOf bytesOf rowsBelow rowFrom number evenOf settled sumOf stockPart harvestPart clearedPart onsitePart offsitePart decayPart countedDifference thinnerPart stocksOf conversionOf gasesOf abandonedOf abandonedPart savannasOf carbonShare carbonPart ch4Part coPart n2oPart noxPart
 answered-3 = refl
+
+answered-5 : map dueOf table-5 ≡ map said table-5
+unfolding toBits ofInt mul add onsiteDouble offsiteDouble decayDouble addRows largest largestFires computed cut filedList behind filedFrom littleEndian recordFrom inTurn headOf sealed weighed recordOn usedFrom bodyOf blockOf bytesOf rowsBelow rowFrom number evenOf settled sumOf stockPart harvestPart clearedPart onsitePart offsitePart decayPart countedDifference thinnerPart stocksOf conversionOf gasesOf abandonedOf abandonedPart savannasOf carbonShare carbonPart ch4Part coPart n2oPart noxPart
+answered-5 = refl
 
 both : (xs ys : List Case) → map dueOf xs ≡ map said xs → map dueOf ys ≡ map said ys → map dueOf (xs ++ ys) ≡ map said (xs ++ ys)
 both xs ys p q = map-append dueOf xs ys ∙ ap₂ (λ (a b : List Complete). a ++ b) p q ∙ sym (map-append said xs ys)
@@ -228,6 +263,7 @@ both xs ys p q = map-append dueOf xs ys ∙ ap₂ (λ (a b : List Complete). a +
 -- every return of the table has the answer beside it, as the checker computes them
 pub all-answered : map (λ (c : Case). completeOf (c .bytes)) table ≡ map (λ (c : Case). c .answer) table
 all-answered =
-    both table01 (table-1 ++ (table-2 ++ table-3)) answered01
-    (both table-1 (table-2 ++ table-3) answered-1
-    (both table-2 table-3 answered-2 answered-3))
+    both table01 (table-1 ++ (table-2 ++ (table-3 ++ table-5))) answered01
+    (both table-1 (table-2 ++ (table-3 ++ table-5)) answered-1
+    (both table-2 (table-3 ++ table-5) answered-2
+    (both table-3 table-5 answered-3 answered-5)))

@@ -49,11 +49,11 @@ unfolding answered
 short-bytes = refl
 
 -- read to a room of one number more than the rows need, and to rooms that end inside a kind's rows
-pub day-read : readAnswer day (replicate 32 9) ≡ Accepted (record { edition = 1; conversion = 1; stock = 1; harvest = 1; parameters = 1; abandoned = 0 })
+pub day-read : readAnswer day (replicate 32 9) ≡ Accepted (record { edition = 1; conversion = 1; stock = 1; harvest = 1; parameters = 1; abandoned = 0; savanna = 0 })
 unfolding computed readAnswer rowsBelow inTurn flatten
 day-read = refl
 
-pub day-rows : roomAfter day (replicate 32 9) (Accepted (record { edition = 1; conversion = 1; stock = 1; harvest = 1; parameters = 1; abandoned = 0 })) ≡ dayArea ++ (9 ∷ [])
+pub day-rows : roomAfter day (replicate 32 9) (Accepted (record { edition = 1; conversion = 1; stock = 1; harvest = 1; parameters = 1; abandoned = 0; savanna = 0 })) ≡ dayArea ++ (9 ∷ [])
 unfolding kinds rowsBelow rowFrom number flatten inTurn
 day-rows = refl
 

@@ -66,6 +66,7 @@ pub fn decode_kind(
         3 => decode_rows(bytes, 3, place, n, room, start),
         4 => decode_rows(bytes, 4, place, n, room, start),
         5 => decode_rows(bytes, 5, place, n, room, start),
+        6 => decode_rows(bytes, 6, place, n, room, start),
         _ => decode_rows(bytes, kind, place, n, room, start),
     }
 }
@@ -148,6 +149,7 @@ fn write_record(kind: usize, rows: &[u32], from: usize, out: &mut [u8], to: usiz
         3 => write_fields(3, rows, from, out, to),
         4 => write_fields(4, rows, from, out, to),
         5 => write_fields(5, rows, from, out, to),
+        6 => write_fields(6, rows, from, out, to),
         _ => write_fields(kind, rows, from, out, to),
     }
 }

@@ -15,7 +15,7 @@ use Rattle.form.proofs.Tests.{and-true}
 
 -- kept by a loop over the kinds, so that its steps know it
 abbrev pub KindsAre : Type 0
-KindsAre = kinds ≡ 5
+KindsAre = kinds ≡ 6
 
 pub kinds-are : KindsAre
 unfolding kinds

@@ -93,4 +93,5 @@ module _ (s : List ℕ) (one : edition s 0 ≡ 1) where
   unfolding kinds startBlock lastKind
   ten-blocks c acc =
       let none : rowCount 5 s ≡ 0 = no-rows s c acc 5 (rw one (lit≤ tt)) in
+      let no-savanna : rowCount 6 s ≡ 0 = no-rows s c acc 6 (rw one (lit≤ tt)) in
       omega (arith, whole-blocks s c acc, start-all s (in-order s c acc), few-rows s c acc 1, few-rows s c acc 2, few-rows s c acc 3, one-row s c acc)

@@ -57,7 +57,18 @@ parameters = field 4 2 1000 ∷ fraction ∷ fraction ∷ fraction ∷ fraction 
 abbrev pub abandoned : Layout
 abandoned = id ∷ field 0 4 10000000 ∷ field 0 2 10000 ∷ fraction ∷ field 0 4 10000000 ∷ field 0 2 10000 ∷ fraction ∷ []
 
--- "1 conversion, 2 stock, 3 harvest, 4 parameters", 5 abandoned land: the kinds in order, from 1 on. A new kind is a new line.
+-- §5: "area, density, fraction really burned, live fraction, oxidised and carbon fraction of the live part, the same two of the dead, the row's own N/C, CH4, CO,
+-- N2O and NOx"; "fields limited as 01's like fields"
+abbrev pub savanna : Layout
+savanna =
+    id ∷ area ∷ density
+    ∷ fraction ∷ fraction
+    ∷ fraction ∷ fraction
+    ∷ fraction ∷ fraction
+    ∷ fraction ∷ fraction ∷ fraction ∷ fraction ∷ fraction
+    ∷ []
+
+-- "1 conversion, 2 stock, 3 harvest, 4 parameters", 5 abandoned land, 6 savanna: the kinds in order, from 1 on. A new kind is a new line.
 abbrev pub layouts : List Layout
 layouts =
     conversion
@@ -65,6 +76,7 @@ layouts =
     ∷ harvest
     ∷ parameters
     ∷ abandoned
+    ∷ savanna
     ∷ []
 
 -- how many kinds there are
@@ -83,7 +95,7 @@ layout kind = getD ([] ∷ layouts) kind []
 abbrev pub fieldAt : Layout → ℕ → Field
 fieldAt l i = getD l i (field 0 0 0)
 
--- "15, 5, 5 and 6 numbers of 32 bits", and 7 of abandoned land
+-- "15, 5, 5 and 6 numbers of 32 bits", 7 of abandoned land and 14 of savanna
 abbrev pub numbersOf : ℕ → ℕ
 numbersOf kind = length (layout kind)
 

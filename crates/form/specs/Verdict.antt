@@ -42,6 +42,7 @@ countsOf s = record {
   harvest = rowCount 3 s;
   parameters = rowCount 4 s;
   abandoned = rowCount 5 s;
+  savanna = rowCount 6 s;
 }
 
 -- the counts as a list by kind, from 1 on. A new kind is a new line.
@@ -52,6 +53,7 @@ countList c =
     ∷ c .harvest
     ∷ c .parameters
     ∷ c .abandoned
+    ∷ c .savanna
     ∷ []
 
 -- the count of a kind; another number is no kind and has no rows

@@ -2,7 +2,7 @@
 ghost use mathlib.Core.Path.{_≡_};
 ghost use Prim.Native.Nat.{_≤_, _<_};
 ghost use lib.ListN.{length};
-ghost use Rattle.form.specs.Layout.{conversion, stock, harvest, parameters, abandoned, layout, fieldAt, numbersOf};
+ghost use Rattle.form.specs.Layout.{conversion, stock, harvest, parameters, abandoned, savanna, layout, fieldAt, numbersOf};
 use crate::Field;
 
 const ID: Field = Field {
@@ -143,6 +143,19 @@ fn abandoned(i: usize) -> Field
     }
 }
 
+fn savanna(i: usize) -> Field
+    requires { ⌜ i < length savanna ⌝ }
+    ensures { λ r. ⌜ r ≡ fieldAt savanna i ⌝ }
+{
+    if i == 0 {
+        return ID;
+    }
+    if i == 1 {
+        return AREA;
+    }
+    if i == 2 { DENSITY } else { FRACTION }
+}
+
 // A new kind is a new line.
 pub fn field(kind: usize, i: usize) -> Field
     requires { ⌜ i < numbersOf kind ⌝ }
@@ -154,6 +167,7 @@ pub fn field(kind: usize, i: usize) -> Field
         3 => harvest(i),
         4 => parameters(i),
         5 => abandoned(i),
+        6 => savanna(i),
         _ => NONE,
     }
 }
@@ -168,6 +182,7 @@ pub fn numbers(kind: usize) -> usize
         3 => 5,
         4 => 6,
         5 => 7,
+        6 => 14,
         _ => 0,
     }
 }

@@ -15,7 +15,7 @@ ghost use Rattle.form.specs.Standing.{blocksFor, firstBlock};
 ghost use Rattle.form.specs.Steps.{Few};
 
 // How many kinds there are, the most blocks of a return, and its most bytes. Every bound follows from the first.
-pub const KINDS: usize = 5;
+pub const KINDS: usize = 6;
 
 // The parameters' kind, of which there is always one row, with no id.
 pub const PARAMETERS: usize = 4;
@@ -51,6 +51,7 @@ pub struct Counts {
     pub harvest: u32,
     pub parameters: u32,
     pub abandoned: u32,
+    pub savanna: u32,
 }
 
 pub enum Verdict {
@@ -149,6 +150,7 @@ pub fn count_of(c: Counts, kind: usize) -> u32
         3 => c.harvest,
         4 => c.parameters,
         5 => c.abandoned,
+        6 => c.savanna,
         _ => 0,
     }
 }
@@ -181,7 +183,7 @@ pub fn last_kind(edition: u32) -> u32
 {
     match edition {
         1 => 4,
-        2 => 5,
+        2 => 6,
         _ => 0,
     }
 }

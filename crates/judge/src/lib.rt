@@ -97,6 +97,7 @@ fn count_rows(bytes: &[u8]) -> Counts
         harvest: rows_of(bytes, 3),
         parameters: rows_of(bytes, 4),
         abandoned: rows_of(bytes, 5),
+        savanna: rows_of(bytes, 6),
     }
 }
 

@@ -14,11 +14,11 @@ use Rattle.wide.specs.declared.Wide.{Wide}
 use Rattle.wide.specs.declared.signed.Signed.{Signed}
 use Rattle.worksheets.specs.Sheets.{Sheets}
 use Rattle.worksheets.specs.declared.sheets.Figures.{Figures}
-use Rattle.listed.specs.Listed.{Figure, figure, listed51, listed52, listed53, listed54, listedPeriods, listed, figureCount, valuesOf}
+use Rattle.listed.specs.Listed.{Figure, figure, listed51, listed52, listed53, listed54, listedPeriods, listed43, listed, figureCount, valuesOf}
 
 -- every return has as many figures
 pub counted : (v : Sheets) → length (listed v) ≡ figureCount
-unfolding listed listed51 listed52 listed53 listed54 listedPeriods
+unfolding listed listed51 listed52 listed53 listed54 listedPeriods listed43
 counted v = refl
 
 abbrev pub figureAt : List Figure → ℕ → Figure
@@ -43,11 +43,13 @@ listOf f =
     let c = f .conversion in
     let g = f .gases in
     let a = f .abandoned in
+    let v = f .savannas in
     plain (s .e .0) ∷ plain (s .k .0) ∷ plain (s .l .0) ∷ s .m .0 ∷ s .o .0 ∷ s .p .0 ∷ s .q .0 ∷ s .report .0
     ∷ plain (c .onsite .0) ∷ plain (c .offsite .0) ∷ plain (c .r .0) ∷ plain (c .decay .0) ∷ plain (c .co2 .0)
     ∷ plain (g .ch4 .0) ∷ plain (g .co .0) ∷ plain (g .n2o .0) ∷ plain (g .nox .0)
     ∷ plain (a .uptake .0) ∷ plain (a .co2 .0)
-    ∷ plain (c .thinner .0) ∷ []
+    ∷ plain (c .thinner .0)
+    ∷ plain (v .carbon .0) ∷ plain (v .ch4 .0) ∷ plain (v .co .0) ∷ plain (v .n2o .0) ∷ plain (v .nox .0) ∷ []
 
 -- what is made of each figure in turn, with one figure more
 module _ (g : Figure → List ℕ) where

@@ -5,6 +5,7 @@ use mathlib.Core.List.{List, [], _∷_, _++_}
 use lib.IntN.{ℤ, pos}
 use Rattle.wide.specs.Signs.{signedOf}
 use Rattle.wide.specs.declared.signed.Signed.{Signed}
+use Rattle.savannas.specs.Sheet.{Sheet43}
 use Rattle.worksheets.specs.Sheets.{Sheet51, Sheet52, Sheet53, Sheet54, Sheets}
 
 -- a name in ASCII and a value
@@ -58,12 +59,22 @@ listed54 f =
 unfoldable pub listedPeriods : Sheet52 → List Figure
 listedPeriods f = figure (116 ∷ 104 ∷ 105 ∷ 110 ∷ 110 ∷ 101 ∷ 114 ∷ []) (pos (f .thinner)) ∷ []
 
+-- §5: "savanna_carbon" "savanna_ch4" "savanna_co" "savanna_n2o" "savanna_nox"
+unfoldable pub listed43 : Sheet43 → List Figure
+listed43 f =
+    figure (115 ∷ 97 ∷ 118 ∷ 97 ∷ 110 ∷ 110 ∷ 97 ∷ 95 ∷ 99 ∷ 97 ∷ 114 ∷ 98 ∷ 111 ∷ 110 ∷ []) (pos (f .carbon))
+    ∷ figure (115 ∷ 97 ∷ 118 ∷ 97 ∷ 110 ∷ 110 ∷ 97 ∷ 95 ∷ 99 ∷ 104 ∷ 52 ∷ []) (pos (f .ch4))
+    ∷ figure (115 ∷ 97 ∷ 118 ∷ 97 ∷ 110 ∷ 110 ∷ 97 ∷ 95 ∷ 99 ∷ 111 ∷ []) (pos (f .co))
+    ∷ figure (115 ∷ 97 ∷ 118 ∷ 97 ∷ 110 ∷ 110 ∷ 97 ∷ 95 ∷ 110 ∷ 50 ∷ 111 ∷ []) (pos (f .n2o))
+    ∷ figure (115 ∷ 97 ∷ 118 ∷ 97 ∷ 110 ∷ 110 ∷ 97 ∷ 95 ∷ 110 ∷ 111 ∷ 120 ∷ []) (pos (f .nox))
+    ∷ []
+
 unfoldable pub listed : Sheets → List Figure
-listed v = listed51 (v .stocks) ++ listed52 (v .conversion) ++ listed53 (v .gases) ++ listed54 (v .abandoned) ++ listedPeriods (v .conversion)
+listed v = listed51 (v .stocks) ++ listed52 (v .conversion) ++ listed53 (v .gases) ++ listed54 (v .abandoned) ++ listedPeriods (v .conversion) ++ listed43 (v .savannas)
 
 -- how many there are: the same of every return (`counted`)
 abbrev pub figureCount : ℕ
-figureCount = 20
+figureCount = 25
 
 -- the values of a list of figures, each in its one form
 abbrev pub valuesOf : List Figure → List Signed

@@ -6,7 +6,7 @@ use wide::signed::Signed;
 use worksheets::sheets::Figures;
 
 // How many figures there are.
-pub const FIGURES: usize = 20;
+pub const FIGURES: usize = 25;
 
 // Each figure's value with its sign, in the list's order. Struct literals and no calls: so its proof is one law.
 pub fn list(f: Figures) -> [Signed; FIGURES]
@@ -48,6 +48,16 @@ pub fn list(f: Figures) -> [Signed; FIGURES]
     let uptake_co2 = Signed { below: false, size };
     let size = f.conversion.thinner.0;
     let thinner = Signed { below: false, size };
+    let size = f.savannas.carbon.0;
+    let savanna_carbon = Signed { below: false, size };
+    let size = f.savannas.ch4.0;
+    let savanna_ch4 = Signed { below: false, size };
+    let size = f.savannas.co.0;
+    let savanna_co = Signed { below: false, size };
+    let size = f.savannas.n2o.0;
+    let savanna_n2o = Signed { below: false, size };
+    let size = f.savannas.nox.0;
+    let savanna_nox = Signed { below: false, size };
     [
         e,
         k,
@@ -69,5 +79,10 @@ pub fn list(f: Figures) -> [Signed; FIGURES]
         uptake,
         uptake_co2,
         thinner,
+        savanna_carbon,
+        savanna_ch4,
+        savanna_co,
+        savanna_n2o,
+        savanna_nox,
     ]
 }

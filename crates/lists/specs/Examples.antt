@@ -31,7 +31,7 @@ abbrev pub dayArea : List ℕ
 dayArea = conversionDay ++ (stockDay ++ (harvestDay ++ parametersDay))
 
 abbrev pub dayLengths : List ℕ
-dayLengths = 15 ∷ 5 ∷ 5 ∷ 6 ∷ 0 ∷ []
+dayLengths = 15 ∷ 5 ∷ 5 ∷ 6 ∷ 0 ∷ 0 ∷ []
 
 -- the ruling, opened for computing
 unfoldable computed : List ℕ → List ℕ → Ruling
@@ -43,7 +43,7 @@ unfolding computed
 day-clean = refl
 
 -- a length short by one: a number would be dropped
-short : ruling (listRules 1 (15 ∷ 5 ∷ 4 ∷ 6 ∷ 0 ∷ []) dayArea) ≡ Broken 10 0
+short : ruling (listRules 1 (15 ∷ 5 ∷ 4 ∷ 6 ∷ 0 ∷ 0 ∷ []) dayArea) ≡ Broken 10 0
 unfolding computed
 short = refl
 
@@ -53,22 +53,22 @@ unfolding computed
 three = refl
 
 -- 33 harvest rows
-many : ruling (listRules 1 (0 ∷ 0 ∷ 165 ∷ 6 ∷ 0 ∷ []) (replicate 165 0 ++ parametersDay)) ≡ Broken 10 3
+many : ruling (listRules 1 (0 ∷ 0 ∷ 165 ∷ 6 ∷ 0 ∷ 0 ∷ []) (replicate 165 0 ++ parametersDay)) ≡ Broken 10 3
 unfolding computed
 many = refl
 
 -- no parameter row
-bare : ruling (listRules 1 (0 ∷ 0 ∷ 0 ∷ 0 ∷ 0 ∷ []) []) ≡ Broken 10 4
+bare : ruling (listRules 1 (0 ∷ 0 ∷ 0 ∷ 0 ∷ 0 ∷ 0 ∷ []) []) ≡ Broken 10 4
 unfolding computed
 bare = refl
 
 -- a second stock row with the id of the first, behind a block of one conversion row
-repeated : ruling (listRules 1 (15 ∷ 10 ∷ 0 ∷ 6 ∷ 0 ∷ []) (conversionDay ++ (stockDay ++ (stockDay ++ parametersDay)))) ≡ Broken 5 13
+repeated : ruling (listRules 1 (15 ∷ 10 ∷ 0 ∷ 6 ∷ 0 ∷ 0 ∷ []) (conversionDay ++ (stockDay ++ (stockDay ++ parametersDay)))) ≡ Broken 5 13
 unfolding computed
 repeated = refl
 
 -- a unit code of 256, wider than its byte
-wide : ruling (listRules 1 (0 ∷ 5 ∷ 0 ∷ 6 ∷ 0 ∷ []) (1 ∷ 256 ∷ 0 ∷ 0 ∷ 0 ∷ parametersDay)) ≡ Broken 6 0
+wide : ruling (listRules 1 (0 ∷ 5 ∷ 0 ∷ 6 ∷ 0 ∷ 0 ∷ []) (1 ∷ 256 ∷ 0 ∷ 0 ∷ 0 ∷ parametersDay)) ≡ Broken 6 0
 unfolding computed
 wide = refl
 
@@ -76,14 +76,26 @@ wide = refl
 abbrev abandonedDay : List ℕ
 abandonedDay = parametersDay ++ (1 ∷ 1000 ∷ 680 ∷ 500 ∷ 2000 ∷ 300 ∷ 450 ∷ [])
 
-second : ruling (listRules 2 (0 ∷ 0 ∷ 0 ∷ 6 ∷ 7 ∷ []) abandonedDay) ≡ Clean
+second : ruling (listRules 2 (0 ∷ 0 ∷ 0 ∷ 6 ∷ 7 ∷ 0 ∷ []) abandonedDay) ≡ Clean
 unfolding computed
 second = refl
 
-second-only : ruling (listRules 1 (0 ∷ 0 ∷ 0 ∷ 6 ∷ 7 ∷ []) abandonedDay) ≡ Broken 10 5
+second-only : ruling (listRules 1 (0 ∷ 0 ∷ 0 ∷ 6 ∷ 7 ∷ 0 ∷ []) abandonedDay) ≡ Broken 10 5
 unfolding computed
 second-only = refl
 
-no-third : ruling (listRules 3 (0 ∷ 0 ∷ 0 ∷ 6 ∷ 7 ∷ []) abandonedDay) ≡ Broken 10 0
+no-third : ruling (listRules 3 (0 ∷ 0 ∷ 0 ∷ 6 ∷ 7 ∷ 0 ∷ []) abandonedDay) ≡ Broken 10 0
 unfolding computed
 no-third = refl
+
+-- a row of savanna behind the parameters, likewise
+abbrev savannaDay : List ℕ
+savannaDay = parametersDay ++ (1 ∷ 500 ∷ 70 ∷ 850 ∷ 450 ∷ 800 ∷ 450 ∷ 1000 ∷ 400 ∷ 6 ∷ 4 ∷ 60 ∷ 7 ∷ 121 ∷ [])
+
+savanna : ruling (listRules 2 (0 ∷ 0 ∷ 0 ∷ 6 ∷ 0 ∷ 14 ∷ []) savannaDay) ≡ Clean
+unfolding computed
+savanna = refl
+
+savanna-only : ruling (listRules 1 (0 ∷ 0 ∷ 0 ∷ 6 ∷ 0 ∷ 14 ∷ []) savannaDay) ≡ Broken 10 6
+unfolding computed
+savanna-only = refl

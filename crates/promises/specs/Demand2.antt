@@ -23,6 +23,8 @@ use Rattle.wide.proofs.SignLaws.{nearest-turned}
 use Rattle.totals.specs.Columns.{sumOf, rate, stockAmount, stockCarbon, commercial, tonnesPerM3, fuelwood, otherUse, stockPart, harvestPart, clearedPart, onsitePart, offsitePart, decayPart, thinnerPart}
 use Rattle.totals.proofs.Accepted.{columns-small}
 use Rattle.totals.specs.Abandoned.{youngArea, youngRate, youngCarbon, olderArea, olderRate, olderCarbon, abandonedPart}
+use Rattle.savannas.specs.Savannas.{burnedArea, biomass, reallyBurned, live, liveOxidised, liveCarbon, deadOxidised, deadCarbon, nitrogenRatio, ch4Ratio, coRatio, n2oRatio, noxRatio, carbonShare, carbonPart, ch4Part, coPart, n2oPart, noxPart}
+use Rattle.savannas.specs.Sheet.{savannasOf}
 use Rattle.worksheets.specs.Sheets.{Sheets, figuresOf, given, stocksOf, conversionOf, gasesOf, abandonedOf}
 use Rattle.promises.specs.Rounding.{Rounded, rounds}
 
@@ -32,6 +34,10 @@ thinner-counts-0 = thinner-none
 
 pub else-the-difference : (b a : ℕ) → a ≤ b → countedDifference b a ≡ b - a
 else-the-difference = plain
+
+-- "carbon of both" parts of a savanna row, the live and the dead: "The dead fraction is 1,000 less the live one."
+abbrev pub carbonOf : List ℕ → ℕ
+carbonOf r = burnedArea r * biomass r * reallyBurned r * (live r * liveOxidised r * liveCarbon r + (1000 - live r) * deadOxidised r * deadCarbon r)
 
 -- "5-1", as 01 has it, with the differences that count; the parameter row gives N
 pub record Sheet5-1 (s : List ℕ) (v : Sheets) : Type 0 where
@@ -67,6 +73,14 @@ pub record Sheet5-4 (s : List ℕ) (v : Sheets) : Type 0 where
   pub uptake : v .abandoned .uptake ≡ sumOf (λ r. youngArea r * youngRate r * youngCarbon r + olderArea r * olderRate r * olderCarbon r) (rows 5 s)
   pub CO2 : Rounded (pos (11 * v .abandoned .uptake)) 30000 (pos (v .abandoned .co2))
 
+-- 4-3, as the request for it has it: the row's own ratios; "each gas summed exactly over the rows and rounded once"
+pub record Sheet4-3 (s : List ℕ) (v : Sheets) : Type 0 where
+  pub carbon : v .savannas .carbon ≡ sumOf carbonOf (rows 6 s)
+  pub CH4 : Rounded (pos (4 * sumOf (λ r. carbonOf r * ch4Ratio r) (rows 6 s))) (3 * 10 ^ 15) (pos (v .savannas .ch4))
+  pub CO : Rounded (pos (7 * sumOf (λ r. carbonOf r * coRatio r) (rows 6 s))) (3 * 10 ^ 15) (pos (v .savannas .co))
+  pub N2O : Rounded (pos (11 * sumOf (λ r. carbonOf r * nitrogenRatio r * n2oRatio r) (rows 6 s))) (7 * 10 ^ 18) (pos (v .savannas .n2o))
+  pub NOx : Rounded (pos (23 * sumOf (λ r. carbonOf r * nitrogenRatio r * noxRatio r) (rows 6 s))) (7 * 10 ^ 18) (pos (v .savannas .nox))
+
 -- the figures are the columns: of every list of bytes, so of every accepted return
 pub figures-5-1 : (s : List ℕ) → Sheet5-1 s (figuresOf s)
 unfolding stocksOf sumOf stockPart harvestPart clearedPart
@@ -100,6 +114,10 @@ figures-5-3 s = record { CH4 = rounds _ _ (lit< tt); CO = rounds _ _ (lit< tt); 
 pub figures-5-4 : (s : List ℕ) → Sheet5-4 s (figuresOf s)
 unfolding abandonedOf sumOf abandonedPart
 figures-5-4 s = record { uptake = refl; CO2 = rounds _ _ (lit< tt) }
+
+pub figures-4-3 : (s : List ℕ) → Sheet4-3 s (figuresOf s)
+unfolding savannasOf sumOf carbonShare carbonPart ch4Part coPart n2oPart noxPart
+figures-4-3 s = record { carbon = refl; CH4 = rounds _ _ (lit< tt); CO = rounds _ _ (lit< tt); N2O = rounds _ _ (lit< tt); NOx = rounds _ _ (lit< tt) }
 
 -- ---- "Good rows written as a return read back as those rows"
 -- Whatever write answers other than a refusal: the bytes that it left at the front of its room, read to any room that is long enough for the rows, are

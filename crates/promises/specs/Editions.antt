@@ -11,7 +11,7 @@ use Rattle.form.specs.declared.Counts.{Counts}
 use Rattle.form.specs.declared.Verdict.the-variants.{Accepted}
 use Rattle.form.proofs.FirstEdition.{as-before, ten-blocks}
 use Rattle.worksheets.specs.Sheets.{figuresOf}
-use Rattle.steps.proofs.Editions.{edition-told, no-land, no-uptake}
+use Rattle.steps.proofs.Editions.{edition-told, no-land, no-uptake, no-savanna, no-fire}
 
 -- the answer tells the edition, which stands in block 0
 pub tells-edition : (s : List ℕ) (c : Counts) → verdictOf s ≡ Accepted c → c .edition ≡ edition s 0
@@ -29,3 +29,7 @@ first-ten-blocks = ten-blocks
 pub first-no-land : (s : List ℕ) → edition s 0 ≡ 1 → (c : Counts) → verdictOf s ≡ Accepted c
     → (c .abandoned ≡ 0) × (figuresOf s .abandoned .uptake ≡ 0) × (figuresOf s .abandoned .co2 ≡ 0)
 first-no-land s e c acc = let u = no-uptake s c acc e in (no-land s c acc e, u .0, u .1)
+
+-- nor savannas
+pub first-no-savanna : (s : List ℕ) → edition s 0 ≡ 1 → (c : Counts) → verdictOf s ≡ Accepted c → (c .savanna ≡ 0) × (figuresOf s .savannas ≡ record { carbon = 0; ch4 = 0; co = 0; n2o = 0; nox = 0 })
+first-no-savanna s e c acc = (no-savanna s c acc e, no-fire s c acc e)

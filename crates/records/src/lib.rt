@@ -57,6 +57,7 @@ fn above_at(bytes: &[u8], kind: u32, at: usize) -> bool
         3 => above_fields(bytes, 3, at),
         4 => above_fields(bytes, 4, at),
         5 => above_fields(bytes, 5, at),
+        6 => above_fields(bytes, 6, at),
         _ => above_fields(bytes, 0, at),
     }
 }

@@ -14,7 +14,7 @@ use lib.Seq.{sets, drop-cons, drop-drop, drop-length, getD-drop, length-sets}
 use Rattle.decimal.specs.Digits.{WrittenAt}
 use Rattle.decimal.proofs.DigitLaws.{written-more}
 use Rattle.worksheets.specs.Sheets.{Sheets}
-use Rattle.listed.specs.Listed.{Figure, listed51, listed52, listed53, listed54, listedPeriods, listed}
+use Rattle.listed.specs.Listed.{Figure, listed51, listed52, listed53, listed54, listedPeriods, listed43, listed}
 use Rattle.listed.proofs.Laws.{figureAt}
 use Rattle.report.specs.Lines.{ended, lineOf, spaced, namesOf}
 
@@ -58,11 +58,11 @@ filled-lines (f ∷ fs) h =
 
 -- no printed name has a space in it, and there are as many names as figures
 pub clear : (v : Sheets) → spaces (flatMap (λ (f : Figure). f .name) (listed v)) ≡ 0
-unfolding spaces flatMap listed listed51 listed52 listed53 listed54 listedPeriods
+unfolding spaces flatMap listed listed51 listed52 listed53 listed54 listedPeriods listed43
 clear v = refl
 
 pub names-counted : (v : Sheets) → spaces (namesOf v) ≡ length (listed v)
-unfolding spaces flatMap listed listed51 listed52 listed53 listed54 listedPeriods
+unfolding spaces flatMap listed listed51 listed52 listed53 listed54 listedPeriods listed43
 names-counted v = refl
 
 -- while k bytes of the names and i values are written, up to a place: what is written, with what is left, is all lines

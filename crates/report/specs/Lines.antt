@@ -35,9 +35,9 @@ spaced f = f .name ++ 32 ∷ []
 abbrev pub namesOf : Sheets → List ℕ
 namesOf v = flatMap spaced (listed v)
 
--- room that is always enough: fifty bytes a line (`printed-short`)
+-- room that is always enough: sixty bytes a line (`printed-short`)
 abbrev pub linesRoom : ℕ
-linesRoom = 50 * figureCount
+linesRoom = 60 * figureCount
 
 -- "A refusal prints one line: `refused`, number, place, with single spaces."
 unfoldable pub refusedLine : ℕ → ℕ → List ℕ

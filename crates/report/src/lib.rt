@@ -7,7 +7,7 @@ ghost use Rattle.report.specs.Lines.{printed, putOf, textAfter};
 use listed::FIGURES;
 
 // Room that is always enough for the lines.
-pub const LINES_ROOM: usize = 50 * FIGURES;
+pub const LINES_ROOM: usize = 60 * FIGURES;
 
 // How a text was put into lent room.
 pub enum Put {

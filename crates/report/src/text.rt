@@ -73,7 +73,7 @@ fn put_figures(f: Figures, out: &mut [u8]) -> usize
     ensures { λ r. ⌜ WrittenAt (linesOf (figuresSaid f)) (now (out .entry)) (now (out .exit)) 0 r ⌝ }
 {
     put_lines(
-        b"E K L M O P Q report onsite offsite R decay co2 ch4 co n2o nox uptake uptake_co2 thinner ",
+        b"E K L M O P Q report onsite offsite R decay co2 ch4 co n2o nox uptake uptake_co2 thinner savanna_carbon savanna_ch4 savanna_co savanna_n2o savanna_nox ",
         f,
         out,
     )

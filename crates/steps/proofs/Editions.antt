@@ -1,4 +1,4 @@
--- What an accepted return says of its edition, and an edition 1 return of abandoned land. Assumes nothing.
+-- What an accepted return says of its edition, and an edition 1 return of abandoned land and savannas. Assumes nothing.
 use Prim.Native.Nat.{ℕ}
 use mathlib.Core.Path.{_≡_, refl, ap, _∙_}
 use mathlib.Core.List.{List, [], _∷_}
@@ -13,6 +13,7 @@ use Rattle.form.specs.declared.Verdict.the-variants.{Accepted}
 use Rattle.form.proofs.Accepted.{accepted-counts, rows-length, no-rows}
 use Rattle.wide.specs.Rounding.{settled}
 use Rattle.totals.specs.Columns.{sumOf}
+use Rattle.savannas.specs.Sheet.{savannasOf}
 use Rattle.worksheets.specs.Sheets.{abandonedOf, figuresOf}
 
 none-left : (l : List (List ℕ)) → length l ≡ 0 → l ≡ []
@@ -28,9 +29,20 @@ module _ (s : List ℕ) (c : Counts) (acc : verdictOf s ≡ Accepted c) where
     unfolding lastKind
     no-row = no-rows s c acc 5 (rw one (lit≤ tt))
 
+    no-row-6 : rowCount 6 s ≡ 0
+    unfolding lastKind
+    no-row-6 = no-rows s c acc 6 (rw one (lit≤ tt))
+
     pub no-land : c .abandoned ≡ 0
     no-land = ap (λ (x : Counts). x .abandoned) (accepted-counts s c acc) ∙ no-row
 
     pub no-uptake : (figuresOf s .abandoned .uptake ≡ 0) × (figuresOf s .abandoned .co2 ≡ 0)
     unfolding abandonedOf sumOf settled
     no-uptake = rw (none-left (rows 5 s) (rows-length s c acc 5 ∙ no-row)) (refl, refl)
+
+    pub no-savanna : c .savanna ≡ 0
+    no-savanna = ap (λ (x : Counts). x .savanna) (accepted-counts s c acc) ∙ no-row-6
+
+    pub no-fire : figuresOf s .savannas ≡ record { carbon = 0; ch4 = 0; co = 0; n2o = 0; nox = 0 }
+    unfolding savannasOf sumOf settled
+    no-fire = rw (none-left (rows 6 s) (rows-length s c acc 6 ∙ no-row-6)) refl

@@ -1,6 +1,6 @@
 -- The steps of promises, each theorem's where no crate below has them.
 --     Told      the figures and the doubles that are answered are one ruling's alone
---     Editions  what is told of an edition, and that edition 1 has no abandoned land
+--     Editions  what is told of an edition, and that edition 1 has no abandoned land and no savannas
 --     Rounds    rounding is to nearest, a half to the even neighbour, for both signs
 --     Clauses   what follows from the facts of a contract's clauses
 --     Doubles   a double of zero is near no other number, and the order of a row's factors matters

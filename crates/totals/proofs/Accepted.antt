@@ -64,7 +64,7 @@ module _ (s : List ℕ) (c : Counts) (acc : verdictOf s ≡ Accepted c) where
   kept k i lo hi l = within s c acc k i lo hi (omega (arith, rows-length s c acc k))
 
   -- what no row of a kind is above, no sum over its rows is above 32 times
-  small : (k : ℕ) (f : List ℕ → ℕ) (b : ℕ) → 1 ≤ k → k ≤ kinds → ((r : List ℕ) → aboveLimit (layout k) r ≡ false → f r ≤ b) → sumOf f (rows k s) ≤ b * 32
+  pub small : (k : ℕ) (f : List ℕ → ℕ) (b : ℕ) → 1 ≤ k → k ≤ kinds → ((r : List ℕ) → aboveLimit (layout k) r ≡ false → f r ≤ b) → sumOf f (rows k s) ≤ b * 32
   small k f b lo hi h =
       le-trans (sum-below f b (rows k s) (λ j m. h _ (kept k j lo hi m)))
       (mul-le-mul-left b (omega (arith, few-rows s c acc k, rows-length s c acc k)))

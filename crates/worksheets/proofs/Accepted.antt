@@ -18,6 +18,7 @@ use Rattle.totals.specs.Columns.{columnE, columnK}
 use Rattle.totals.specs.Sums.{Summed}
 use Rattle.totals.specs.declared.Totals.{Totals}
 use Rattle.totals.specs.Abandoned.{uptakeTotal}
+use Rattle.savannas.specs.Sheet.{savannasOf, savannasHeld}
 use Rattle.worksheets.specs.Sheets.{given, Ratios, stocksOf, conversionOf, gasesOf, abandonedOf, figuresOf}
 use Rattle.worksheets.specs.Answers.{stocksHeld, conversionHeld, gasesHeld, abandonedHeld, figuresHeld}
 use Rattle.worksheets.specs.declared.sheets.Parameters.{Parameters}
@@ -34,10 +35,11 @@ pub figures-are : (s : List ℕ) (f : Figures) {t : Totals} {p : Parameters} {e 
     → f .conversion ≡ conversionHeld (conversionOf (value (t .onsite .0)) (value (t .offsite .0)) (value (t .decay .0)) (value (t .thinner .0)))
     → f .gases ≡ gasesHeld (gasesOf (value (t .onsite .0)) p)
     → f .abandoned ≡ abandonedHeld (abandonedOf u)
+    → f .savannas ≡ savannasHeld (savannasOf s)
     → f ≡ figuresHeld (figuresOf s)
-figures-are s f t p e k u stocks conversion gases abandoned =
+figures-are s f t p e k u stocks conversion gases abandoned savannas =
     let a = stocks ∙ (λ i. stocksHeld (stocksOf (e i) (k i) (t .cleared .number i) (p i .n))) in
     let b = conversion ∙ (λ i. conversionHeld (conversionOf (t .onsite .number i) (t .offsite .number i) (t .decay .number i) (t .thinner .number i))) in
     let c = gases ∙ (λ i. gasesHeld (gasesOf (t .onsite .number i) (p i))) in
     let d = abandoned ∙ (λ i. abandonedHeld (abandonedOf (u i))) in
-    λ i. record { stocks = a i; conversion = b i; gases = c i; abandoned = d i }
+    λ i. record { stocks = a i; conversion = b i; gases = c i; abandoned = d i; savannas = savannas i }

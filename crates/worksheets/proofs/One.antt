@@ -5,6 +5,7 @@ use mathlib.Core.List.{List}
 use mathlib.Core.Path.{_≡_, refl, sym, ap, _∙_}
 use Rattle.wide.proofs.Laws.{value-words}
 use Rattle.wide.proofs.SignLaws.{form-holds}
+use Rattle.savannas.specs.Sheet.{Sheet43, savannasSaid, savannasHeld}
 use Rattle.worksheets.specs.Sheets.{Sheet51, Sheet52, Sheet53, Sheet54, Sheets}
 use Rattle.worksheets.specs.Answers.{Outcome, worked, refusal, stocksSaid, stocksHeld, conversionSaid, conversionHeld, gasesSaid, gasesHeld, abandonedSaid, abandonedHeld, figuresSaid, said, outcomeOf, answered, InForm}
 use Rattle.worksheets.specs.declared.sheets.Figures as declared
@@ -43,9 +44,19 @@ abandoned-told : (v : Sheet54) → abandonedSaid (abandonedHeld v) ≡ v
 unfolding abandonedHeld
 abandoned-told v = λ i. record { uptake = value-words (v .uptake) .number i; co2 = value-words (v .co2) .number i }
 
+savannas-told : (v : Sheet43) → savannasSaid (savannasHeld v) ≡ v
+unfolding savannasHeld
+savannas-told v = λ i. record {
+  carbon = value-words (v .carbon) .number i;
+  ch4 = value-words (v .ch4) .number i;
+  co = value-words (v .co) .number i;
+  n2o = value-words (v .n2o) .number i;
+  nox = value-words (v .nox) .number i;
+}
+
 outcome-told : (o : Outcome) → said (answered o) ≡ o
 outcome-told (worked v) =
-    λ i. worked (record { stocks = stocks-told (v .stocks) i; conversion = conversion-told (v .conversion) i; gases = gases-told (v .gases) i; abandoned = abandoned-told (v .abandoned) i })
+    λ i. worked (record { stocks = stocks-told (v .stocks) i; conversion = conversion-told (v .conversion) i; gases = gases-told (v .gases) i; abandoned = abandoned-told (v .abandoned) i; savannas = savannas-told (v .savannas) i })
 outcome-told (refusal n p) = refl
 
 -- what an answer r is, by its case a

@@ -3,7 +3,7 @@ use Prim.Native.Nat.{ℕ, zero, suc, _+_, _*_, _/_, _%_, _^_, _<_, _≤_}
 use mathlib.Core.Path.{_≡_, refl, sym, ap, subst}
 use mathlib.Core.Bool.{Bool, true, false, cond}
 use mathlib.Core.List.{List}
-use native.Mathlib.Nat.{div-le-self}
+use native.Mathlib.Nat.{div-le-self, mul-comm}
 use native.Mathlib.Omega.{arith}
 use lib.Dec.{ltb, eqb, lit≤}
 use lib.IntN.{ℤ, pos, negsuc, negℤ, natAbs, _*ℤ_, *ℤ-comm}
@@ -14,6 +14,8 @@ use Rattle.wide.specs.Rounding.{evenOf, settled, nearest}
 use Rattle.wide.specs.Signs.{nearestZ}
 use Rattle.wide.proofs.SignLaws.{size-turned, size-minus, size-times}
 use Rattle.totals.proofs.Accepted.{columns-small}
+use Rattle.savannas.specs.Sheet.{Sheet43, savannasOf}
+use Rattle.savannas.proofs.Accepted.{sums-small}
 use Rattle.worksheets.specs.Sheets.{columnM, columnO, columnP, columnQ, Ratios, Sheet51, Sheet52, Sheet53, Sheet54, Sheets, stocksOf, conversionOf, gasesOf, abandonedOf, figuresOf}
 use Rattle.worksheets.specs.declared.sheets.Parameters.{Parameters}
 use Rattle.worksheets.proofs.Accepted.{ratios}
@@ -54,8 +56,11 @@ Small53 v = Fits (v .ch4) × Fits (v .co) × Fits (v .n2o) × Fits (v .nox)
 abbrev pub Small54 : Sheet54 → Type 0
 Small54 v = Fits (v .uptake) × Fits (v .co2)
 
+abbrev pub Small43 : Sheet43 → Type 0
+Small43 v = Fits (v .carbon) × Fits (v .ch4) × Fits (v .co) × Fits (v .n2o) × Fits (v .nox)
+
 abbrev pub Small : Sheets → Type 0
-Small v = Small51 (v .stocks) × Small52 (v .conversion) × Small53 (v .gases) × Small54 (v .abandoned)
+Small v = Small51 (v .stocks) × Small52 (v .conversion) × Small53 (v .gases) × Small54 (v .abandoned) × Small43 (v .savannas)
 
 stocks-small : (e k l n : ℕ) → e < 2 ^ 64 → k < 2 ^ 64 → l < 2 ^ 64 → n ≤ 1000 → Small51 (stocksOf e k l n)
 unfolding stocksOf
@@ -93,8 +98,17 @@ abandoned-small : (u : ℕ) → u < 2 ^ 64 → Small54 (abandonedOf u)
 unfolding abandonedOf
 abandoned-small u h = (omega arith, omega (arith, nearest-le (11 * u) 30000))
 
+savannas-small : (s : List ℕ) (c : Counts) → verdictOf s ≡ Accepted c → Small43 (savannasOf s)
+unfolding savannasOf
+savannas-small s c acc =
+    let w = sums-small s c acc in
+    (omega (arith, w .0), by 4 _ (3 * 10 ^ 15) (lit≤ tt) (w .1), by 7 _ (3 * 10 ^ 15) (lit≤ tt) (w .2), by 11 _ (7 * 10 ^ 18) (lit≤ tt) (w .3), by 23 _ (7 * 10 ^ 18) (lit≤ tt) (w .4))
+  where
+    by : (k n d : ℕ) → k ≤ 1000 → n < 2 ^ 100 → Fits (nearest (k * n) d)
+    by k n d hk hn = omega (arith, nearest-le (k * n) d, thousand 100 n k hn hk, mul-comm k n)
+
 pub figures-small : (s : List ℕ) (c : Counts) → verdictOf s ≡ Accepted c → Small (figuresOf s)
 figures-small s c acc =
     let w = columns-small s c acc in
     let r = ratios s c acc in
-    (stocks-small _ _ _ _ (w .0) (w .1) (w .2) (r .n), conversion-small _ _ _ _ (w .3) (w .4) (w .5) (w .6), gases-small _ _ (w .3) r, abandoned-small _ (w .7))
+    (stocks-small _ _ _ _ (w .0) (w .1) (w .2) (r .n), conversion-small _ _ _ _ (w .3) (w .4) (w .5) (w .6), gases-small _ _ (w .3) r, abandoned-small _ (w .7), savannas-small s c acc)

@@ -7,6 +7,7 @@ use Rattle.form.specs.declared.Verdict.{Verdict}
 use Rattle.form.specs.declared.Verdict.the-variants as verdict
 use Rattle.wide.specs.Numbers.{value, wordsOf}
 use Rattle.wide.specs.Signs.{amount, signedOf}
+use Rattle.savannas.specs.Sheet.{savannasSaid, savannasHeld}
 use Rattle.worksheets.specs.Sheets.{Sheet51, Sheet52, Sheet53, Sheet54, Sheets, figuresOf}
 use Rattle.worksheets.specs.declared.sheets.Stocks.{Stocks}
 use Rattle.worksheets.specs.declared.sheets.Conversion.{Conversion}
@@ -58,7 +59,7 @@ abbrev pub abandonedSaid : Abandoned → Sheet54
 abandonedSaid f = record { uptake = value (f .uptake .0); co2 = value (f .co2 .0) }
 
 abbrev pub figuresSaid : declared.Figures → Sheets
-figuresSaid f = record { stocks = stocksSaid (f .stocks); conversion = conversionSaid (f .conversion); gases = gasesSaid (f .gases); abandoned = abandonedSaid (f .abandoned) }
+figuresSaid f = record { stocks = stocksSaid (f .stocks); conversion = conversionSaid (f .conversion); gases = gasesSaid (f .gases); abandoned = abandonedSaid (f .abandoned); savannas = savannasSaid (f .savannas) }
 
 -- an answer's number and values, case by case
 abbrev pub said : Answer → Outcome
@@ -100,7 +101,7 @@ unfoldable pub abandonedHeld : Sheet54 → Abandoned
 abandonedHeld v = record { uptake = record { 0 = wordsOf (v .uptake) }; co2 = record { 0 = wordsOf (v .co2) } }
 
 abbrev pub figuresHeld : Sheets → declared.Figures
-figuresHeld v = record { stocks = stocksHeld (v .stocks); conversion = conversionHeld (v .conversion); gases = gasesHeld (v .gases); abandoned = abandonedHeld (v .abandoned) }
+figuresHeld v = record { stocks = stocksHeld (v .stocks); conversion = conversionHeld (v .conversion); gases = gasesHeld (v .gases); abandoned = abandonedHeld (v .abandoned); savannas = savannasHeld (v .savannas) }
 
 abbrev pub answered : Outcome → Answer
 answered (worked v) = Figures (figuresHeld v)

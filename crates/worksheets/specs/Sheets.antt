@@ -1,4 +1,4 @@
--- Worksheets 5-1 to 5-4: each column from those that it is made of, in the unit of 01's "Worksheet rules". Every rounded tonne cites the one rule.
+-- Worksheets 5-1 to 5-4, and 4-3 from the crate savannas: each column from those that it is made of, in the unit of 01's "Worksheet rules". Every rounded tonne cites the one rule.
 use Prim.Native.Nat.{ℕ, _+_, _*_, _^_, _≤_}
 use mathlib.Core.List.{List, [], _∷_}
 use lib.ListN.{getD}
@@ -9,6 +9,7 @@ use Rattle.wide.specs.Rounding.{nearest}
 use Rattle.wide.specs.Signs.{nearestZ}
 use Rattle.totals.specs.Columns.{columnE, columnK, columnL, onsiteTotal, offsiteTotal, decayTotal, thinnerTotal}
 use Rattle.totals.specs.Abandoned.{uptakeTotal}
+use Rattle.savannas.specs.Sheet.{Sheet43, savannasOf}
 use Rattle.worksheets.specs.declared.sheets.Parameters.{Parameters}
 
 -- N, CH4, CO, N/C, N2O and NOx, by the numbers of a parameter row
@@ -114,6 +115,7 @@ pub record Sheets : Type 0 where
   pub conversion : Sheet52
   pub gases : Sheet53
   pub abandoned : Sheet54
+  pub savannas : Sheet43
 
 unfoldable pub stocksOf : ℕ → ℕ → ℕ → ℕ → Sheet51
 stocksOf e k l n =
@@ -142,4 +144,5 @@ figuresOf s = record {
   conversion = conversionOf (onsiteTotal s) (offsiteTotal s) (decayTotal s) (thinnerTotal s);
   gases = gasesOf (onsiteTotal s) (given s);
   abandoned = abandonedOf (uptakeTotal s);
+  savannas = savannasOf s;
 }

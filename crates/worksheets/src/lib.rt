@@ -1,4 +1,4 @@
-// Worksheets 5-1 to 5-4: the figures of a return, or its refusal.
+// Worksheets 5-1 to 5-4 and 4-3: the figures of a return, or its refusal.
 pub mod sheets;
 pub mod units;
 
@@ -17,6 +17,7 @@ use crate::sheets::work_stocks;
 use form::Counts;
 use form::Verdict;
 use held::Checked;
+use savannas::sheet::work_savannas;
 use totals::abandoned::sum_abandoned;
 use totals::sum_conversion;
 use totals::sum_harvest;
@@ -33,11 +34,13 @@ pub fn work_out(bytes: &[u8], c: Counts) -> Figures
     let conversion = work_conversion(t.onsite, t.offsite, t.decay, t.thinner);
     let gases = work_gases(t.onsite, p);
     let abandoned = work_abandoned(sum_abandoned(bytes, c));
+    let savannas = work_savannas(bytes, c);
     Figures {
         stocks,
         conversion,
         gases,
         abandoned,
+        savannas,
     }
 }
 

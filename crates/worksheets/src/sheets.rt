@@ -29,6 +29,7 @@ use form::PARAMETERS;
 use form::first_block;
 use form::row_start;
 use form::two_at;
+use savannas::sheet::Savannas;
 use totals::Carbon;
 use totals::DryMatter;
 use totals::Periods;
@@ -199,6 +200,7 @@ pub struct Figures {
     pub conversion: Conversion,
     pub gases: Gases,
     pub abandoned: Abandoned,
+    pub savannas: Savannas,
 }
 
 // The figures, or a refusal's number and place.

@@ -2,8 +2,8 @@
 //! run: `bench [FUNCTION..]`, all functions where none is named. The judge is
 //! also set beside a plain sum of the bytes, and what plain_returns.c has beside
 //! that (`/C`). The parts for the other functions come with the features
-//! `lines`, `doubles` and `rows`. Ten blocks, one and the thirteen of edition 2
-//! come first, then how each function grows from two blocks to twelve, in fewer
+//! `lines`, `doubles` and `rows`. Ten blocks, one and the sixteen of edition 2
+//! come first, then how each function grows from two blocks to fifteen, in fewer
 //! rounds.
 
 #[cfg(door_missing)]
@@ -17,7 +17,7 @@ mod run {
     use second::judge::judge;
     use second::kinds::COUNTS_ROOM;
     use second::lent::Lent;
-    use second::make::{RowCounts, Rows, FIRST_FULL, MOST_BLOCKS};
+    use second::make::{later, RowCounts, Rows, FIRST_FULL, MOST_BLOCKS, WITH_IDS};
     use second::rng::Rng;
     use second::timing::measure;
     use std::hint::black_box;
@@ -40,16 +40,16 @@ mod run {
     }
 
     impl Load {
-        /// In edition 2 where there is abandoned land.
+        /// In edition 2 where there is abandoned land, or savannas.
         fn new(rng: &mut Rng, counts: RowCounts, rounds: usize) -> Self {
-            let edition = if counts[3] > 0 { 2 } else { 1 };
+            let edition = 1 + u16::from(later(&counts));
             let rows = (0..RETURNS).map(|_| Rows::good_in(rng, edition, counts));
             let rows: Vec<Rows> = rows.collect();
             let returns: Vec<Box<[u8]>> = rows.iter().map(|r| r.to_bytes().into()).collect();
             let blocks = returns[0].len() / 512;
-            let [c, s, h, a] = counts;
+            let [c, s, h, a, v] = counts;
             Load {
-                name: format!("{blocks:>2}, {c}+{s}+{h}+1+{a}"),
+                name: format!("{blocks:>2}, {c}+{s}+{h}+1+{a}+{v}"),
                 rounds,
                 #[cfg(feature = "rows")]
                 rows,
@@ -61,20 +61,20 @@ mod run {
         /// A return of so many blocks, each kind's filled before the next.
         fn of_blocks(rng: &mut Rng, blocks: usize) -> Self {
             let rows = |kind: usize| (12 * (blocks - 1).saturating_sub(3 * kind)).min(32);
-            Load::new(rng, [0, 1, 2, 3].map(rows), FEWER)
+            Load::new(rng, [0, 1, 2, 3, 4].map(rows), FEWER)
         }
     }
 
     pub fn main() {
         let mut rng = Rng::new(7);
         let mut loads = vec![
-            Load::new(&mut rng, [32, 32, 32, 0], ROUNDS),
-            Load::new(&mut rng, [0; 4], ROUNDS),
-            Load::new(&mut rng, [32; 4], ROUNDS),
+            Load::new(&mut rng, [32, 32, 32, 0, 0], ROUNDS),
+            Load::new(&mut rng, [0; WITH_IDS.len()], ROUNDS),
+            Load::new(&mut rng, [32; WITH_IDS.len()], ROUNDS),
         ];
         let others = (2..MOST_BLOCKS).filter(|&blocks| blocks != FIRST_FULL);
         loads.extend(others.map(|blocks| Load::of_blocks(&mut rng, blocks)));
-        println!("{ROUNDS} rounds ({FEWER} for two blocks to twelve) over {RETURNS} returns, medians, ns per call");
+        println!("{ROUNDS} rounds ({FEWER} for two blocks to fifteen) over {RETURNS} returns, medians, ns per call");
         println!(
             "{:<12}{:<24}{:>10}{:>10}{:>16}",
             "function", "blocks, rows", "niloferq", "other", "niloferq/other"
@@ -181,6 +181,7 @@ mod run {
         use super::*;
         use second::ffi::lines::{first_figures, first_lines};
         use second::sheets::{figures, NUMBERS};
+        use second::text::LINES_ROOM;
 
         pub fn bench(load: &Load) {
             let [mut a, mut b] = [[0; NUMBERS]; 2];
@@ -191,7 +192,7 @@ mod run {
                 |bytes| assert_eq!(first_figures(black_box(bytes), Lent::whole(&mut a)), 0),
                 |bytes| assert_eq!(figures(black_box(bytes), &mut b), 0),
             );
-            let [mut a, mut b] = [[0; 1_000]; 2];
+            let [mut a, mut b] = [[0; LINES_ROOM]; 2];
             bench_two(
                 "lines",
                 load,

@@ -21,8 +21,8 @@ mod run {
     use std::process::ExitCode;
 
     /// The room in our memory; at most `MOST_LENT` of it is lent.
-    const ROOM: usize = 14;
-    const MOST_LENT: usize = 10;
+    const ROOM: usize = 16;
+    const MOST_LENT: usize = 12;
 
     pub fn main() -> ExitCode {
         let Some(arguments) = Arguments::from_command("compare") else {
@@ -33,7 +33,7 @@ mod run {
             inputs: inputs::least(),
             least: inputs::least(),
             often: &[0, 1, 2, 3, 4, 5, 6, 7, 9],
-            thinner: 100,
+            sorts: 100,
         };
         let mut calls = 0;
         let good = run(&plan, arguments, inputs::plain, |case, rng| {

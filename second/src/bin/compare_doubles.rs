@@ -37,7 +37,7 @@ mod run {
             inputs: inputs::least(),
             least: inputs::least(),
             often: &[0, 1, 2, 3, 4, 5, 6, 7, 9, 11],
-            thinner: 100,
+            sorts: 100,
         };
         let mut tally = Tally { calls: 0, held: 0 };
         let good = run(&plan, arguments, inputs::with_figures, |case, rng| {

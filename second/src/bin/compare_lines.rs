@@ -3,7 +3,7 @@
 //!
 //! `compare_lines [SEED [INPUTS]]`. Every input is asked for with a room of the
 //! text's length, one shorter, none at all and one of any length, and for its
-//! numbers with a room of 60, one shorter or longer, or of any length; all of
+//! numbers with a room of 75, one shorter or longer, or of any length; all of
 //! our memory is looked at afterwards, the guard behind the room included. The
 //! exact halves among the figures are counted, and enough of each are due.
 
@@ -23,11 +23,12 @@ mod run {
     use second::rng::Rng;
     use second::sheets::{figures, lines, NUMBERS};
     use second::sweep::Case;
+    use second::text::LINES_ROOM;
     use std::process::ExitCode;
 
     const GUARD: usize = 24;
-    /// More than the 50 bytes for each figure that are always enough.
-    const MOST_LENT: usize = 1_050;
+    /// More than is always enough.
+    const MOST_LENT: usize = LINES_ROOM + 50;
     const MEMORY: usize = MOST_LENT + GUARD;
     const MOST_NUMBERS: usize = NUMBERS + 9;
     const NUMBER_MEMORY: usize = MOST_NUMBERS + GUARD;
@@ -43,7 +44,7 @@ mod run {
             inputs: inputs::least(),
             least: inputs::least(),
             often: &[0, 1, 2, 3, 4, 5, 6, 7],
-            thinner: 100,
+            sorts: 100,
         };
         let mut calls = 0;
         let mut halves = Halves::default();

@@ -10,8 +10,8 @@ use second::drive::{exit, memory_difference, run, Arguments, Outcome, Plan};
 use second::halves::Halves;
 use second::inputs;
 use second::judge::judge;
-use second::make::Rows;
-use second::order_sweeps::{request, REQUEST};
+use second::make::{Rows, WITH_IDS};
+use second::request;
 use second::rng::Rng;
 use second::sheets::text;
 use second::sweep::Case;
@@ -19,12 +19,12 @@ use std::io::{ErrorKind, Read, Write};
 use std::process::{ChildStdin, Command, ExitCode, Stdio};
 use std::time::Duration;
 
-/// "`sheets` takes one byte beyond the longest", which is 13 blocks.
-const TAKEN: usize = 6_657;
+/// "`sheets` takes one byte beyond the longest", which is 16 blocks.
+const TAKEN: usize = 8_193;
 const INPUTS: usize = 2_000;
-const LENGTHS: [usize; 19] = [
-    0, 1, 2, 511, 512, 513, 1_024, 5_119, 5_120, 5_121, 5_122, 5_632, 6_655, 6_656, 6_657, 6_658,
-    7_168, 9_000, 20_480,
+const LENGTHS: [usize; 21] = [
+    0, 1, 2, 511, 512, 513, 1_024, 5_119, 5_120, 5_121, 5_632, 6_656, 6_657, 7_168, 8_191, 8_192,
+    8_193, 8_194, 8_704, 9_000, 20_480,
 ];
 const FILLINGS: usize = 5;
 
@@ -51,7 +51,7 @@ fn main() -> ExitCode {
         inputs: INPUTS,
         least: INPUTS,
         often: &[0, 1, 2, 3, 4, 5, 6, 7],
-        thinner: 10,
+        sorts: 10,
     };
     let mut halves = Halves::default();
     let good = run(&plan, arguments, make, |case, rng| {
@@ -65,12 +65,12 @@ fn main() -> ExitCode {
     exit(good & (arguments.inputs.is_some() || halves.reach(1)))
 }
 
-/// The named lengths first, in every filling; then the request's refusals, and
+/// The named lengths first, in every filling; then the requests' refusals, and
 /// the inputs of the other comparisons.
 fn make(index: usize, rng: &mut Rng) -> Case {
     if let Some(index) = index.checked_sub(LENGTHS.len() * FILLINGS) {
-        if index < REQUEST {
-            return request(index, rng);
+        if index < request::size() {
+            return request::case(index, rng);
         }
         // The sweeps begin with thousands of lengths: a few of their inputs,
         // from all over them, have to do.
@@ -83,7 +83,7 @@ fn make(index: usize, rng: &mut Rng) -> Case {
         // A full return, cut or with more behind it.
         1 => Rows::good(rng, [32; 3]).to_bytes(),
         2 => Rows::good(rng, [0; 3]).to_bytes(),
-        3 => Rows::good_in(rng, 2, [32; 4]).to_bytes(),
+        3 => Rows::good_in(rng, 2, [32; WITH_IDS.len()]).to_bytes(),
         _ => (0..length).map(|_| rng.byte()).collect(),
     };
     bytes.resize(length, 0);

@@ -1,7 +1,7 @@
 //! Numbers 1 to 3: lengths, checks and headers.
 
-use super::{block, block_count, edition, has_abandoned};
-use crate::make::{renumber, repair_checks, BLOCK, CHECK_AT, MOST_BLOCKS};
+use super::{block, block_count, edition, has_later_kinds};
+use crate::make::{last_kind, renumber, repair_checks, BLOCK, CHECK_AT, MOST_BLOCKS};
 use crate::rng::Rng;
 use std::ops::Range;
 
@@ -75,12 +75,11 @@ pub(super) fn break_header(rng: &mut Rng, bytes: &mut [u8]) -> String {
         return format!("3: {how}");
     }
     let b = rng.below(block_count(bytes));
-    let second = edition(bytes) == 2;
+    let last = last_kind(edition(bytes));
     let block = block(bytes, b);
     let at = rng.pick(&[0, 0, 2, 3, 4, 5]);
     block[at] = match at {
-        0 if second => rng.pick(&[0, 6, 7, 128, 255]),
-        0 => rng.pick(&[0, 5, 6, 128, 255]),
+        0 => rng.pick(&[0, last + 1, last + 2, 128, 255]),
         _ => match rng.below(3) {
             0 => block[at].wrapping_add(1),
             1 => block[at].wrapping_sub(1),
@@ -115,7 +114,7 @@ fn break_edition(rng: &mut Rng, bytes: &mut [u8]) -> Option<String> {
         2 if blocks > 1 => (b..b + 1, other),
         3 if blocks > 1 => (b.max(1)..blocks, other),
         // "a kind above 4 in edition 1"
-        4 if has_abandoned(bytes) => (0..blocks, 1),
+        4 if has_later_kinds(bytes) => (0..blocks, 1),
         _ => return None,
     };
     set_edition(bytes, which.clone(), new);

@@ -1,7 +1,8 @@
 //! Number 4: the order and number of blocks, their counts and their zeros.
 
 use super::{block, block_count, edition, kind, parameters_at, used};
-use crate::make::{renumber, zero_areas, BLOCK, FIRST_FULL, MOST_BLOCKS};
+use crate::make::{last_kind, renumber, zero_areas};
+use crate::make::{BLOCK, FIRST_FULL, MOST_BLOCKS, WITH_IDS};
 use crate::rng::Rng;
 
 /// A non-zero byte where zero is due, in a block whose count is good.
@@ -21,13 +22,13 @@ fn break_zero(rng: &mut Rng, bytes: &mut [u8]) -> String {
 /// Breaks number 4 in one of its ways; a way that this return has no room for
 /// becomes a non-zero byte where zero is due.
 pub(super) fn break_layout(rng: &mut Rng, bytes: &mut Vec<u8>) -> String {
-    let done = match rng.below(12) {
+    let done = match rng.below(14) {
         0 => swap_blocks(rng, bytes),
         1 => double_block(rng, bytes),
         2 => drop_parameters(rng, bytes),
         3 => after_parameters(rng, bytes),
         4 => shorten_full_block(rng, bytes),
-        5 => overfull_third(rng, bytes),
+        5 | 12 => overfull_third(rng, bytes),
         6 => empty_block(rng, bytes),
         7 => {
             let b = rng.below(block_count(bytes));
@@ -44,6 +45,7 @@ pub(super) fn break_layout(rng: &mut Rng, bytes: &mut Vec<u8>) -> String {
         }),
         9 => parameters_later(rng, bytes),
         10 => crowd_first_edition(rng, bytes),
+        11 => savannas_first(bytes),
         _ => None,
     };
     match done {
@@ -122,13 +124,26 @@ fn after_parameters(rng: &mut Rng, bytes: &mut Vec<u8>) -> Option<String> {
     Some(format!("block {from} again after the parameters, at {to}"))
 }
 
-/// The parameters behind some or all blocks of abandoned land.
+/// The parameters behind some or all blocks that are to follow them.
 fn parameters_later(rng: &mut Rng, bytes: &mut [u8]) -> Option<String> {
     let (p, blocks) = (parameters_at(bytes)?, block_count(bytes));
     let by = blocks.checked_sub(p + 1).filter(|&behind| behind > 0)?;
     let by = 1 + rng.below(by);
     bytes[BLOCK * p..BLOCK * (p + by + 1)].rotate_left(BLOCK);
     Some(format!("the parameters {by} blocks later"))
+}
+
+/// The blocks of savannas before those of abandoned land.
+fn savannas_first(bytes: &mut [u8]) -> Option<String> {
+    let kinds: Vec<u8> = bytes.iter().step_by(BLOCK).copied().collect();
+    // An earlier damage may have left them in another order.
+    if !kinds.is_sorted() || [5, 6].iter().any(|kind| !kinds.contains(kind)) {
+        return None;
+    }
+    let [first, savannas] = [5, 6].map(|kind| kinds.partition_point(|&other| other < kind));
+    let end = kinds.partition_point(|&other| other <= 6);
+    bytes[BLOCK * first..BLOCK * end].rotate_left(BLOCK * (savannas - first));
+    Some("savannas before abandoned land".to_string())
 }
 
 /// More blocks than edition 1 can have, by blocks that come again.
@@ -166,10 +181,13 @@ fn overfull_third(rng: &mut Rng, bytes: &mut [u8]) -> Option<String> {
     let thirds: Vec<usize> = (2..block_count(bytes))
         .filter(|&b| kind(bytes, b - 2) == kind(bytes, b))
         .collect();
-    if thirds.is_empty() {
-        return None;
-    }
-    let b = rng.pick(&thirds);
+    // Often the last, which is savannas' where there are so many.
+    let &last = thirds.last()?;
+    let b = if rng.one_in(2) {
+        last
+    } else {
+        rng.pick(&thirds)
+    };
     let old = used(bytes, b).max(1);
     let new = 9 + rng.below(4);
     let block = block(bytes, b);
@@ -190,12 +208,9 @@ fn empty_block(rng: &mut Rng, bytes: &mut Vec<u8>) -> Option<String> {
     if blocks >= MOST_BLOCKS {
         return None;
     }
-    let second = edition(bytes) == 2;
-    let new = if second {
-        rng.pick(&[1, 2, 3, 5])
-    } else {
-        rng.pick(&[1, 2, 3])
-    };
+    let last = last_kind(edition(bytes));
+    let known = WITH_IDS.iter().filter(|&&kind| kind <= last).count();
+    let new = rng.pick(&WITH_IDS[..known]);
     let place = (0..blocks)
         .find(|&b| kind(bytes, b) >= new)
         .unwrap_or(blocks);

@@ -1,7 +1,8 @@
 //! Random blocks.
 
 use super::{block_count, edition};
-use crate::make::{parts, repair_check, zero_areas, Part, BLOCK, FIRST_FULL, MOST_BLOCKS};
+use crate::make::{last_kind, parts, repair_check, zero_areas, Part};
+use crate::make::{BLOCK, FIRST_FULL, MOST_BLOCKS};
 use crate::rng::Rng;
 
 /// Blocks of random bytes with right checks, made plainer from depth to depth:
@@ -20,7 +21,7 @@ pub fn random_blocks(rng: &mut Rng, depth: usize) -> Vec<u8> {
     rng.fill(&mut bytes);
     if depth >= 1 {
         for (b, block) in bytes.chunks_mut(BLOCK).enumerate() {
-            let kind = 1 + rng.below(3 + usize::from(edition)) as u8;
+            let kind = 1 + rng.below(last_kind(edition.into()).into()) as u8;
             let count = rng.below(14) as u8;
             let header = [kind, count, b as u8, 0, blocks as u8, 0, edition, 0];
             block[..8].copy_from_slice(&header);
@@ -49,7 +50,7 @@ fn shape(rng: &mut Rng, bytes: &mut [u8]) {
     let blocks = block_count(bytes);
     let mut kinds: Vec<u8> = [1, 1, 1, 2, 2, 2, 3, 3, 3].to_vec();
     if edition(bytes) == 2 {
-        kinds.extend([5, 5, 5]);
+        kinds.extend([5, 5, 5, 6, 6, 6]);
     }
     while kinds.len() > blocks - 1 {
         kinds.remove(rng.below(kinds.len()));

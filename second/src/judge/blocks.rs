@@ -2,10 +2,10 @@
 //! layout.
 
 use super::{edition, four, two, used_records, Block, Refusal};
-use super::{ABANDONED, CONVERSION, HARVEST, PARAMETERS, STOCK};
-use super::{BLOCK, CHECK_AT, MOST_BLOCKS, RECORD, RECORDS_AT};
+use super::{ABANDONED, CONVERSION, HARVEST, PARAMETERS, SAVANNA, STOCK};
+use super::{BLOCK, CHECK_AT, LAST_KIND, MOST_BLOCKS, RECORD, RECORDS_AT};
 
-/// Number 1: "length is 0, above" 13 blocks, "or no multiple of 512".
+/// Number 1: "length is 0, above" 16 blocks, "or no multiple of 512".
 pub(super) fn blocks_of(bytes: &[u8]) -> Result<&[Block], Refusal> {
     let (blocks, rest) = bytes.as_chunks::<BLOCK>();
     if rest.is_empty() && (1..=MOST_BLOCKS).contains(&blocks.len()) {
@@ -64,7 +64,7 @@ pub(super) fn header_holds(blocks: &[Block], b: usize) -> bool {
 fn is_kind_of(edition: u16, kind: u8) -> bool {
     match edition {
         1 => (CONVERSION..=PARAMETERS).contains(&kind),
-        2 => (CONVERSION..=ABANDONED).contains(&kind),
+        2 => (CONVERSION..=SAVANNA).contains(&kind),
         _ => false,
     }
 }
@@ -72,7 +72,7 @@ fn is_kind_of(edition: u16, kind: u8) -> bool {
 /// Number 4. Only tried when every kind is one of the edition's.
 pub(super) fn layout_holds(blocks: &[Block]) -> Result<(), Refusal> {
     let edition = edition(&blocks[0]);
-    let mut seen = [0u32; 6];
+    let mut seen = [0u32; LAST_KIND + 1];
     let mut previous = 0;
     for (b, block) in blocks.iter().enumerate() {
         let (kind, count) = (block[0], block[1]);
@@ -130,6 +130,7 @@ fn zeros_hold(block: &Block, kind: u8, count: usize) -> bool {
         STOCK => used.map(|r| r[5] | or(&r[14..])).fold(0, or_two),
         HARVEST => used.map(|r| or(&r[10..12]) | or(&r[20..])).fold(0, or_two),
         ABANDONED => used.map(|r| or(&r[20..])).fold(0, or_two),
+        SAVANNA => used.map(|r| or(&r[32..])).fold(0, or_two),
         _ => used.map(|r| or(&r[..4]) | or(&r[16..])).fold(0, or_two),
     };
     inside | or(&block[RECORDS_AT + RECORD * count..CHECK_AT]) == 0

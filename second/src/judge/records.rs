@@ -1,7 +1,7 @@
 //! Numbers 5 to 7: the ids, and each record by its fields.
 
 use super::{four, two, used_records, Block, Record, Refusal, RECORDS_PER_BLOCK};
-use super::{ABANDONED, CONVERSION, HARVEST, PARAMETERS, STOCK};
+use super::{ABANDONED, CONVERSION, HARVEST, PARAMETERS, SAVANNA, STOCK};
 
 /// Which of the numbers 6 and 7 a record is at fault with.
 #[derive(Clone, Copy, PartialEq, Eq)]
@@ -39,6 +39,7 @@ pub(super) fn records_hold(blocks: &[Block]) -> Result<(), Refusal> {
             STOCK => note(records, place, stock_faults, &mut first),
             HARVEST => note(records, place, harvest_faults, &mut first),
             ABANDONED => note(records, place, abandoned_faults, &mut first),
+            SAVANNA => note(records, place, savanna_faults, &mut first),
             _ => note(records, place, parameter_faults, &mut first),
         }
     }
@@ -149,6 +150,16 @@ fn abandoned_faults(r: &Record) -> Faults {
             | (two(r, area + 6) > MOST_FRACTION)
     };
     only_limit(above(4) | above(12))
+}
+
+/// "fields limited as 01's like fields": area and density as in a conversion
+/// record; six fractions and five ratios have the limit of all such.
+fn savanna_faults(r: &Record) -> Faults {
+    only_limit(
+        (four(r, 4) > MOST_AREA)
+            | (two(r, 8) > MOST_DENSITY)
+            | any_above(twos::<11>(r, 10), MOST_FRACTION),
+    )
 }
 
 /// Number 7 is about conversion records alone.

@@ -29,8 +29,11 @@ fn lengths() {
     assert_eq!(judge(&[0; 5121]), refused(1, 0));
     assert_eq!(judge(&[0; 5632]), refused(3, 0));
     assert_eq!(judge(&[0; 6656]), refused(3, 0));
-    assert_eq!(judge(&[0; 6657]), refused(1, 0));
-    assert_eq!(judge(&[0; 7168]), refused(1, 0));
+    assert_eq!(judge(&[0; 7168]), refused(3, 0));
+    assert_eq!(judge(&[0; 8191]), refused(1, 0));
+    assert_eq!(judge(&[0; 8192]), refused(3, 0));
+    assert_eq!(judge(&[0; 8193]), refused(1, 0));
+    assert_eq!(judge(&[0; 8704]), refused(1, 0));
 }
 
 #[test]

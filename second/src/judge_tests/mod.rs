@@ -3,6 +3,7 @@
 
 mod blocks;
 mod records;
+mod savannas;
 mod second_edition;
 
 use super::{judge, Counts, Refusal, Verdict};
@@ -78,13 +79,42 @@ impl Hand {
 
 /// In edition 1.
 fn accepted([c, s, h, p]: [u32; 4]) -> Verdict {
-    let (edition, rows) = (1, [c, s, h, p, 0]);
+    let (edition, rows) = (1, [c, s, h, p, 0, 0]);
     Verdict::Accepted(Counts { edition, rows })
+}
+
+fn accepted_second(rows: [u32; 6]) -> Verdict {
+    Verdict::Accepted(Counts { edition: 2, rows })
 }
 
 fn refused(number: u32, place: u32) -> Verdict {
     Verdict::Refused(Refusal { number, place })
 }
+
+/// The 32 rows of a kind with ids, from block `b` on.
+fn filled(hand: Hand, b: usize) -> Hand {
+    hand.ids(b, 12, 0).ids(b + 1, 12, 12).ids(b + 2, 8, 24)
+}
+
+/// The blocks of 32 rows of each kind.
+const FULL: [(u8, u8); 16] = [
+    (1, 12),
+    (1, 12),
+    (1, 8),
+    (2, 12),
+    (2, 12),
+    (2, 8),
+    (3, 12),
+    (3, 12),
+    (3, 8),
+    (4, 1),
+    (5, 12),
+    (5, 12),
+    (5, 8),
+    (6, 12),
+    (6, 12),
+    (6, 8),
+];
 
 fn lone() -> Hand {
     Hand::new(&[(4, 1)])

@@ -1,9 +1,10 @@
 //! Edition 2 and its kind 5.
 
-use super::{accepted, judge, lone, one_conversion, refused, Counts, Hand, Verdict};
+use super::{accepted, filled, judge, lone, one_conversion, refused, Hand, Verdict, FULL};
 
-fn accepted_second(rows: [u32; 5]) -> Verdict {
-    Verdict::Accepted(Counts { edition: 2, rows })
+/// Without savannas.
+fn accepted_second([c, s, h, p, a]: [u32; 5]) -> Verdict {
+    super::accepted_second([c, s, h, p, a, 0])
 }
 
 /// Kind 4 is 4, count 1 is 2, one block is 5, edition 2 is 14: 25 in all.
@@ -24,30 +25,10 @@ fn abandoned_land_comes_after_the_parameters() {
     assert_eq!(good(&without), accepted_second([1, 0, 1, 1, 0]));
 }
 
-/// The 32 rows of a kind with ids, from block `b` on.
-fn filled(hand: Hand, b: usize) -> Hand {
-    hand.ids(b, 12, 0).ids(b + 1, 12, 12).ids(b + 2, 8, 24)
-}
-
-const FULL: [(u8, u8); 13] = [
-    (1, 12),
-    (1, 12),
-    (1, 8),
-    (2, 12),
-    (2, 12),
-    (2, 8),
-    (3, 12),
-    (3, 12),
-    (3, 8),
-    (4, 1),
-    (5, 12),
-    (5, 12),
-    (5, 8),
-];
-
 #[test]
-fn thirteen_blocks_are_full() {
-    let full = [0, 3, 6, 10].into_iter().fold(Hand::second(&FULL), filled);
+fn thirteen_blocks_are_full_without_savannas() {
+    let thirteen = Hand::second(&FULL[..13]);
+    let full = [0, 3, 6, 10].into_iter().fold(thirteen, filled);
     assert_eq!(full.judged(), accepted_second([32, 32, 32, 1, 32]));
     let ten = [0, 3, 6].into_iter().fold(Hand::new(&FULL[..10]), filled);
     assert_eq!(ten.judged(), accepted([32, 32, 32, 1]));
@@ -75,7 +56,7 @@ fn editions() {
 fn kinds_of_an_edition() {
     assert_eq!(Hand::new(&[(4, 1), (5, 1)]).judged(), refused(3, 1));
     assert_eq!(Hand::new(&[(5, 1), (4, 1)]).judged(), refused(3, 0));
-    assert_eq!(Hand::second(&[(4, 1), (6, 1)]).judged(), refused(3, 1));
+    assert_eq!(Hand::second(&[(4, 1), (7, 1)]).judged(), refused(3, 1));
     assert_eq!(Hand::second(&[(0, 1), (4, 1)]).judged(), refused(3, 0));
     assert_eq!(Hand::second(&[(4, 1), (255, 1)]).judged(), refused(3, 1));
 }
@@ -135,7 +116,7 @@ fn counts_of_abandoned_land() {
 /// blocks at most and kind 4 has one.
 #[test]
 fn edition_1_has_ten_blocks_at_most() {
-    for blocks in 11..=13 {
+    for blocks in 11..=16 {
         // Parameters more than once: the first of them is not last.
         let mut more = FULL[..10].to_vec();
         more.resize(blocks, (4, 1));
@@ -150,8 +131,8 @@ fn edition_1_has_ten_blocks_at_most() {
         }
     }
     // One block more is number 1 in either edition.
-    assert_eq!(Hand::new(&[(4, 1); 14]).judged(), refused(1, 0));
-    assert_eq!(Hand::second(&[(4, 1); 14]).judged(), refused(1, 0));
+    assert_eq!(Hand::new(&[(4, 1); 17]).judged(), refused(1, 0));
+    assert_eq!(Hand::second(&[(4, 1); 17]).judged(), refused(1, 0));
 }
 
 /// Zero is due from byte 20 of a used record on, and behind them.

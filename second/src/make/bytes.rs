@@ -11,6 +11,7 @@ impl Rows {
         put_kind(&mut bytes, self.edition, 3, &self.harvest);
         put_kind(&mut bytes, self.edition, 4, &self.parameters);
         put_kind(&mut bytes, self.edition, 5, &self.abandoned);
+        put_kind(&mut bytes, self.edition, 6, &self.savanna);
         seal(&mut bytes);
         bytes
     }

@@ -1,6 +1,8 @@
 //! Random good rows.
 
-use super::{fields, RowCounts, Rows, AFTER, BEFORE, MOST_ROWS, SUMMED, WITH_IDS};
+use super::savannas::good_savannas;
+use super::{fields, RowCounts, Rows, AFTER, BEFORE};
+use super::{FIRST_WITH_IDS, MOST_ROWS, SUMMED, WITH_IDS};
 use crate::rng::Rng;
 
 const MOST_DENSITY: u32 = 10_000;
@@ -9,14 +11,14 @@ impl Rows {
     /// Good rows of edition 1, this many of each of the first three kinds. More
     /// than 32 are good in everything but their number.
     pub fn good(rng: &mut Rng, [conversion, stock, harvest]: [usize; 3]) -> Self {
-        Self::good_in(rng, 1, [conversion, stock, harvest, 0])
+        Self::good_in(rng, 1, [conversion, stock, harvest, 0, 0])
     }
 
-    /// As [`Rows::good`], in this edition. Rows of abandoned land are good in
-    /// everything but edition 1.
+    /// As [`Rows::good`], in this edition. Rows of abandoned land and savannas are
+    /// good in everything but edition 1.
     pub fn good_in(rng: &mut Rng, edition: u16, counts: RowCounts) -> Self {
         let ids = counts.map(|count| good_ids(rng, count));
-        let [conversion, stock, harvest, abandoned] = &ids;
+        let [conversion, stock, harvest, abandoned, savanna] = &ids;
         let thinner = rng.pick(&THINNER);
         Rows {
             edition,
@@ -28,13 +30,14 @@ impl Rows {
             harvest: good_rows(rng, 3, harvest),
             parameters: vec![good_row(rng, 4, None)],
             abandoned: good_rows(rng, 5, abandoned),
+            savanna: good_savannas(rng, savanna),
         }
     }
 
-    /// As [`Rows::good`], in edition 2 where there is abandoned land, and else
-    /// in either.
+    /// As [`Rows::good`], in edition 2 where it alone has these kinds, and else in
+    /// either.
     pub fn good_in_either(rng: &mut Rng, counts: RowCounts) -> Self {
-        let second = counts[3] > 0 || rng.one_in(4);
+        let second = later(&counts) || rng.one_in(4);
         Self::good_in(rng, 1 + u16::from(second), counts)
     }
 
@@ -47,22 +50,31 @@ impl Rows {
     /// Good rows of either edition with at least `least` in each of its kinds
     /// with ids.
     pub fn good_from(rng: &mut Rng, least: usize) -> Self {
-        // Now and then all blocks of the edition.
-        let least = if rng.one_in(8) { 25 } else { least };
+        // Now and then all blocks of the edition, or all rows.
+        let least = match rng.below(16) {
+            0 => 25,
+            1 => MOST_ROWS,
+            _ => least,
+        };
         let mut counts = WITH_IDS.map(|_| any_count(rng).max(least));
         let edition = rng.pick(&[1, 2]);
         if edition == 1 {
-            counts[3] = 0;
+            counts[FIRST_WITH_IDS..].fill(0);
         }
         Self::good_in(rng, edition, counts)
     }
 }
 
-/// Counts drawn one by one; in half of them there is no abandoned land.
+/// Whether there are rows of a kind that edition 1 doesn't have.
+pub fn later(counts: &RowCounts) -> bool {
+    counts[FIRST_WITH_IDS..].iter().any(|&count| count > 0)
+}
+
+/// Counts drawn one by one; in half of them there are only the kinds of edition 1.
 pub fn drawn_counts(rng: &mut Rng, draw: impl Fn(&mut Rng) -> usize) -> RowCounts {
     let mut counts = WITH_IDS.map(|_| draw(rng));
     if rng.one_in(2) {
-        counts[3] = 0;
+        counts[FIRST_WITH_IDS..].fill(0);
     }
     counts
 }
@@ -117,7 +129,7 @@ fn good_rows<const N: usize>(rng: &mut Rng, kind: u8, ids: &[u32]) -> Vec<[u32; 
     ids.iter().map(row).collect()
 }
 
-fn good_row<const N: usize>(rng: &mut Rng, kind: u8, id: Option<u32>) -> [u32; N] {
+pub(super) fn good_row<const N: usize>(rng: &mut Rng, kind: u8, id: Option<u32>) -> [u32; N] {
     let mut row = [0; N];
     for (value, (_, limit)) in row.iter_mut().zip(fields(kind)) {
         *value = good_value(rng, limit);

@@ -24,6 +24,9 @@ stray-fields-requires-5 c κs = search needs
 stray-fields-requires-6 : tie.Need-stray-fields-requires-6
 stray-fields-requires-6 c κs = search needs
 
+stray-fields-requires-7 : tie.Need-stray-fields-requires-7
+stray-fields-requires-7 c κs = search needs
+
 returns : tie.Need-returns
 returns c = rw (c .before .match .keys1) (c .stray-fields .ensures)
 
@@ -40,7 +43,10 @@ returns-5 : tie.Need-returns-5
 returns-5 c = rw (c .before .match .keys5) (c .stray-fields5 .ensures)
 
 returns-6 : tie.Need-returns-6
-returns-6 c = rw (no-kind (c .before .before .before .args .kind) (λ l h. omega (arith, kinds-are))) (c .stray-fields6 .ensures)
+returns-6 c = rw (c .before .match .keys6) (c .stray-fields6 .ensures)
+
+returns-7 : tie.Need-returns-7
+returns-7 c = rw (no-kind (c .before .before .before .args .kind) (λ l h. omega (arith, kinds-are))) (c .stray-fields7 .ensures)
 
 pub stray-at-spec : {M : Type 1} → statement M
 stray-at-spec =
@@ -52,9 +58,11 @@ stray-at-spec =
     stray-fields-requires-4
     stray-fields-requires-5
     stray-fields-requires-6
+    stray-fields-requires-7
     returns
     returns-2
     returns-3
     returns-4
     returns-5
-    returns-6)
+    returns-6
+    returns-7)

@@ -20,7 +20,10 @@ decode-rows-requires-5 : tie.Need-decode-rows-requires-5
 decode-rows-requires-5 c κs = rw (c .before .match .keys5) at (c .before .before .before .before .pre)
 
 decode-rows-requires-6 : tie.Need-decode-rows-requires-6
-decode-rows-requires-6 c κs = search needs
+decode-rows-requires-6 c κs = rw (c .before .match .keys6) at (c .before .before .before .before .pre)
+
+decode-rows-requires-7 : tie.Need-decode-rows-requires-7
+decode-rows-requires-7 c κs = search needs
 
 same-length : tie.Need-same-length
 same-length c = search needs
@@ -49,14 +52,20 @@ returns-4 c = rw (c .before .before .before .before .match .keys4) (c .before .b
 same-length-5 : tie.Need-same-length-5
 same-length-5 c = search needs
 
-returns-5 : tie.Need-returns-5
-returns-5 c = rw (c .before .before .before .before .match .keys5) (c .before .before .decode-rows5 .ensures)
-
 same-length-6 : tie.Need-same-length-6
 same-length-6 c = search needs
 
+returns-5 : tie.Need-returns-5
+returns-5 c = rw (c .before .before .before .before .match .keys5) (c .before .before .decode-rows5 .ensures)
+
 returns-6 : tie.Need-returns-6
-returns-6 c = search needs
+returns-6 c = rw (c .before .before .before .before .match .keys6) (c .before .before .decode-rows6 .ensures)
+
+same-length-7 : tie.Need-same-length-7
+same-length-7 c = search needs
+
+returns-7 : tie.Need-returns-7
+returns-7 c = search needs
 
 pub decode-kind-spec : {M : Type 1} → statement M
 decode-kind-spec =
@@ -68,6 +77,7 @@ decode-kind-spec =
     decode-rows-requires-4
     decode-rows-requires-5
     decode-rows-requires-6
+    decode-rows-requires-7
     same-length
     returns
     same-length-2
@@ -79,4 +89,6 @@ decode-kind-spec =
     same-length-5
     returns-5
     same-length-6
-    returns-6)
+    returns-6
+    same-length-7
+    returns-7)

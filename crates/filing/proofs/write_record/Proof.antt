@@ -20,7 +20,10 @@ write-fields-requires-5 : tie.Need-write-fields-requires-5
 write-fields-requires-5 c κs = rw (c .before .match .keys5) at (c .before .before .before .before .pre)
 
 write-fields-requires-6 : tie.Need-write-fields-requires-6
-write-fields-requires-6 c κs = search needs
+write-fields-requires-6 c κs = rw (c .before .match .keys6) at (c .before .before .before .before .pre)
+
+write-fields-requires-7 : tie.Need-write-fields-requires-7
+write-fields-requires-7 c κs = search needs
 
 same-length : tie.Need-same-length
 same-length c = search needs
@@ -49,14 +52,20 @@ returns-4 c = rw (c .before .before .before .before .match .keys4) (c .before .b
 same-length-5 : tie.Need-same-length-5
 same-length-5 c = search needs
 
-returns-5 : tie.Need-returns-5
-returns-5 c = rw (c .before .before .before .before .match .keys5) (c .before .before .write-fields5 .ensures)
-
 same-length-6 : tie.Need-same-length-6
 same-length-6 c = search needs
 
+returns-5 : tie.Need-returns-5
+returns-5 c = rw (c .before .before .before .before .match .keys5) (c .before .before .write-fields5 .ensures)
+
 returns-6 : tie.Need-returns-6
-returns-6 c = search needs
+returns-6 c = rw (c .before .before .before .before .match .keys6) (c .before .before .write-fields6 .ensures)
+
+same-length-7 : tie.Need-same-length-7
+same-length-7 c = search needs
+
+returns-7 : tie.Need-returns-7
+returns-7 c = search needs
 
 pub write-record-spec : {M : Type 1} → statement M
 write-record-spec =
@@ -68,6 +77,7 @@ write-record-spec =
     write-fields-requires-4
     write-fields-requires-5
     write-fields-requires-6
+    write-fields-requires-7
     same-length
     returns
     same-length-2
@@ -79,4 +89,6 @@ write-record-spec =
     same-length-5
     returns-5
     same-length-6
-    returns-6)
+    returns-6
+    same-length-7
+    returns-7)

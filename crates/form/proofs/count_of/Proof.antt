@@ -25,11 +25,14 @@ returns-5 : tie.Need-returns-5
 returns-5 c = search needs
 
 returns-6 : tie.Need-returns-6
-returns-6 c = go (c .before .args .kind) refl
+returns-6 c = search needs
+
+returns-7 : tie.Need-returns-7
+returns-7 c = go (c .before .args .kind) refl
   where
     go : (k : ℕ) → c .before .args .kind ≡ k → 0 ≡ countIn (c .before .args .c) k
     go zero e = refl
     go (suc k) e = sym (List·getD-eq-default (0 ∷ countList (c .before .args .c)) 0 {n = suc k} (omega arith))
 
 pub count-of-spec : {M : Type 1} → statement M
-count-of-spec = tie.close (tie.spec returns returns-2 returns-3 returns-4 returns-5 returns-6)
+count-of-spec = tie.close (tie.spec returns returns-2 returns-3 returns-4 returns-5 returns-6 returns-7)

@@ -21,15 +21,19 @@ rows-of-requires-4 c κs = search needs
 rows-of-requires-5 : tie.Need-rows-of-requires-5
 rows-of-requires-5 c κs = search needs
 
+rows-of-requires-6 : tie.Need-rows-of-requires-6
+rows-of-requires-6 c κs = search needs
+
 returns : tie.Need-returns
 returns c =
     rw (
-      c .before .before .before .before .before .two-at .ensures .0,
-      c .before .before .before .before .rows-of .ensures,
-      c .before .before .before .rows-of2 .ensures,
-      c .before .before .rows-of3 .ensures,
-      c .before .rows-of4 .ensures,
-      c .rows-of5 .ensures,
+      c .before .before .before .before .before .before .two-at .ensures .0,
+      c .before .before .before .before .before .rows-of .ensures,
+      c .before .before .before .before .rows-of2 .ensures,
+      c .before .before .before .rows-of3 .ensures,
+      c .before .before .rows-of4 .ensures,
+      c .before .rows-of5 .ensures,
+      c .rows-of6 .ensures,
     )
 
 pub count-rows-spec : {M : Type 1} → statement M
@@ -42,4 +46,5 @@ count-rows-spec =
     rows-of-requires-3
     rows-of-requires-4
     rows-of-requires-5
+    rows-of-requires-6
     returns)

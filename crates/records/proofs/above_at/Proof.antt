@@ -24,6 +24,9 @@ above-fields-requires-5 c κs = search needs
 above-fields-requires-6 : tie.Need-above-fields-requires-6
 above-fields-requires-6 c κs = search needs
 
+above-fields-requires-7 : tie.Need-above-fields-requires-7
+above-fields-requires-7 c κs = search needs
+
 returns : tie.Need-returns
 returns c = rw (c .before .match .keys1) (c .above-fields .ensures)
 
@@ -40,7 +43,10 @@ returns-5 : tie.Need-returns-5
 returns-5 c = rw (c .before .match .keys5) (c .above-fields5 .ensures)
 
 returns-6 : tie.Need-returns-6
-returns-6 c = rw (no-kind (c .before .before .before .args .kind) (λ l h. omega (arith, kinds-are))) (c .above-fields6 .ensures)
+returns-6 c = rw (c .before .match .keys6) (c .above-fields6 .ensures)
+
+returns-7 : tie.Need-returns-7
+returns-7 c = rw (no-kind (c .before .before .before .args .kind) (λ l h. omega (arith, kinds-are))) (c .above-fields7 .ensures)
 
 pub above-at-spec : {M : Type 1} → statement M
 above-at-spec =
@@ -52,9 +58,11 @@ above-at-spec =
     above-fields-requires-4
     above-fields-requires-5
     above-fields-requires-6
+    above-fields-requires-7
     returns
     returns-2
     returns-3
     returns-4
     returns-5
-    returns-6)
+    returns-6
+    returns-7)

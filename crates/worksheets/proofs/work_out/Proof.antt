@@ -51,13 +51,17 @@ work-abandoned-requires c κs =
     let s = c .before .before .before .before .before .before .before .before .before in
     omega (arith, columns-small (now (s .args .bytes)) (s .args .c) (s .pre) .7, c .sum-abandoned .ensures .number)
 
+work-savannas-requires : tie.Need-work-savannas-requires
+work-savannas-requires c κs = c .before .before .before .before .before .before .before .before .before .before .pre
+
 returns : tie.Need-returns
 returns c =
-    let g = c .before .before in
+    let b = c .before in
+    let g = b .before .before in
     let t = g .before .before .before .before .before in
     figures-are (now (t .before .before .before .args .bytes)) _ (t .sum-conversion .ensures) (t .before .read-parameters .ensures)
-    (g .before .before .before .before .sum-stocks .ensures .number) (g .before .before .before .sum-harvest .ensures .number) (c .before .sum-abandoned .ensures .number)
-    (g .before .before .work-stocks .ensures) (g .before .work-conversion .ensures) (g .work-gases .ensures) (c .work-abandoned .ensures)
+    (g .before .before .before .before .sum-stocks .ensures .number) (g .before .before .before .sum-harvest .ensures .number) (b .before .sum-abandoned .ensures .number)
+    (g .before .before .work-stocks .ensures) (g .before .work-conversion .ensures) (g .work-gases .ensures) (b .work-abandoned .ensures) (c .work-savannas .ensures)
 
 pub work-out-spec : {M : Type 1} → statement M
 work-out-spec =
@@ -72,4 +76,5 @@ work-out-spec =
     work-gases-requires
     sum-abandoned-requires
     work-abandoned-requires
+    work-savannas-requires
     returns)

@@ -33,14 +33,16 @@ mod run {
     const DRAWN: usize = 2;
     /// Editions and row counts that are tried with rooms of every length: full
     /// returns, some with kinds left out, and the parameters alone.
-    const EVERY_LENGTH: [(u16, RowCounts); 7] = [
-        (1, [32, 32, 32, 0]),
-        (1, [2, 0, 3, 0]),
-        (1, [0, 1, 12, 0]),
-        (1, [0, 0, 0, 0]),
-        (2, [32, 32, 32, 32]),
-        (2, [1, 0, 0, 13]),
-        (2, [0, 0, 0, 0]),
+    const EVERY_LENGTH: [(u16, RowCounts); 9] = [
+        (1, [32, 32, 32, 0, 0]),
+        (1, [2, 0, 3, 0, 0]),
+        (1, [0, 1, 12, 0, 0]),
+        (1, [0, 0, 0, 0, 0]),
+        (2, [32, 32, 32, 32, 32]),
+        (2, [1, 0, 0, 13, 0]),
+        (2, [0, 2, 0, 0, 13]),
+        (2, [0, 0, 0, 2, 3]),
+        (2, [0, 0, 0, 0, 0]),
     ];
 
     pub fn main() -> ExitCode {

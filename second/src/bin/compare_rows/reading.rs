@@ -18,7 +18,7 @@ pub fn compare(arguments: Arguments) -> bool {
         inputs: inputs::least(),
         least: inputs::least(),
         often: &[0, 1, 2, 3, 4, 5, 6, 7, 9],
-        thinner: 100,
+        sorts: 100,
     };
     let mut tally = Tally::default();
     let good = run(&plan, arguments, inputs::with_figures, |case, rng| {

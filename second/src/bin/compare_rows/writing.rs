@@ -24,7 +24,7 @@ pub fn compare(arguments: Arguments) -> bool {
         inputs: least,
         least,
         often: &[0, 5, 6, 7, 9, 10],
-        thinner: 100,
+        sorts: 100,
     };
     let make = |index: usize, rng: &mut Rng| {
         let turn = index / SWEEP_EVERY;

@@ -8,7 +8,7 @@
 //! an area on purpose and must be stopped. Without `heap` that is tried first.
 //! All answers and all memory are compared with the second program's. The exact
 //! halves among the figures are counted, and so are the returns with thinner
-//! rows; each sort is due.
+//! rows and with savannas; each sort is due.
 
 #[cfg(door_missing)]
 compile_error!(
@@ -30,6 +30,7 @@ mod run {
     use crate::cross::{cross_on_purpose, fences_stop};
     use crate::rooms::{Fit, Rooms};
     use crate::tally::Tally;
+    use second::burned::Burned;
     use second::drive::{exit, Arguments, Input};
     use second::fence::Place;
     use second::halves::Halves;
@@ -74,7 +75,8 @@ mod run {
             Tally::new("read", &[0, 1, 2, 3, 4, 5, 6, 7, 9]),
             Tally::new("write", &[0, 5, 6, 7, 9, 10]),
         ];
-        let (mut halves, mut thinner) = (Halves::default(), Thinner::default());
+        let mut halves = Halves::default();
+        let (mut thinner, mut burned) = (Thinner::default(), Burned::default());
         for index in 0..arguments.inputs.unwrap_or(INPUTS) {
             let mut rng = Rng::for_input(arguments.seed, index as u64);
             let case = any_return(&mut rng);
@@ -113,15 +115,18 @@ mod run {
             halves.note(&case.bytes);
             if judge(&case.bytes).answer() == 0 {
                 thinner.note(case.thinner());
+                burned.note(&case.burned());
             }
         }
         tallies.iter().for_each(Tally::print);
         halves.print();
         thinner.print();
+        burned.print();
         let calls: usize = tallies.iter().map(Tally::calls).sum();
         println!("fenced: {calls} calls at {places:?}, 0 differences");
         let usual = arguments.inputs.is_none();
-        let all_came = || tallies.iter().all(Tally::all_came) & halves.reach(1) & thinner.reach(1);
+        let sorts_came = || halves.reach(1) & thinner.reach(1) & burned.reach(1);
+        let all_came = || tallies.iter().all(Tally::all_came) & sorts_came();
         exit(!tallies.iter().any(Tally::retired_came) && (!usual || all_came()))
     }
 

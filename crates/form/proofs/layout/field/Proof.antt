@@ -23,6 +23,9 @@ parameters-requires c κs = rw (c .match .keys4) at (c .before .pre)
 abandoned-requires : tie.Need-abandoned-requires
 abandoned-requires c κs = rw (c .match .keys5) at (c .before .pre)
 
+savanna-requires : tie.Need-savanna-requires
+savanna-requires c κs = rw (c .match .keys6) at (c .before .pre)
+
 returns : tie.Need-returns
 returns c = search needs
 
@@ -39,7 +42,10 @@ returns-5 : tie.Need-returns-5
 returns-5 c = search needs
 
 returns-6 : tie.Need-returns-6
-returns-6 c = let a = c .before .args in sym (ap (λ (l : Layout). fieldAt l (a .i)) (no-kind (a .kind) (λ l h. omega (arith, kinds-are))))
+returns-6 c = search needs
+
+returns-7 : tie.Need-returns-7
+returns-7 c = let a = c .before .args in sym (ap (λ (l : Layout). fieldAt l (a .i)) (no-kind (a .kind) (λ l h. omega (arith, kinds-are))))
 
 pub field-spec : {M : Type 1} → statement M
 field-spec =
@@ -50,9 +56,11 @@ field-spec =
     harvest-requires
     parameters-requires
     abandoned-requires
+    savanna-requires
     returns
     returns-2
     returns-3
     returns-4
     returns-5
-    returns-6)
+    returns-6
+    returns-7)

@@ -25,7 +25,10 @@ returns-5 : tie.Need-returns-5
 returns-5 c = search needs
 
 returns-6 : tie.Need-returns-6
-returns-6 c = (sym (ap length (no-kind (c .before .args .kind) (λ l h. omega (arith, kinds-are)))), lit≤ tt)
+returns-6 c = search needs
+
+returns-7 : tie.Need-returns-7
+returns-7 c = (sym (ap length (no-kind (c .before .args .kind) (λ l h. omega (arith, kinds-are)))), lit≤ tt)
 
 pub numbers-spec : {M : Type 1} → statement M
-numbers-spec = tie.close (tie.spec returns returns-2 returns-3 returns-4 returns-5 returns-6)
+numbers-spec = tie.close (tie.spec returns returns-2 returns-3 returns-4 returns-5 returns-6 returns-7)

@@ -2,7 +2,7 @@
 use mathlib.Core.Path.{refl}
 use mathlib.Core.List.{flatMap}
 use borrow.Author.Needs.{needs}
-use Rattle.listed.specs.Listed.{listed, listed51, listed52, listed53, listed54, listedPeriods}
+use Rattle.listed.specs.Listed.{listed, listed51, listed52, listed53, listed54, listedPeriods, listed43}
 use Rattle.report.proofs.text.put_figures.Statement.{statement}
 use Rattle.report.proofs.text.put_figures.Tie as tie
 
@@ -10,7 +10,7 @@ slice-aggregate-put-lines : tie.Need-slice-aggregate-put-lines
 slice-aggregate-put-lines c = search needs
 
 put-lines-requires : tie.Need-put-lines-requires
-unfolding flatMap listed listed51 listed52 listed53 listed54 listedPeriods
+unfolding flatMap listed listed51 listed52 listed53 listed54 listedPeriods listed43
 put-lines-requires c κs =
     let s = c .before .before .before in
     (s .pre .0, refl, s .pre .1)

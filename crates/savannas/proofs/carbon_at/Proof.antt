@@ -1,0 +1,37 @@
+-- `savannas::carbon_at` meets its contract. Assumes nothing.
+use Prim.Native.Nat.{_*_}
+use mathlib.Core.Path.{_∙_, ap}
+use lib.Dec.{lit<, lit≤}
+use native.Mathlib.Numerals.{bound}
+use Rattle.wide.proofs.Laws.{is-as}
+use Rattle.savannas.specs.Savannas.{carbonPart}
+use native.Mathlib.Omega.{arith}
+use borrow.Author.Needs.{needs}
+use Rattle.savannas.proofs.carbon_at.Statement.{statement}
+use Rattle.savannas.proofs.carbon_at.Tie as tie
+
+burned-at-requires : tie.Need-burned-at-requires
+burned-at-requires c κs = search needs
+
+of-requires : tie.Need-of-requires
+of-requires c κs = search needs
+
+share-at-requires : tie.Need-share-at-requires
+share-at-requires c κs = search needs
+
+times-requires : tie.Need-times-requires
+times-requires c κs = rw (c .before .of .ensures .number) (grw (bound, c .before .before .burned-at .ensures .1, c .share-at .ensures .1) (lit< tt))
+
+returns : tie.Need-returns
+unfolding carbonPart
+returns c =
+    let s = c .before in
+    let o = s .before in
+    let b = o .before .burned-at .ensures in (
+      is-as (c .times .ensures) (cc (o .of .ensures .number, b .0, s .share-at .ensures .0)),
+      rw (c .times .ensures .number, o .of .ensures .number) (grw (bound, b .1, s .share-at .ensures .1) (lit≤ tt)),
+    )
+
+pub carbon-at-spec : {M : Type 1} → statement M
+carbon-at-spec =
+    tie.close (tie.spec burned-at-requires of-requires share-at-requires times-requires returns)

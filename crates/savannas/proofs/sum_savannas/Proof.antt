@@ -1,0 +1,106 @@
+-- `savannas::sum_savannas` meets its contract. Assumes nothing.
+use Prim.Native.Nat.{ℕ, _-_, _≤_}
+use mathlib.Core.Path.{_≡_}
+use mathlib.Core.Bool.{false}
+use mathlib.Core.List.{List}
+use denote.Ref.{now}
+use lib.Dec.{lit<, lit≤}
+use lib.ListN.{take}
+use Rattle.form.specs.Layout.{savanna, rowAt, aboveLimit}
+use Rattle.form.specs.Verdict.{rows}
+use Rattle.form.proofs.Accepted.{few-counted}
+use Rattle.form.proofs.EachKind.{kinds-are}
+use Rattle.wide.proofs.Laws.{is-as}
+use Rattle.totals.specs.Columns.{sumOf}
+use Rattle.totals.proofs.Accepted.{Stands, kind-row, kept, whole}
+use Rattle.savannas.specs.Savannas.{carbonPart, ch4Part, coPart, n2oPart, noxPart}
+use Rattle.savannas.specs.Sums.{Summed}
+use Rattle.savannas.proofs.Accepted.{sum-room, row-room, turn}
+use borrow.Author.Needs.{needs}
+use native.Mathlib.Omega.{arith}
+use Rattle.savannas.proofs.sum_savannas.Statement.{statement}
+use Rattle.savannas.proofs.sum_savannas.Tie as tie
+
+abbrev Inv-loop : tie.InvT-loop
+Inv-loop bytes first n t₀ i₀ t i = (i ≤ n) × Summed t (take i (rows 6 bytes))
+
+abbrev μ-loop : tie.MeasureT-loop
+μ-loop bytes first n t₀ i₀ t i = n - i
+
+row : (c : tie.After-row-start Inv-loop μ-loop) → Stands (now (c .before .before .before .before .before .before .before .args .bytes)) 6 (c .before .before .loop .i) (c .row-start .result)
+row c =
+    let s = c .before .before .before .before .before .before .before in
+    kind-row (now (s .args .bytes)) (s .args .c) (s .pre) 6 (lit≤ tt) (omega (arith, kinds-are)) (c .before .before .before .before .before .first-block .ensures .0) (search needs) (c .row-start .ensures)
+
+-- within its limits
+within : (c : tie.After-row-start Inv-loop μ-loop) → aboveLimit savanna (rowAt savanna (now (c .before .before .before .before .before .before .before .args .bytes)) (c .row-start .result)) ≡ false
+within c =
+    let s = c .before .before .before .before .before .before .before in
+    let w = row c in
+    rw (← w .row) (kept (now (s .args .bytes)) (s .args .c) (s .pre) 6 (c .before .before .loop .i) (lit≤ tt) (omega (arith, kinds-are)) (w .there))
+
+first-block-requires : tie.Need-first-block-requires Inv-loop μ-loop
+first-block-requires c κs = let s = c .before in (lit< tt, lit< tt, few-counted (now (s .args .bytes)) (s .args .c) (s .pre))
+
+cast-n : tie.Need-cast-n Inv-loop μ-loop
+cast-n c = search needs
+
+of-requires : tie.Need-of-requires Inv-loop μ-loop
+of-requires c κs = search needs
+
+loop-holds : tie.Need-loop-holds Inv-loop μ-loop
+unfolding sumOf
+loop-holds c = let z = c .of .ensures in (search needs, record { carbon = z; ch4 = z; co = z; n2o = z; nox = z })
+
+row-start-requires : tie.Need-row-start-requires Inv-loop μ-loop
+row-start-requires c κs = search needs
+
+row-at-requires : tie.Need-row-at-requires Inv-loop μ-loop
+row-at-requires c κs = (row c .inside, within c)
+
+add-row-requires : tie.Need-add-row-requires Inv-loop μ-loop
+add-row-requires c κs =
+    let s = c .before .before .before .before .before .before .before .before in
+    let l = c .before .before .before .loop in
+    (sum-room (now (s .args .bytes)) (s .args .c) (s .pre) (l .t) (l .i) (l .inv .1), row-room _ _ (within (c .before)) (c .row-at .ensures))
+
+add-i : tie.Need-add-i Inv-loop μ-loop
+add-i c = search needs
+
+loop-less : tie.Need-loop-less Inv-loop μ-loop
+loop-less c = search needs
+
+loop-again : tie.Need-loop-again Inv-loop μ-loop
+loop-again c = (search needs, turn (row (c .before .before)) (c .before .row-at .ensures) (c .before .before .before .before .loop .inv .1) (c .add-row .ensures))
+
+all : (c : tie.After-loop Inv-loop μ-loop) (f : List ℕ → ℕ) → sumOf f (take (c .before .loop .i) (rows 6 (now (c .before .before .before .before .before .before .args .bytes)))) ≡ sumOf f (rows 6 (now (c .before .before .before .before .before .before .args .bytes)))
+all c f = let s = c .before .before .before .before .before .before in whole (now (s .args .bytes)) (s .args .c) (s .pre) f 5 (c .before .loop .i) (omega (arith, kinds-are)) (search needs)
+
+returns : tie.Need-returns Inv-loop μ-loop
+returns c =
+    let e = c .before .loop .inv .1 in
+    record {
+      carbon = is-as (e .carbon) (all c carbonPart);
+      ch4 = is-as (e .ch4) (all c ch4Part);
+      co = is-as (e .co) (all c coPart);
+      n2o = is-as (e .n2o) (all c n2oPart);
+      nox = is-as (e .nox) (all c noxPart);
+    }
+
+pub sum-savannas-spec : {M : Type 1} → statement M
+sum-savannas-spec =
+    tie.close
+    (tie.spec
+    Inv-loop
+    μ-loop
+    first-block-requires
+    cast-n
+    of-requires
+    loop-holds
+    row-start-requires
+    row-at-requires
+    add-row-requires
+    add-i
+    loop-less
+    loop-again
+    returns)
