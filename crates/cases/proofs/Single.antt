@@ -24,11 +24,11 @@ use Rattle.totals.specs.Columns.{sumOf, onsitePart}
 use Rattle.worksheets.specs.Answers.{Outcome, worked, refusal, outcomeOf}
 use Rattle.listed.specs.Listed.{listed51, listed52, listed53, listed54, listedPeriods, listed43, listed, figureCount}
 use Rattle.listed.proofs.Laws.{figureAt}
-use Rattle.cases.specs.Cases.{Complete, Case, refused, largest, table, all-answered}
+use Rattle.cases.specs.Cases.{Complete, Case, caseOf, refused, largest, table, all-answered}
 
 -- case number i of the table, and what its sheets are answered
 abbrev pub nth : ℕ → Case
-nth i = getD table i (refused [] 0 0)
+nth i = getD table i (caseOf (refused [] 0 0))
 
 abbrev sheetsAt : ℕ → List Complete → Outcome
 sheetsAt i l = getD l i (record { sheets = refusal 0 0; doubles = [] }) .sheets

@@ -1,18 +1,23 @@
 -- "Proved as a single table, under one claim about all of it": 01's cases (a) to (j), three of edition 2, four of halves, one of a row thinner in both periods and one of the largest savannas, each a whole return with its complete answer, every figure of it.
--- Where the case is about rows, the return is made of them by the definition of writing; where it is about bytes, the bytes stand here.
+-- Where the case is about rows, the return is made of them by the definition of writing; where it is about bytes, the bytes stand here. An accepted return of rows is answered from the rows (FromRows), any other from its bytes.
 use Prim.Native.Nat.{ℕ, zero, suc}
-use mathlib.Core.Path.{_≡_, refl, sym, ap₂, _∙_}
-use mathlib.Core.List.{List, [], _∷_, _++_, map, map-append}
-use lib.ListN.{replicate, take, drop}
+use mathlib.Core.Path.{_≡_, refl, ap, ap₂, _∙_}
+use mathlib.Core.List.{List, [], _∷_, _++_, map, flatten}
+use lib.ListN.{length, getD, replicate, take, drop}
 use lib.IntN.{ℤ, pos, negsuc}
 use lib.Ieee.{binary64, add, mul, ofInt, toBits}
 use Rattle.form.specs.Bytes.{number, littleEndian}
 use Rattle.form.specs.Layout.{rowFrom}
+use Rattle.form.specs.Ruling.{ruling}
 use Rattle.form.specs.Block.{weighed}
+use Rattle.form.specs.Standing.{rowsFrom}
 use Rattle.form.specs.Records.{countedDifference, rowsBelow}
 use Rattle.form.specs.Computed.{computed}
-use Rattle.filing.specs.Lists.{cut, filedList, behind, filedFrom}
+use Rattle.form.specs.declared.Ruling.{Ruling}
+use Rattle.form.specs.declared.Ruling.the-variants.{Clean}
+use Rattle.filing.specs.Lists.{Lists, cut, total, filedList, behind, filedFrom}
 use Rattle.filing.specs.Written.{recordFrom, inTurn, headOf, sealed, recordOn, usedFrom, bodyOf, blockOf, bytesOf}
+use Rattle.lists.specs.Rules.{badList, badLengths, notAllowed, listRules}
 use Rattle.lists.specs.Examples.{dayLengths, dayArea}
 use Rattle.rows.specs.Writing.{written}
 use Rattle.wide.specs.Rounding.{evenOf, settled}
@@ -22,9 +27,10 @@ use Rattle.savannas.specs.Savannas.{carbonShare, carbonPart, ch4Part, coPart, n
 use Rattle.savannas.specs.Sheet.{Sheet43, savannasOf}
 use Rattle.worksheets.specs.Sheets.{standard, parameterNumbers, Sheet51, Sheet52, Sheet53, Sheet54, stocksOf, conversionOf, gasesOf, abandonedOf}
 use Rattle.worksheets.specs.Answers.{Outcome, worked, refusal, outcomeOf}
-use Rattle.doubles.specs.Subtotals.{onsiteDouble, offsiteDouble, decayDouble, addRows, answerOf}
+use Rattle.doubles.specs.Subtotals.{onsiteDouble, offsiteDouble, decayDouble, addRows, subtotalsOf, answerOf}
 use Rattle.doubles.specs.declared.Answer.{Answer}
 use Rattle.doubles.specs.declared.Answer.the-variants.{Figures, Refused}
+use Rattle.cases.specs.FromRows.{rowsGiven, figuresFrom, sheets-from-rows, doubles-from-rows}
 
 -- a complete answer: the sheets, or the refusal; and the bits of the three doubles, on site, off site and decayed, or none
 pub record Complete : Type 0 where
@@ -44,19 +50,34 @@ pub record Case : Type 0 where
   pub bytes : List ℕ
   pub answer : Complete
 
-abbrev pub worked-all : List ℕ → Sheet51 → Sheet52 → Sheet53 → Sheet54 → Sheet43 → List ℕ → Case
-worked-all s a b c l v d = record { bytes = s; answer = record { sheets = worked (record { stocks = a; conversion = b; gases = c; abandoned = l; savannas = v }); doubles = d } }
+-- a case as the table has it: rows that are written in an edition, or bytes, and the answer
+pub data Entry : Type 0 where
+  of-rows : ℕ → Lists → Complete → Entry
+  of-bytes : List ℕ → Complete → Entry
+
+abbrev pub caseOf : Entry → Case
+caseOf (of-rows edition l a) = record { bytes = written edition l; answer = a }
+caseOf (of-bytes s a) = record { bytes = s; answer = a }
+
+abbrev figured : Sheet51 → Sheet52 → Sheet53 → Sheet54 → Sheet43 → List ℕ → Complete
+figured a b c l v d = record { sheets = worked (record { stocks = a; conversion = b; gases = c; abandoned = l; savannas = v }); doubles = d }
+
+abbrev pub worked-all : ℕ → Lists → Sheet51 → Sheet52 → Sheet53 → Sheet54 → Sheet43 → List ℕ → Entry
+worked-all edition rows a b c l v d = of-rows edition rows (figured a b c l v d)
 
 -- savannas, in the order of their lines
 abbrev pub sheet43 : ℕ → ℕ → ℕ → ℕ → ℕ → Sheet43
 sheet43 b h c n x = record { carbon = b; ch4 = h; co = c; n2o = n; nox = x }
 
 -- with none
-abbrev pub worked-out : List ℕ → Sheet51 → Sheet52 → Sheet53 → Sheet54 → List ℕ → Case
-worked-out s a b c l d = worked-all s a b c l (sheet43 0 0 0 0 0) d
+abbrev none43 : Sheet43
+none43 = sheet43 0 0 0 0 0
 
-abbrev pub refused : List ℕ → ℕ → ℕ → Case
-refused s n p = record { bytes = s; answer = record { sheets = refusal n p; doubles = [] } }
+abbrev pub worked-out : ℕ → Lists → Sheet51 → Sheet52 → Sheet53 → Sheet54 → List ℕ → Entry
+worked-out edition rows a b c l d = worked-all edition rows a b c l none43 d
+
+abbrev pub refused : List ℕ → ℕ → ℕ → Entry
+refused s n p = of-bytes s (record { sheets = refusal n p; doubles = [] })
 
 -- the lines of 01, in their order
 abbrev pub sheet51 : ℕ → ℕ → ℕ → ℤ → ℤ → ℤ → ℤ → ℤ → Sheet51
@@ -112,12 +133,12 @@ unfoldable pub largest : ℕ → ℕ → List ℕ
 largest i zero = []
 largest i (suc n) = row i 1000000 10000 0 1000 ++ largest (suc i) n
 
--- a return of conversion rows alone, and of stock and harvest rows alone, with the default parameters
-abbrev converted : List ℕ → List ℕ
-converted c = written 1 (c ∷ [] ∷ [] ∷ defaults ∷ [] ∷ [] ∷ [])
+-- conversion rows alone, and stock and harvest rows alone, with the default parameters
+abbrev converted : List ℕ → Lists
+converted c = c ∷ [] ∷ [] ∷ defaults ∷ [] ∷ [] ∷ []
 
-abbrev grown : List ℕ → List ℕ → List ℕ
-grown s h = written 1 ([] ∷ s ∷ h ∷ defaults ∷ [] ∷ [] ∷ [])
+abbrev grown : List ℕ → List ℕ → Lists
+grown s h = [] ∷ s ∷ h ∷ defaults ∷ [] ∷ [] ∷ []
 
 -- 10 kha growing 6.8 t/ha a year, half of it carbon; and 20 kha, abandoned longer, growing 3 t/ha, 0.45 of it carbon
 abbrev land : List ℕ
@@ -138,37 +159,37 @@ largestFires i (suc n) =
     i ∷ 1000000 ∷ 10000 ∷ 1000 ∷ 500 ∷ 1000 ∷ 1000 ∷ 1000 ∷ 1000 ∷ 1000 ∷ 1000 ∷ 1000 ∷ 1000 ∷ 1000
     ∷ largestFires (suc i) n
 
--- the worked day's rows with a row of grass behind its conversion row, and a row of abandoned land and one of savanna behind all, in an edition
-abbrev with-land : ℕ → List ℕ
-with-land edition = written edition (cut (30 ∷ 5 ∷ 5 ∷ 6 ∷ 7 ∷ 14 ∷ []) (take 15 dayArea ++ (grass ++ (drop 15 dayArea ++ (land ++ burning)))))
+-- the worked day's rows with a row of grass behind its conversion row, and a row of abandoned land and one of savanna behind all
+abbrev with-land : Lists
+with-land = cut (30 ∷ 5 ∷ 5 ∷ 6 ∷ 7 ∷ 14 ∷ []) (take 15 dayArea ++ (grass ++ (drop 15 dayArea ++ (land ++ burning))))
 
 -- thinner before than after in both periods, on areas that would count
 abbrev twice-thinner : List ℕ
 twice-thinner = 1 ∷ 7 ∷ 49 ∷ 100 ∷ 500 ∷ 900 ∷ 450 ∷ 300 ∷ 900 ∷ 450 ∷ 7 ∷ 0 ∷ 1 ∷ 200 ∷ 450 ∷ []
 
 -- an area burned whole, at a difference of 1 and a fraction of 250, and land that was given up, at a growth of 10 and a carbon fraction of 100
-abbrev burned : ℕ → ℕ → List ℕ
-burned area young = written 2 (row 1 area 1 0 250 ∷ [] ∷ [] ∷ defaults ∷ (1 ∷ young ∷ 10 ∷ 100 ∷ 0 ∷ 0 ∷ 0 ∷ []) ∷ [] ∷ [])
+abbrev burned : ℕ → ℕ → Lists
+burned area young = row 1 area 1 0 250 ∷ [] ∷ [] ∷ defaults ∷ (1 ∷ young ∷ 10 ∷ 100 ∷ 0 ∷ 0 ∷ 0 ∷ []) ∷ [] ∷ []
 
-abbrev table01 : List Case
+abbrev table01 : List Entry
 table01 =
     -- (a) "this day"
-    worked-out (written 1 (cut dayLengths dayArea))
+    worked-out 1 (cut dayLengths dayArea)
     (sheet51 340000000 775000 36000000 (pos 41500000) (pos 20750000000) (pos 13250000000) (pos 48583) (negsuc 48582))
     (sheet52 32400000000000 16200000000000 48600000000000 40500000000000 326700 0)
     (sheet53 518 4536 4 129)
     none54
     (4809131602776948736 ∷ 4804628003149578240 ∷ 4810524802404319232 ∷ [])
     -- (b) "the lone parameter block of zero values, check 18: all figures 0"
-    ∷ worked-out (lone 18) none51 none52 none53 none54 zeros
+    ∷ of-bytes (lone 18) (figured none51 none52 none53 none54 none43 zeros)
     -- (c) "P = 1,500,000 gives Q = 6": a stock row of 15 x 100 x 10
-    ∷ worked-out (grown (1 ∷ 0 ∷ 100 ∷ 15 ∷ 10 ∷ []) []) (sheet51 15000 0 0 (pos 0) (pos 0) (pos 1500000) (pos 6) (negsuc 5)) none52 none53 none54 zeros
+    ∷ worked-out 1 (grown (1 ∷ 0 ∷ 100 ∷ 15 ∷ 10 ∷ []) []) (sheet51 15000 0 0 (pos 0) (pos 0) (pos 1500000) (pos 6) (negsuc 5)) none52 none53 none54 zeros
     -- (d) "P = -1,500,000 gives -6": a harvest row with F 30 and G 1, at N 500
-    ∷ worked-out (grown [] (1 ∷ 30 ∷ 1 ∷ 0 ∷ 0 ∷ [])) (sheet51 0 30 0 (pos 3000) (pos 1500000) (negsuc 1499999) (negsuc 5) (pos 6)) none52 none53 none54 zeros
+    ∷ worked-out 1 (grown [] (1 ∷ 30 ∷ 1 ∷ 0 ∷ 0 ∷ [])) (sheet51 0 30 0 (pos 3000) (pos 1500000) (negsuc 1499999) (negsuc 5) (pos 6)) none52 none53 none54 zeros
     -- (e) "1.5 x 10^9 units of conversion carbon give 6 tonnes": an area of 15, a difference of 100, a fraction of 1, all of it oxidised and carbon
-    ∷ worked-out (converted (row 1 15 100 0 1)) none51 (sheet52 1500000000 0 1500000000 0 6 0) none53 none54 (4744078263993761792 ∷ 0 ∷ 0 ∷ [])
+    ∷ worked-out 1 (converted (row 1 15 100 0 1)) none51 (sheet52 1500000000 0 1500000000 0 6 0) none53 none54 (4744078263993761792 ∷ 0 ∷ 0 ∷ [])
     -- (f) "32 largest on-site rows give 3.2 x 10^20"
-    ∷ worked-out (converted (largest 1 32)) none51
+    ∷ worked-out 1 (converted (largest 1 32)) none51
     (sheet52 320000000000000000000 0 320000000000000000000 0 1173333333333 0)
     (sheet53 5120000000 44800000000 35200000 1272228571)
     none54
@@ -176,21 +197,21 @@ table01 =
     -- (g) "(b) with check 17 is refused 2, place 0"
     ∷ refused (lone 17) 2 0
     -- (h) "fractions 500, 300, 200 pass, and 500, 300, 201 are refused 7"
-    ∷ worked-out (converted (split 500 300 200)) none51 none52 none53 none54 zeros
-    ∷ refused (converted (split 500 300 201)) 7 0
+    ∷ worked-out 1 (converted (split 500 300 200)) none51 none52 none53 none54 zeros
+    ∷ refused (written 1 (converted (split 500 300 201))) 7 0
     -- (i) "before 100, after 100 passes with zero", and since "case (i) changes" so does after 101, counted as thinner
-    ∷ worked-out (converted (row 1 1 100 100 1000)) none51 none52 none53 none54 zeros
-    ∷ worked-out (converted (row 1 1 100 101 1000)) none51 (thin52 1) none53 none54 zeros
+    ∷ worked-out 1 (converted (row 1 1 100 100 1000)) none51 none52 none53 none54 zeros
+    ∷ worked-out 1 (converted (row 1 1 100 101 1000)) none51 (thin52 1) none53 none54 zeros
     -- (j) "511 bytes are refused 1"
     ∷ refused (replicate 511 0) 1 0
     ∷ []
 
 -- and of edition 2
-abbrev table-1 : List Case
+abbrev table-1 : List Entry
 table-1 =
     -- the day in edition 2 with a row of grass, which is thinner in its one period, one of abandoned land, 34 + 27 kt C by 11/3, and one of savanna: (a)'s figures, and
     -- 29,750,000 x (162,000,000 + 220,000,000), which is 60.6, 1,591.03, 0.75 and 27.1 t
-    worked-all (with-land 2)
+    worked-all 2 with-land
     (sheet51 340000000 775000 36000000 (pos 41500000) (pos 20750000000) (pos 13250000000) (pos 48583) (negsuc 48582))
     (sheet52 32400000000000 16200000000000 48600000000000 40500000000000 326700 1)
     (sheet53 518 4536 4 129)
@@ -198,37 +219,58 @@ table-1 =
     (sheet43 11364500000000000 61 1591 1 27)
     (4809131602776948736 ∷ 4804628003149578240 ∷ 4810524802404319232 ∷ [])
     -- the same rows in edition 1: "3 for .. a kind above 4 in edition 1", at the block of abandoned land
-    ∷ refused (with-land 1) 3 4
+    ∷ refused (written 1 with-land) 3 4
     -- edition 2 that ends with a harvest row: "4 .. a last block below kind 4"
     ∷ refused (written 2 ([] ∷ [] ∷ (1 ∷ 30 ∷ 1 ∷ 0 ∷ 0 ∷ []) ∷ [] ∷ [] ∷ [] ∷ [])) 4 0
     ∷ []
 
 -- and of halves, which go to the even neighbour
-abbrev table-2 : List Case
+abbrev table-2 : List Entry
 table-2 =
     -- "P = 4,500,000 then gives 16, not 17"; and below zero
-    worked-out (grown (1 ∷ 0 ∷ 100 ∷ 45 ∷ 10 ∷ []) []) (sheet51 45000 0 0 (pos 0) (pos 0) (pos 4500000) (pos 16) (negsuc 15)) none52 none53 none54 zeros
-    ∷ worked-out (grown [] (1 ∷ 90 ∷ 1 ∷ 0 ∷ 0 ∷ [])) (sheet51 0 90 0 (pos 9000) (pos 4500000) (negsuc 4499999) (negsuc 15) (pos 16)) none52 none53 none54 zeros
+    worked-out 1 (grown (1 ∷ 0 ∷ 100 ∷ 45 ∷ 10 ∷ []) []) (sheet51 45000 0 0 (pos 0) (pos 0) (pos 4500000) (pos 16) (negsuc 15)) none52 none53 none54 zeros
+    ∷ worked-out 1 (grown [] (1 ∷ 90 ∷ 1 ∷ 0 ∷ 0 ∷ [])) (sheet51 0 90 0 (pos 9000) (pos 4500000) (negsuc 4499999) (negsuc 15) (pos 16)) none52 none53 none54 zeros
     -- 0.5 tonnes of CH4 go down to 0, and an uptake of 5.5 up to 6
-    ∷ worked-out (burned 125 15) none51 (sheet52 31250000000 0 31250000000 0 115 0) (sheet53 0 4 0 0) (sheet54 15000 6) (4763993206503243776 ∷ 0 ∷ 0 ∷ [])
+    ∷ worked-out 2 (burned 125 15) none51 (sheet52 31250000000 0 31250000000 0 115 0) (sheet53 0 4 0 0) (sheet54 15000 6) (4763993206503243776 ∷ 0 ∷ 0 ∷ [])
     -- 1.5 tonnes of CH4 go up to 2, and an uptake of 16.5 down to 16
-    ∷ worked-out (burned 375 45) none51 (sheet52 93750000000 0 93750000000 0 344 0) (sheet53 2 13 0 0) (sheet54 45000 16) (4770952405757984768 ∷ 0 ∷ 0 ∷ [])
+    ∷ worked-out 2 (burned 375 45) none51 (sheet52 93750000000 0 93750000000 0 344 0) (sheet53 2 13 0 0) (sheet54 45000 16) (4770952405757984768 ∷ 0 ∷ 0 ∷ [])
     ∷ []
 
 -- a row thinner in both periods counts 2
-abbrev table-3 : List Case
-table-3 = worked-out (converted twice-thinner) none51 (thin52 2) none53 none54 zeros ∷ []
+abbrev table-3 : List Entry
+table-3 = worked-out 1 (converted twice-thinner) none51 (thin52 2) none53 none54 zeros ∷ []
 
 -- 32 of the largest savanna rows: 10^22 each, beyond one word
-abbrev table-5 : List Case
+abbrev table-5 : List Entry
 table-5 =
-    worked-all (written 2 ([] ∷ [] ∷ [] ∷ defaults ∷ [] ∷ largestFires 1 32 ∷ [])) none51 none52 none53 none54
+    worked-all 2 ([] ∷ [] ∷ [] ∷ defaults ∷ [] ∷ largestFires 1 32 ∷ []) none51 none52 none53 none54
     (sheet43 320000000000000000000000 426666666667 746666666667 502857142857 1051428571429)
     zeros
     ∷ []
 
+abbrev entries : List Entry
+entries = table01 ++ (table-1 ++ (table-2 ++ (table-3 ++ table-5)))
+
 abbrev pub table : List Case
-table = table01 ++ (table-1 ++ (table-2 ++ (table-3 ++ table-5)))
+table = map caseOf entries
+
+-- what is to be computed of a case, and what it is to be: that no rule refuses the rows, with the answer that they have
+abbrev worksOut : Entry → Ruling × Complete
+worksOut (of-rows edition l a) = (
+  ruling (listRules edition (map length l) (flatten l)),
+  record { sheets = worked (figuresFrom (rowsGiven l 1) (rowsGiven l 2) (rowsGiven l 3) (rowsGiven l 4) (rowsGiven l 5) (rowsGiven l 6)); doubles = bitsOf (Figures (subtotalsOf (rowsGiven l 1))) },
+)
+worksOut (of-bytes s a) = (Clean, completeOf s)
+
+abbrev wanted : Entry → Ruling × Complete
+wanted e = (Clean, caseOf e .answer)
+
+due-said : (e : Entry) → worksOut e ≡ wanted e → completeOf (caseOf e .bytes) ≡ caseOf e .answer
+due-said (of-rows edition l a) p =
+    let clean = ap (λ (x : Ruling × Complete). x .0) p in
+    ap₂ (λ (o : Outcome) (d : Answer). record { sheets = o; doubles = bitsOf d }) (sheets-from-rows edition l clean) (doubles-from-rows edition l clean)
+    ∙ ap (λ (x : Ruling × Complete). x .1) p
+due-said (of-bytes s a) p = ap (λ (x : Ruling × Complete). x .1) p
 
 -- what is to be answered, and what is written beside it
 abbrev dueOf : Case → Complete
@@ -237,33 +279,18 @@ dueOf c = completeOf (c .bytes)
 abbrev said : Case → Complete
 said c = c .answer
 
-answered01 : map dueOf table01 ≡ map said table01
-unfolding toBits ofInt mul add onsiteDouble offsiteDouble decayDouble addRows largest largestFires computed cut filedList behind filedFrom littleEndian recordFrom inTurn headOf sealed weighed recordOn usedFrom bodyOf blockOf bytesOf rowsBelow rowFrom number evenOf settled sumOf stockPart harvestPart clearedPart onsitePart offsitePart decayPart countedDifference thinnerPart stocksOf conversionOf gasesOf abandonedOf abandonedPart savannasOf carbonShare carbonPart ch4Part coPart n2oPart noxPart
-answered01 = refl
+-- case by case along the list
+in-turn : (es : List Entry) → map worksOut es ≡ map wanted es → map dueOf (map caseOf es) ≡ map said (map caseOf es)
+in-turn [] p = refl
+in-turn (e ∷ es) p =
+    ap₂ (λ (x : Complete) (xs : List Complete). x ∷ xs)
+    (due-said e (ap (λ (l : List (Ruling × Complete)). getD l 0 (wanted e)) p))
+    (in-turn es (ap (λ (l : List (Ruling × Complete)). drop 1 l) p))
 
-answered-1 : map dueOf table-1 ≡ map said table-1
-unfolding toBits ofInt mul add onsiteDouble offsiteDouble decayDouble addRows largest largestFires computed cut filedList behind filedFrom littleEndian recordFrom inTurn headOf sealed weighed recordOn usedFrom bodyOf blockOf bytesOf rowsBelow rowFrom number evenOf settled sumOf stockPart harvestPart clearedPart onsitePart offsitePart decayPart countedDifference thinnerPart stocksOf conversionOf gasesOf abandonedOf abandonedPart savannasOf carbonShare carbonPart ch4Part coPart n2oPart noxPart
-answered-1 = refl
-
-answered-2 : map dueOf table-2 ≡ map said table-2
-unfolding toBits ofInt mul add onsiteDouble offsiteDouble decayDouble addRows largest largestFires computed cut filedList behind filedFrom littleEndian recordFrom inTurn headOf sealed weighed recordOn usedFrom bodyOf blockOf bytesOf rowsBelow rowFrom number evenOf settled sumOf stockPart harvestPart clearedPart onsitePart offsitePart decayPart countedDifference thinnerPart stocksOf conversionOf gasesOf abandonedOf abandonedPart savannasOf carbonShare carbonPart ch4Part coPart n2oPart noxPart
-answered-2 = refl
-
-answered-3 : map dueOf table-3 ≡ map said table-3
-unfolding toBits ofInt mul add onsiteDouble offsiteDouble decayDouble addRows largest largestFires computed cut filedList behind filedFrom littleEndian recordFrom inTurn headOf sealed weighed recordOn usedFrom bodyOf blockOf bytesOf rowsBelow rowFrom number evenOf settled sumOf stockPart harvestPart clearedPart onsitePart offsitePart decayPart countedDifference thinnerPart stocksOf conversionOf gasesOf abandonedOf abandonedPart savannasOf carbonShare carbonPart ch4Part coPart n2oPart noxPart
-answered-3 = refl
-
-answered-5 : map dueOf table-5 ≡ map said table-5
-unfolding toBits ofInt mul add onsiteDouble offsiteDouble decayDouble addRows largest largestFires computed cut filedList behind filedFrom littleEndian recordFrom inTurn headOf sealed weighed recordOn usedFrom bodyOf blockOf bytesOf rowsBelow rowFrom number evenOf settled sumOf stockPart harvestPart clearedPart onsitePart offsitePart decayPart countedDifference thinnerPart stocksOf conversionOf gasesOf abandonedOf abandonedPart savannasOf carbonShare carbonPart ch4Part coPart n2oPart noxPart
-answered-5 = refl
-
-both : (xs ys : List Case) → map dueOf xs ≡ map said xs → map dueOf ys ≡ map said ys → map dueOf (xs ++ ys) ≡ map said (xs ++ ys)
-both xs ys p q = map-append dueOf xs ys ∙ ap₂ (λ (a b : List Complete). a ++ b) p q ∙ sym (map-append said xs ys)
+all-worked : map worksOut entries ≡ map wanted entries
+unfolding toBits ofInt mul add onsiteDouble offsiteDouble decayDouble addRows largest largestFires computed cut filedList behind filedFrom littleEndian recordFrom inTurn headOf sealed weighed recordOn usedFrom bodyOf blockOf bytesOf rowsBelow rowFrom number evenOf settled sumOf stockPart harvestPart clearedPart onsitePart offsitePart decayPart countedDifference thinnerPart stocksOf conversionOf gasesOf abandonedOf abandonedPart savannasOf figuresFrom rowsFrom flatten total badList badLengths notAllowed listRules carbonShare carbonPart ch4Part coPart n2oPart noxPart
+all-worked = refl
 
 -- every return of the table has the answer beside it, as the checker computes them
 pub all-answered : map (λ (c : Case). completeOf (c .bytes)) table ≡ map (λ (c : Case). c .answer) table
-all-answered =
-    both table01 (table-1 ++ (table-2 ++ (table-3 ++ table-5))) answered01
-    (both table-1 (table-2 ++ (table-3 ++ table-5)) answered-1
-    (both table-2 (table-3 ++ table-5) answered-2
-    (both table-3 table-5 answered-3 answered-5)))
+all-answered = in-turn entries all-worked

@@ -1,6 +1,6 @@
 -- "One day's return, whole": the worked day of 01, from its rows to its bytes and back.
-use Prim.Native.Nat.{ℕ}
-use mathlib.Core.Path.{_≡_, refl}
+use Prim.Native.Nat.{ℕ, suc}
+use mathlib.Core.Path.{_≡_, refl, sym, ap, subst, _∙_}
 use mathlib.Core.List.{List, [], _∷_, _++_, flatten}
 use lib.ListN.{replicate}
 use Rattle.form.specs.First.{first}
@@ -10,14 +10,19 @@ use Rattle.form.specs.Layout.{kinds, rowFrom, aboveLimit}
 use Rattle.form.specs.Edition.{lastKind}
 use Rattle.form.specs.Block.{weighed}
 use Rattle.form.specs.Records.{badId, brokenBy, rowsBelow}
-use Rattle.form.specs.Computed.{computed}
+use Rattle.form.specs.Verdict.{countBelow, countsOf, verdictOf}
+use Rattle.form.specs.declared.Counts.{Counts}
+use Rattle.form.specs.declared.Ruling.the-variants.{Clean}
+use Rattle.form.specs.declared.Spot.the-variants.{At, Nowhere}
 use Rattle.form.specs.declared.Verdict.the-variants.{Accepted, Refused}
 use Rattle.filing.specs.Lists.{cut, total, filedList, behind, filedFrom}
 use Rattle.filing.specs.Written.{recordFrom, inTurn, headOf, sealed, recordOn, usedFrom, bodyOf, blockOf, bytesOf}
 use Rattle.lists.specs.Rules.{badList, badLengths, notAllowed, listRules}
 use Rattle.lists.specs.Examples.{parametersDay, dayLengths, dayArea}
-use Rattle.rows.specs.Reading.{readAnswer, roomAfter}
-use Rattle.rows.specs.Writing.{writeAnswer, bytesAfter}
+use Rattle.rows.specs.Reading.{outgrown, readAnswer, roomAfter}
+use Rattle.rows.specs.Writing.{written, writeAnswer, bytesAfter}
+use Rattle.rows.proofs.Rows.{short, all-read}
+use Rattle.trips.proofs.RoundTrips.{accepted-again}
 use Rattle.worksheets.specs.Sheets.{standard, parameterNumbers}
 use Rattle.rows.specs.declared.Written.{Written}
 use Rattle.rows.specs.declared.Written.the-variants as write
@@ -48,19 +53,49 @@ short-bytes : writeAnswer 1 dayLengths dayArea (replicate 2047 9) ≡ write.Refu
 unfolding answered
 short-bytes = refl
 
+-- its edition and its row counts
+abbrev dayCounts : Counts
+dayCounts = record { edition = 1; conversion = 1; stock = 1; harvest = 1; parameters = 1; abandoned = 0; savanna = 0 }
+
+-- judged by the round trip, and so but once: its bytes are what is written of its rows, which no rule refuses
+day-clean : ruling (listRules 1 dayLengths dayArea) ≡ Clean
+unfolding answered
+day-clean = refl
+
+day-is : written 1 (cut dayLengths dayArea) ≡ day
+unfolding answered
+day-is = refl
+
+day-counts : countsOf day ≡ dayCounts
+unfolding number countBelow
+day-counts = refl
+
+day-judged : verdictOf day ≡ Accepted dayCounts
+day-judged =
+    subst (λ (s : List ℕ). verdictOf s ≡ Accepted (countsOf s)) day-is (accepted-again 1 dayLengths dayArea day-clean) ∙ ap Accepted day-counts
+
 -- read to a room of one number more than the rows need, and to rooms that end inside a kind's rows
+fits : first (outgrown day 32) (suc kinds) ≡ Nowhere
+unfolding first kinds rowsBelow rowFrom number flatten inTurn
+fits = refl
+
 pub day-read : readAnswer day (replicate 32 9) ≡ Accepted (record { edition = 1; conversion = 1; stock = 1; harvest = 1; parameters = 1; abandoned = 0; savanna = 0 })
-unfolding computed readAnswer rowsBelow inTurn flatten
-day-read = refl
+day-read = sym (all-read day (replicate 32 9) dayCounts day-judged fits)
 
 pub day-rows : roomAfter day (replicate 32 9) (Accepted (record { edition = 1; conversion = 1; stock = 1; harvest = 1; parameters = 1; abandoned = 0; savanna = 0 })) ≡ dayArea ++ (9 ∷ [])
 unfolding kinds rowsBelow rowFrom number flatten inTurn
 day-rows = refl
 
+harvest-outgrown : first (outgrown day 24) (suc kinds) ≡ At 3
+unfolding first kinds rowsBelow rowFrom number flatten inTurn
+harvest-outgrown = refl
+
 short-room : readAnswer day (replicate 24 9) ≡ Refused 9 3
-unfolding computed readAnswer rowsBelow inTurn flatten
-short-room = refl
+short-room = sym (short day (replicate 24 9) dayCounts day-judged harvest-outgrown)
+
+conversion-outgrown : first (outgrown day 0) (suc kinds) ≡ At 1
+unfolding first kinds rowsBelow rowFrom number flatten inTurn
+conversion-outgrown = refl
 
 no-room : readAnswer day [] ≡ Refused 9 1
-unfolding computed readAnswer rowsBelow inTurn flatten
-no-room = refl
+no-room = sym (short day [] dayCounts day-judged conversion-outgrown)

@@ -1,11 +1,11 @@
 -- THE FIRST ROUND TRIP: row lists that break no rule, written and read again, are themselves. Assumes nothing.
 --     accepted-back    the bytes written are accepted; counts-back, with the counts of the rows
---     rows-back        and their rows are the lists; edition-back, in their edition
+--     rows-back        and their rows are the lists; edition-back, in their edition; each-back, the rows of a kind one by one
 use Prim.Native.Nat.{ℕ, zero, suc, _+_, _-_, _*_, _/_, _%_, _<_, _≤_, min}
 use mathlib.Core.Path.{_≡_, refl, sym, ap, ap₂, subst, _∙_}
 use mathlib.Core.Bool.{true, false}
-use mathlib.Core.List.{List, [], flatten}
-use native.Mathlib.Nat.{zero-add, mul-suc, mul-zero, div-add-mod, zero-div}
+use mathlib.Core.List.{List, [], _∷_, flatten}
+use native.Mathlib.Nat.{add-zero, zero-add, mul-suc, mul-zero, div-add-mod, zero-div}
 use native.Mathlib.Decide.{decLt, ℕ-discrete}
 use native.Mathlib.Numerals.{add-one}
 use native.Mathlib.Omega.{arith}
@@ -16,9 +16,9 @@ use borrow.Author.Tests.{lt-ltb, le-ltb, lt-leb, eq-eqb, ne-eqb, ltb-true, eqb-t
 use Rattle.form.specs.Layout.{kinds, parametersKind, numbersOf}
 use Rattle.form.specs.Edition.{lastKind}
 use Rattle.form.specs.Block.{longest, blocks, kindOf, countOf, edition, blocksBelow, badLength, badCheck, badHeader, kindFalls, lowBehind, endsLow, noneBefore, earlier, badCount, notFilled, overFilled, strayRecord, stray, badBlock}
-use Rattle.form.specs.Records.{filed, recordRules}
+use Rattle.form.specs.Records.{Filed, filed, recordRules}
 use Rattle.form.specs.Verdict.{blockRules, countBelow, rowCount, rows, countsOf, verdictOf}
-use Rattle.form.specs.Standing.{blocksFor, startBlock, startPlace}
+use Rattle.form.specs.Standing.{blocksFor, startBlock, startPlace, rowsFrom}
 use Rattle.form.specs.declared.Verdict.the-variants.{Accepted}
 use Rattle.form.proofs.Search.{any-none}
 use Rattle.form.proofs.Order.{Kept, AllKept, more, ruling-clean, clean-ruling}
@@ -63,6 +63,19 @@ turn-take w r i (suc n) =
     let q : w * suc n ≡ w + w * n = omega (arith, mul-suc w n) in
     let p : w * suc i ≡ w * i + w = mul-suc w i in
     rw (turn-take w r (suc i) n, q, p, take-add w (w * n) (drop (w * i) r), drop-drop w (w * i) r)
+
+-- the rows at places, each by its equal
+from-same : (f g : Filed) (i j n : ℕ) → ((k : ℕ) → k < n → f .row (i + k) ≡ g .row (j + k)) → rowsFrom f i n ≡ rowsFrom g j n
+unfolding rowsFrom
+from-same f g i j zero h = refl
+from-same f g i j (suc n) h =
+    ap₂ (λ (x : List ℕ) (y : List (List ℕ)). x ∷ y)
+    (rw (add-zero i, add-zero j) at (h 0 (omega arith)))
+    (from-same f g (suc i) (suc j) n
+    (λ k l.
+    let a : suc i + k ≡ i + suc k = omega arith in
+    let b : suc j + k ≡ j + suc k = omega arith in
+    rw (a, b) (h (suc k) (omega arith))))
 
 module _ (ed : ℕ) (l : Lists) (ok : Clear ed l) where
   -- their return
@@ -294,3 +307,11 @@ module _ (ed : ℕ) (l : Lists) (ok : Clear ed l) where
 
   pub rows-back : rowLists s ≡ l
   rows-back = lists-back kinds 0 (omega arith)
+
+  pub each-back : (k : ℕ) → k < kinds → rows (suc k) s ≡ rowsFrom (filedList (suc k) (ofKind l (suc k))) 0 (rowsIn (suc k) (length (ofKind l (suc k))))
+  unfolding filedList
+  each-back k h =
+      let r = ofKind l (suc k) in
+      rows-are s (countsOf s) accepted-back (suc k)
+      ∙ ap₂ (λ (j m : ℕ). rowsFrom (filed s) j m) (ap (λ (x : ℕ). 12 * x) (start-is k h)) (counts-back k h)
+      ∙ from-same (filed s) (filedList (suc k) r) (12 * startOf l k) 0 (rowsIn (suc k) (length r)) (λ i m. row-is k i h m)

@@ -1,5 +1,6 @@
 -- THE ROUND TRIPS, over all rows and all bytes, about the definitions that the contracts of rows::write and rows::read cite. Assumes nothing.
 --     accepted-again, edition-again, counts-again, rows-again    written and read: accepted, with the edition, the counts and the rows
+--     lists-accepted, lists-rows                  the same of row lists that lie by themselves, their rows one by one
 --     clean-again, bytes-again                    read and written: no rule broken, and the same bytes
 use Prim.Native.Nat.{ℕ, zero, suc, _<_}
 use mathlib.Core.Path.{_≡_, refl, sym, ap, subst, _∙_}
@@ -10,19 +11,20 @@ use Rattle.form.specs.Ruling.{ruling}
 use Rattle.form.specs.Bytes.{byteAt}
 use Rattle.form.specs.Layout.{kinds}
 use Rattle.form.specs.Block.{edition}
-use Rattle.form.specs.Verdict.{rowCount, countsOf, verdictOf}
+use Rattle.form.specs.Verdict.{rowCount, rows, countsOf, verdictOf}
+use Rattle.form.specs.Standing.{rowsFrom}
 use Rattle.form.specs.declared.Counts.{Counts}
 use Rattle.form.specs.declared.Ruling.the-variants.{Clean}
 use Rattle.form.specs.declared.Verdict.the-variants.{Accepted}
 use Rattle.form.proofs.Accepted.{accepted-counts}
-use Rattle.filing.specs.Lists.{cut, rowsIn}
+use Rattle.filing.specs.Lists.{Lists, ofKind, cut, rowsIn, filedList}
 use Rattle.filing.specs.Written.{inTurn}
 use Rattle.filing.proofs.Cut.{cut-long, flat-cut, cut-flat}
 use Rattle.lists.specs.Rules.{Good, listRules}
 use Rattle.rows.specs.Reading.{rowsOf, areaTo, listsFrom, rowLists, lengthsOf}
 use Rattle.rows.specs.Writing.{written}
 use Rattle.trips.proofs.Standing.{kept-lists, Clear, clear}
-use Rattle.trips.proofs.ReadBack.{edition-back, accepted-back, counts-back, rows-back}
+use Rattle.trips.proofs.ReadBack.{edition-back, accepted-back, counts-back, rows-back, each-back}
 use Rattle.trips.proofs.WriteBack.{lengths-are, rows-clean, written-back}
 
 -- the rows of a return in one area are its row lists, one after the other
@@ -58,6 +60,17 @@ module _ (ed : ℕ) (lengths area : List ℕ) (clean : ruling (listRules ed leng
 
   pub edition-again : edition (written ed (cut lengths area)) 0 ≡ ed
   edition-again = edition-back ed (cut lengths area) ok
+
+-- row lists that lie by themselves, of which the same is so: the rows of each kind, one by one
+module _ (ed : ℕ) (l : Lists) (clean : ruling (listRules ed (map length l) (flatten l)) ≡ Clean) where
+  ok-lists : Clear ed l
+  ok-lists = subst (λ (x : Lists). Clear ed x) (cut-flat l) (clear ed (map length l) (flatten l) clean)
+
+  pub lists-accepted : verdictOf (written ed l) ≡ Accepted (countsOf (written ed l))
+  lists-accepted = accepted-back ed l ok-lists
+
+  pub lists-rows : (k : ℕ) → k < kinds → rows (suc k) (written ed l) ≡ rowsFrom (filedList (suc k) (ofKind l (suc k))) 0 (rowsIn (suc k) (length (ofKind l (suc k))))
+  lists-rows k h = each-back ed l ok-lists k h
 
 -- an accepted return: no rule refuses its rows, cut by the lengths that its counts give, and their return is the return
 module _ (s : List ℕ) (c : Counts) (acc : verdictOf s ≡ Accepted c) where
