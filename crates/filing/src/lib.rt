@@ -1,75 +1,16 @@
-// Rows in records and blocks: decoded from the caller's bytes and encoded to lent bytes, both by the same layouts.
+// Rows in records and blocks, encoded to lent bytes.
 ghost use mathlib.Core.Path.{_≡_};
 ghost use mathlib.Core.List.{[], _∷_};
 ghost use Prim.Native.Nat.{_+_, _-_, _*_, _^_, _≤_, _<_, min};
 ghost use lib.ListN.{length, drop};
 ghost use lib.Seq.{sets};
-ghost use Rattle.form.specs.Layout.{kinds, layout, numbersOf, rowAt};
-ghost use Rattle.form.specs.Block.{blocks};
+ghost use Rattle.form.specs.Layout.{kinds, layout, numbersOf};
 ghost use Rattle.filing.specs.Lists.{rowsIn, blocksOf, filedList};
 ghost use Rattle.filing.specs.Written.{zeros, recordOf, inTurn, headOf, recordOn, blockOf, kindBlocks};
 ghost use Rattle.form.specs.Bytes.{littleEndian};
-ghost use Rattle.filing.specs.Tables.{rowOn};
 use form::check_due;
 use form::layout::field;
 use form::layout::numbers;
-use form::number_at;
-
-// The row of the record at `at`, to the room from `to` on.
-fn decode_row(bytes: &[u8], kind: usize, at: usize, room: &mut [u32], to: usize)
-    requires { ⌜ (at + 40 ≤ length (now bytes)) × (to + numbersOf kind ≤ length (now room)) ⌝ }
-    ensures { λ _. ⌜ now (room .exit) ≡ sets (now (room .entry)) to (rowAt (layout kind) (now (bytes .entry)) at) ⌝ }
-{
-    let n = numbers(kind);
-    let mut k: usize = 0;
-    let mut i: usize = 0;
-    while i < n {
-        let f = field(kind, i);
-        k += f.zeros;
-        room[to + i] = number_at(bytes, at + k, f.width);
-        k += f.width;
-        i += 1;
-    }
-}
-
-// The rows of n records from a place on, to the room from `start` on.
-fn decode_rows(bytes: &[u8], kind: usize, place: usize, n: usize, room: &mut [u32], start: usize)
-    requires { ⌜ (place + n ≤ 12 * blocks (now bytes)) × (start + numbersOf kind * n ≤ length (now room)) ⌝ }
-    ensures { λ _. ⌜ now (room .exit) ≡ sets (now (room .entry)) start (inTurn (rowOn kind (now (bytes .entry))) place n) ⌝ }
-{
-    let m = numbers(kind);
-    let mut to = start;
-    let mut i: usize = 0;
-    while i < n {
-        let j = place + i;
-        decode_row(bytes, kind, 512 * (j / 12) + 8 + 40 * (j % 12), room, to);
-        to += m;
-        i += 1;
-    }
-}
-
-// The kind by its number, so that the compiler lays out each kind's rows by itself.
-pub fn decode_kind(
-    bytes: &[u8],
-    kind: usize,
-    place: usize,
-    n: usize,
-    room: &mut [u32],
-    start: usize,
-)
-    requires { ⌜ (place + n ≤ 12 * blocks (now bytes)) × (start + numbersOf kind * n ≤ length (now room)) ⌝ }
-    ensures { λ _. ⌜ now (room .exit) ≡ sets (now (room .entry)) start (inTurn (rowOn kind (now (bytes .entry))) place n) ⌝ }
-{
-    match kind {
-        1 => decode_rows(bytes, 1, place, n, room, start),
-        2 => decode_rows(bytes, 2, place, n, room, start),
-        3 => decode_rows(bytes, 3, place, n, room, start),
-        4 => decode_rows(bytes, 4, place, n, room, start),
-        5 => decode_rows(bytes, 5, place, n, room, start),
-        6 => decode_rows(bytes, 6, place, n, room, start),
-        _ => decode_rows(bytes, kind, place, n, room, start),
-    }
-}
 
 fn put_byte(out: &mut [u8], at: usize, v: usize)
     requires { ⌜ (v < 256) × (at < length (now out)) ⌝ }

@@ -18,7 +18,7 @@ use form::where_same;
 fn rule_blocks(bytes: &[u8]) -> Ruling
     ensures { λ r. ⌜ r ≡ ruling (blockRules (now (bytes .entry))) ⌝ }
 {
-    if blocks::bad_length(bytes) {
+    if headers::bad_length(bytes) {
         return Ruling::Broken {
             number: 1,
             place: 0,

@@ -11,7 +11,7 @@ ghost use Rattle.filing.specs.Lists.{cut};
 ghost use Rattle.lists.specs.Rules.{Good, blocksFrom};
 ghost use Rattle.rows.specs.Reading.{areaTo, outgrown, readAnswer, roomAfter};
 ghost use Rattle.rows.specs.Writing.{written, answerFrom5, answerFrom9, writeAnswer, bytesAfter};
-use filing::decode_kind;
+use decoding::decode_kind;
 use filing::write_kind;
 use form::Counts;
 use form::KINDS;

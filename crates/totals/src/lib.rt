@@ -1,6 +1,4 @@
 // Sums over the rows of an accepted return, read in the caller's bytes in place.
-pub mod abandoned;
-
 ghost use mathlib.Core.Path.{_≡_};
 ghost use Prim.Native.Nat.{_+_, _*_, _/_, _%_, _^_, _≤_, _<_};
 ghost use lib.ListN.{length};
@@ -54,7 +52,7 @@ fn share_of(mass: DryMatterPart, fraction: u32) -> DryMatterPart
 }
 
 // Dry matter to carbon, by its carbon fraction: the one step from the one to the other within a row.
-fn carbon_of(mass: DryMatterPart, fraction: u32) -> CarbonPart
+pub fn carbon_of(mass: DryMatterPart, fraction: u32) -> CarbonPart
     requires { ⌜ mass .0 * fraction < 2 ^ 64 ⌝ }
     ensures { λ r. ⌜ r .0 ≡ mass .0 * fraction ⌝ }
 {
@@ -161,7 +159,7 @@ fn plus_dry_matter(sum: DryMatter, part: DryMatterPart) -> DryMatter
     DryMatter(add_word(sum.0, part.0))
 }
 
-fn plus_carbon(sum: Carbon, part: CarbonPart) -> Carbon
+pub fn plus_carbon(sum: Carbon, part: CarbonPart) -> Carbon
     requires { ⌜ value (sum .0) < 2 ^ 100 ⌝ }
     ensures { λ r. ⌜ Is (r .0) (value (sum .0) + part .0) ⌝ }
 {

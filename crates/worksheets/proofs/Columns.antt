@@ -8,7 +8,8 @@ use Rattle.wide.specs.Rounding.{nearest}
 use Rattle.wide.specs.Signs.{amount, Holds}
 use Rattle.wide.proofs.Laws.{words, is-as}
 use Rattle.wide.proofs.SignLaws.{holds-as, signed}
-use Rattle.worksheets.specs.Sheets.{columnM, columnO, columnP, columnQ, reported, co2Of, uptakeCo2, abandonedOf, ch4Of, coOf, stocksOf, conversionOf, gasesOf}
+use Rattle.units.specs.Columns.{columnM, columnO, columnP, columnQ, reported, co2Of, uptakeCo2}
+use Rattle.worksheets.specs.Sheets.{abandonedOf, ch4Of, coOf, stocksOf, conversionOf, gasesOf}
 use Rattle.worksheets.specs.Answers.{stocksHeld, conversionHeld, gasesHeld, abandonedHeld}
 use Rattle.worksheets.specs.declared.sheets.Parameters.{Parameters}
 use Rattle.worksheets.specs.declared.sheets.Stocks.{Stocks}

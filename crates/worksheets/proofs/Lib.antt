@@ -1,4 +1,3 @@
-pub mod Sizes
 pub mod Columns
 pub mod Accepted
 pub mod Small

@@ -16,10 +16,11 @@ use Rattle.wide.proofs.SignLaws.{size-turned, size-minus, size-times}
 use Rattle.totals.proofs.Accepted.{columns-small}
 use Rattle.savannas.specs.Sheet.{Sheet43, savannasOf}
 use Rattle.savannas.proofs.Accepted.{sums-small}
-use Rattle.worksheets.specs.Sheets.{columnM, columnO, columnP, columnQ, Ratios, Sheet51, Sheet52, Sheet53, Sheet54, Sheets, stocksOf, conversionOf, gasesOf, abandonedOf, figuresOf}
+use Rattle.units.specs.Columns.{columnM, columnO, columnP, columnQ}
+use Rattle.worksheets.specs.Sheets.{Ratios, Sheet51, Sheet52, Sheet53, Sheet54, Sheets, stocksOf, conversionOf, gasesOf, abandonedOf, figuresOf}
 use Rattle.worksheets.specs.declared.sheets.Parameters.{Parameters}
 use Rattle.worksheets.proofs.Accepted.{ratios}
-use Rattle.worksheets.proofs.Sizes.{thousand}
+use Rattle.units.proofs.Sizes.{thousand}
 
 -- a rounded quotient is no more than one above what is divided
 even-le : (b : Bool) (q : ℕ) → cond b q (q + 1) ≤ q + 1

@@ -2,13 +2,13 @@
 use Prim.Native.Nat.{ℕ, _+_, _*_, _^_, _≤_}
 use mathlib.Core.List.{List, [], _∷_}
 use lib.ListN.{getD}
-use lib.IntN.{ℤ, pos, negℤ, _-ℤ_, _*ℤ_}
+use lib.IntN.{ℤ}
 use Rattle.form.specs.Layout.{parametersKind}
 use Rattle.form.specs.Verdict.{rows}
 use Rattle.wide.specs.Rounding.{nearest}
-use Rattle.wide.specs.Signs.{nearestZ}
 use Rattle.totals.specs.Columns.{columnE, columnK, columnL, onsiteTotal, offsiteTotal, decayTotal, thinnerTotal}
 use Rattle.totals.specs.Abandoned.{uptakeTotal}
+use Rattle.units.specs.Columns.{columnM, columnO, columnP, columnQ, reported, co2Of, uptakeCo2}
 use Rattle.savannas.specs.Sheet.{Sheet43, savannasOf}
 use Rattle.worksheets.specs.declared.sheets.Parameters.{Parameters}
 
@@ -37,30 +37,6 @@ pub record Ratios (p : Parameters) : Type 0 where
   pub n2o : p .n2o ≤ 1000
   pub nox : p .nox ≤ 1000
 
--- 5-1: "M = 100K - L, signed" (10^-6 kt)
-abbrev pub columnM : ℕ → ℕ → ℤ
-columnM k l = pos (100 * k) -ℤ pos l
-
--- "O = M x N (10^-9 kt C)"
-abbrev pub columnO : ℤ → ℕ → ℤ
-columnO m n = m *ℤ pos n
-
--- "P = 100E - O" (10^-9 kt C)
-abbrev pub columnP : ℕ → ℤ → ℤ
-columnP e o = pos (100 * e) -ℤ o
-
--- "Q = 11P / 3,000,000 tonnes CO2, rounded"
-abbrev pub columnQ : ℤ → ℤ
-columnQ p = nearestZ (pos 11 *ℤ p) 3000000
-
--- "The reported figure is -Q: emissions are positive." (tonnes CO2)
-abbrev pub reported : ℤ → ℤ
-reported q = negℤ q
-
--- 5-2: "CO2 = 11 x (R + decay) / 3,000,000,000 tonnes, rounded", of that carbon
-abbrev pub co2Of : ℕ → ℕ
-co2Of c = nearest (11 * c) 3000000000
-
 -- 5-3: "from on-site carbon C only, in tonnes, rounded": "CH4 = 4 C x ratio / (3 x 10^12)"
 abbrev pub ch4Of : ℕ → ℕ → ℕ
 ch4Of c ratio = nearest (4 * c * ratio) (3 * 10 ^ 12)
@@ -76,10 +52,6 @@ n2oOf c nc ratio = nearest (11 * c * nc * ratio) (7 * 10 ^ 15)
 -- "NOx = 23 C x N/C x ratio / (7 x 10^15)"
 abbrev pub noxOf : ℕ → ℕ → ℕ → ℕ
 noxOf c nc ratio = nearest (23 * c * nc * ratio) (7 * 10 ^ 15)
-
--- 5-4: "then CO2 by 11/3, rounded once": of an uptake in 10^-7 kt C, 11 times it over 30,000 (tonnes CO2)
-abbrev pub uptakeCo2 : ℕ → ℕ
-uptakeCo2 u = nearest (11 * u) 30000
 
 -- the figures, sheet by sheet, in the order of their lines
 pub record Sheet51 : Type 0 where

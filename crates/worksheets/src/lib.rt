@@ -1,6 +1,5 @@
 // Worksheets 5-1 to 5-4 and 4-3: the figures of a return, or its refusal.
 pub mod sheets;
-pub mod units;
 
 ghost use mathlib.Core.Path.{_≡_};
 ghost use Rattle.form.specs.Verdict.{verdictOf};
@@ -18,10 +17,10 @@ use form::Counts;
 use form::Verdict;
 use held::Checked;
 use savannas::sheet::work_savannas;
-use totals::abandoned::sum_abandoned;
 use totals::sum_conversion;
 use totals::sum_harvest;
 use totals::sum_stocks;
+use uptake::sum_abandoned;
 
 // The figures of bytes that were judged before, with the counts that the judge gave.
 pub fn work_out(bytes: &[u8], c: Counts) -> Figures

@@ -1,5 +1,5 @@
 -- The divisor is the factors' product, and one more than the quotient has room. Assumes nothing.
-use mathlib.Core.Path.{_≡_, ap, _∙_}
+use mathlib.Core.Path.{_≡_, sym, ap, ap₂, subst, _∙_}
 use Prim.Native.Nat.{ℕ, _+_, _*_, _/_, _%_, _^_, _<_}
 use native.Mathlib.Omega.{arith}
 use native.Mathlib.Nat.{mod-lt, div-le-self}
@@ -33,14 +33,15 @@ times-requires : tie.Need-times-requires
 times-requires c κs = rw (c .of .ensures .number) (omega (arith, small (c .before)))
 
 divide-word-requires : tie.Need-divide-word-requires
-divide-word-requires c κs = let s = c .before .before .before .before in omega (arith, s .pre, divisor (c .before .before))
+divide-word-requires c κs = let t = c .before .before in subst (λ (n : ℕ). 0 < n) (sym (divisor t)) (t .before .before .pre .0)
 
 settle-requires : tie.Need-settle-requires
 settle-requires c κs =
     let t = c .before .before .before in
     let s = t .before .before in
     let w = c .divide-word .ensures in
-    room (s .args .x .lo) (value (t .times .result)) (omega (arith, s .pre, divisor t)) (omega (arith, small s, divisor t)) (omega arith) _ _ (w .0 .number) (w .1 .number)
+    room (s .args .x .lo) (value (t .times .result))
+    (subst (λ (n : ℕ). 0 < n) (sym (divisor t)) (s .pre .0)) (subst (λ (n : ℕ). n < 2 ^ 96) (sym (divisor t)) (small s)) (omega arith) _ _ (w .0 .number) (w .1 .number)
 
 returns : tie.Need-returns
 returns c =
@@ -48,7 +49,11 @@ returns c =
     let w = c .before .divide-word .ensures in
     let x = t .before .before .args .x in
     let l = value-low x (c .before .before .if1 .taken) in
-    is-as (c .settle .ensures) (settled-same (cc (w .0 .number, l, divisor t)) (cc (w .1 .number, l, divisor t)) (divisor t))
+    is-as (c .settle .ensures)
+    (settled-same
+    (w .0 .number ∙ ap₂ (λ (m n : ℕ). m / n) (sym l) (divisor t))
+    (w .1 .number ∙ ap₂ (λ (m n : ℕ). m % n) (sym l) (divisor t))
+    (divisor t))
 
 divide-by-requires : tie.Need-divide-by-requires
 divide-by-requires c κs = search needs

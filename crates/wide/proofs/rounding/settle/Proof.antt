@@ -1,6 +1,6 @@
 -- The tests are the rule's own. Assumes nothing.
-use mathlib.Core.Path.{_≡_}
-use Prim.Native.Nat.{_*_}
+use mathlib.Core.Path.{_≡_, ap, _∙_}
+use Prim.Native.Nat.{ℕ, _*_}
 use native.Mathlib.Omega.{arith}
 use borrow.Author.Needs.{needs}
 use lib.Dec.{ltb}
@@ -15,10 +15,12 @@ twice c = omega arith
 
 -- what the two tests say of twice the rest
 tested : (c : tie.After-less) → c .less .result ≡ ltb (2 * value (c .before .before .args .r)) (value (c .before .before .args .d))
-tested c = cc (twice (c .before))
+tested c = c .less .ensures ∙ ap (λ (n : ℕ). ltb n (value (c .before .before .args .d))) (twice (c .before))
 
 tested-2 : (c : tie.After-less2) → let a = c .before .before .before .before .args in c .less2 .result ≡ ltb (value (a .d)) (2 * value (a .r))
-tested-2 c = cc (twice (c .before .before .before))
+tested-2 c =
+    let t = c .before .before .before in
+    c .less2 .ensures ∙ ap (λ (n : ℕ). ltb (value (t .before .args .d)) n) (twice t)
 
 add-requires : tie.Need-add-requires
 add-requires c κs = search needs

@@ -1,5 +1,5 @@
 -- `worksheets::sheets::work_gases` meets its contract. Assumes nothing.
-use Rattle.worksheets.proofs.Sizes.{thousand}
+use Rattle.units.proofs.Sizes.{thousand}
 use Rattle.worksheets.proofs.Columns.{gases-are}
 use borrow.Author.Needs.{needs}
 use Rattle.worksheets.proofs.sheets.work_gases.Statement.{statement}

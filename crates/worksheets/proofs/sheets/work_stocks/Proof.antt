@@ -2,7 +2,7 @@
 use Prim.Native.Nat.{_^_, _<_}
 use Rattle.wide.specs.Numbers.{value, Is}
 use Rattle.wide.proofs.Laws.{is-itself}
-use Rattle.worksheets.proofs.Sizes.{thousand, size-M, size-O, size-P}
+use Rattle.units.proofs.Sizes.{thousand, size-M, size-O, size-P}
 use Rattle.worksheets.proofs.Columns.{stocks-are}
 use native.Mathlib.Omega.{arith}
 use borrow.Author.Needs.{needs}
