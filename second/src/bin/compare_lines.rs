@@ -2,10 +2,12 @@
 //! program and from the second.
 //!
 //! `compare_lines [SEED [INPUTS]]`. Every input is asked for with a room of the
-//! text's length, one shorter, none at all and one of any length, and for its
-//! numbers with a room of 75, one shorter or longer, or of any length; all of
-//! our memory is looked at afterwards, the guard behind the room included. The
-//! exact halves among the figures are counted, and enough of each are due.
+//! text's length and with one other, drawn: one shorter, none at all, one near
+//! the length or one of any length; and for its numbers with a room of 75 and
+//! one other, one shorter or longer, none or of any length. All of our memory
+//! is looked at afterwards, the guard behind the room included. The sorts of
+//! rooms and the exact halves among the figures are counted, and enough of each
+//! are due.
 
 #[cfg(door_missing)]
 compile_error!(
@@ -34,6 +36,9 @@ mod run {
     const NUMBER_MEMORY: usize = MOST_NUMBERS + GUARD;
     /// Of each figure and each way; the usual run has some 2,000.
     const LEAST_HALVES: usize = 100;
+    /// The other rooms for the text, and how many of each are due; the usual run has some 94,000.
+    const OTHER_ROOMS: [&str; 4] = ["short by one", "empty", "near the length", "of any length"];
+    const LEAST_ROOMS: usize = 60_000;
 
     pub fn main() -> ExitCode {
         let Some(arguments) = Arguments::from_command("compare_lines") else {
@@ -47,31 +52,51 @@ mod run {
             sorts: 100,
         };
         let mut calls = 0;
+        let mut rooms = [0; OTHER_ROOMS.len()];
         let mut halves = Halves::default();
         let good = run(&plan, arguments, inputs::with_figures, |case, rng| {
-            let outcome = try_one(case, rng, &mut calls);
+            let outcome = try_one(case, rng, &mut calls, &mut rooms);
             if outcome.difference.is_none() {
                 halves.note(&case.bytes);
             }
             outcome
         });
-        println!("{calls} calls, lines and figures, with rooms exact, short by one, empty and of any length");
+        println!("{calls} calls, lines and figures, each with an exact room and one other");
+        for (sort, times) in OTHER_ROOMS.iter().zip(rooms) {
+            println!("{times:>9} texts to a room {sort}");
+        }
         halves.print();
         let due = arguments.counts_due(halves.accepted());
-        exit(good & (!due || halves.reach(LEAST_HALVES)))
+        let tried = arguments.inputs.is_some() || rooms.iter().all(|&times| times >= LEAST_ROOMS);
+        if !tried {
+            eprintln!("fewer than {LEAST_ROOMS} of some sort of room");
+        }
+        exit(good & tried & (!due || halves.reach(LEAST_HALVES)))
     }
 
-    fn try_one(case: &Case, rng: &mut Rng, calls: &mut usize) -> Outcome {
+    fn try_one(
+        case: &Case,
+        rng: &mut Rng,
+        calls: &mut usize,
+        tried: &mut [usize; OTHER_ROOMS.len()],
+    ) -> Outcome {
         let mut before = [0u8; MEMORY];
         rng.fill(&mut before);
-        // The text's length, from a room that is long enough.
-        let length = lines(&case.bytes, &mut [0; MOST_LENT]);
+        // The text, from a room that is long enough: what is due of an exact one too.
+        let mut text = before;
+        let length = lines(&case.bytes, &mut text[..MOST_LENT]);
         let near = (length + rng.below(9)).saturating_sub(4);
-        let rooms = [length, length - 1, 0, near, rng.below(MOST_LENT + 1)];
+        // Drawn, and not by the input's number: one input in four is of the sweeps.
+        let sort = rng.below(OTHER_ROOMS.len());
+        let other = [length - 1, 0, near, rng.below(MOST_LENT + 1)][sort];
+        tried[sort] += 1;
         let placed = Placed::new(&case.bytes, rng);
-        let difference = first_of(rooms.map(|lent| {
+        let mut short = before;
+        let answer = lines(&case.bytes, &mut short[..other]);
+        let rooms = [(length, length, &text), (other, answer, &short)];
+        let difference = first_of(rooms.map(|(lent, expected, due)| {
             *calls += 1;
-            ask(placed.bytes(), case, before, lent)
+            ask(placed.bytes(), case, before, (lent, expected, due))
         }))
         .or_else(|| ask_figures(placed.bytes(), case, rng, calls));
         Outcome {
@@ -100,14 +125,18 @@ mod run {
         }))
     }
 
-    fn ask(bytes: &[u8], case: &Case, before: [u8; MEMORY], lent: usize) -> Option<String> {
-        let mut due = before;
-        let expected = lines(bytes, &mut due[..lent]);
+    /// The text in a room, with the answer and the memory that are due.
+    fn ask(
+        bytes: &[u8],
+        case: &Case,
+        before: [u8; MEMORY],
+        (lent, expected, due): (usize, usize, &[u8; MEMORY]),
+    ) -> Option<String> {
         let mut room = before;
         let answer = first_lines(bytes, Lent::front(&mut room, lent));
         let difference = first_of([
             (answer != expected).then_some("another length".to_string()),
-            memory_difference("the room", &room, &due),
+            memory_difference("the room", &room, due),
             memory_difference("the input itself", bytes, &case.bytes),
         ])?;
         // Line feeds as they are, anything else that isn't text by its code.
@@ -118,7 +147,7 @@ mod run {
         Some(format!(
             "{difference}; room of {lent}\nfirst program {answer}:\n{}second program {expected}:\n{}",
             shown(&room, answer),
-            shown(&due, expected)
+            shown(due, expected)
         ))
     }
 }
