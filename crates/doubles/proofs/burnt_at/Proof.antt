@@ -1,4 +1,6 @@
 -- `doubles::burnt_at` meets its contract. Assumes nothing.
+use mathlib.Core.Path.{refl, _∙_}
+use Rattle.doubles.proofs.Fields.{part-same}
 use borrow.Author.Needs.{needs}
 use Rattle.doubles.proofs.burnt_at.Statement.{statement}
 use Rattle.doubles.proofs.burnt_at.Tie as tie
@@ -22,7 +24,9 @@ part-requires : tie.Need-part-requires
 part-requires c κs = search needs
 
 returns : tie.Need-returns
-returns c = cc
+returns c =
+    let t = c .before in
+    c .part .ensures ∙ part-same refl refl (t .before .before .two-at .ensures .0) (t .before .two-at2 .ensures .0) (t .two-at3 .ensures .0)
 
 pub burnt-at-spec : {M : Type 1} → statement M
 burnt-at-spec =

@@ -1,6 +1,9 @@
 -- `doubles::decay_at` meets its contract. Assumes nothing.
+use mathlib.Core.Path.{refl, ap₂, _∙_}
 use denote.Ref.{now}
-use Rattle.doubles.proofs.Fields.{decay-at}
+use Prim.Native.Nat.{ℕ}
+use Rattle.form.specs.Records.{countedDifference}
+use Rattle.doubles.proofs.Fields.{decay-at, part-same}
 use borrow.Author.Needs.{needs}
 use Rattle.doubles.proofs.decay_at.Statement.{statement}
 use Rattle.doubles.proofs.decay_at.Tie as tie
@@ -42,7 +45,15 @@ part-requires : tie.Need-part-requires
 part-requires c κs = search needs
 
 returns : tie.Need-returns
-returns c = let g = c .before .before .before .before .before .before .before .before .args in cc (decay-at (now (g .bytes)) (g .at))
+returns c =
+    let t = c .before in
+    let f = t .before .before in
+    let d = f .before in
+    let g = d .before .before .before .before .args in
+    let e = d .counted-difference .ensures .0 ∙ ap₂ (λ (b a : ℕ). countedDifference b a) (d .before .before .two-at .ensures .0) (d .before .two-at2 .ensures .0) in
+    c .part .ensures
+    ∙ part-same (f .four-at .ensures) e (t .before .two-at3 .ensures .0) refl (t .two-at4 .ensures .0)
+    ∙ decay-at (now (g .bytes)) (g .at)
 
 pub decay-at-spec : {M : Type 1} → statement M
 decay-at-spec =

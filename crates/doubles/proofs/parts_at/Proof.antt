@@ -1,6 +1,9 @@
 -- `doubles::parts_at` meets its contract. Assumes nothing.
+use mathlib.Core.Path.{refl, ap₂, _∙_}
 use denote.Ref.{now}
-use Rattle.doubles.proofs.Fields.{onsite-at, offsite-at}
+use Prim.Native.Nat.{ℕ}
+use Rattle.form.specs.Records.{countedDifference}
+use Rattle.doubles.proofs.Fields.{onsite-at, offsite-at, part-same, doubles-same}
 use borrow.Author.Needs.{needs}
 use Rattle.doubles.proofs.parts_at.Statement.{statement}
 use Rattle.doubles.proofs.parts_at.Tie as tie
@@ -42,7 +45,17 @@ decay-at-requires : tie.Need-decay-at-requires
 decay-at-requires c κs = search needs
 
 returns : tie.Need-returns
-returns c = let g = c .before .before .before .before .before .before .before .before .args in cc (onsite-at (now (g .bytes)) (g .at), offsite-at (now (g .bytes)) (g .at))
+returns c =
+    let b = c .before in
+    let d = b .before .before in
+    let f = d .before .before .before in
+    let g = f .before .before .args in
+    let area = f .four-at .ensures in
+    let e = d .counted-difference .ensures .0 ∙ ap₂ (λ (x y : ℕ). countedDifference x y) (d .before .before .two-at .ensures .0) (d .before .two-at2 .ensures .0) in
+    doubles-same
+    (b .before .burnt-at .ensures ∙ part-same area e refl refl refl ∙ onsite-at (now (g .bytes)) (g .at))
+    (b .burnt-at2 .ensures ∙ part-same area e refl refl refl ∙ offsite-at (now (g .bytes)) (g .at))
+    (c .decay-at .ensures)
 
 pub parts-at-spec : {M : Type 1} → statement M
 parts-at-spec =

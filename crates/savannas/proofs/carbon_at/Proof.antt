@@ -1,6 +1,6 @@
 -- `savannas::carbon_at` meets its contract. Assumes nothing.
-use Prim.Native.Nat.{_*_}
-use mathlib.Core.Path.{_∙_, ap}
+use Prim.Native.Nat.{ℕ, _*_}
+use mathlib.Core.Path.{_∙_, ap₂}
 use lib.Dec.{lit<, lit≤}
 use native.Mathlib.Numerals.{bound}
 use Rattle.wide.proofs.Laws.{is-as}
@@ -28,7 +28,7 @@ returns c =
     let s = c .before in
     let o = s .before in
     let b = o .before .burned-at .ensures in (
-      is-as (c .times .ensures) (cc (o .of .ensures .number, b .0, s .share-at .ensures .0)),
+      is-as (c .times .ensures) (ap₂ (λ (x y : ℕ). x * y) (o .of .ensures .number ∙ b .0) (s .share-at .ensures .0)),
       rw (c .times .ensures .number, o .of .ensures .number) (grw (bound, b .1, s .share-at .ensures .1) (lit≤ tt)),
     )
 

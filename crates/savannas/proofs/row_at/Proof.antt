@@ -1,5 +1,6 @@
 -- `savannas::row_at` meets its contract. Assumes nothing.
-use mathlib.Core.Path.{_∙_}
+use Prim.Native.Nat.{ℕ, _*_}
+use mathlib.Core.Path.{_≡_, ap₂, _∙_}
 use lib.Dec.{lit<}
 use native.Mathlib.Nat.{le-pred-of-lt}
 use native.Mathlib.Numerals.{bound}
@@ -10,6 +11,10 @@ use native.Mathlib.Omega.{arith}
 use borrow.Author.Needs.{needs}
 use Rattle.savannas.proofs.row_at.Statement.{statement}
 use Rattle.savannas.proofs.row_at.Tie as tie
+
+-- a product by its equals
+product : {a b c d : ℕ} → a ≡ b → c ≡ d → a * c ≡ b * d
+product e f = ap₂ (λ (x y : ℕ). x * y) e f
 
 carbon-at-requires : tie.Need-carbon-at-requires
 carbon-at-requires c κs = search needs
@@ -67,13 +72,13 @@ returns c =
     let h = m .before .before in
     let n = h .before .before in
     let k = n .before .before .carbon-at .ensures .0 in
-    let nitrogen = n .times .ensures .number in
+    let nitrogen = n .times .ensures .number ∙ product (k .number) (n .before .two-at .ensures .0) in
     record {
       carbon = k;
-      ch4 = is-as (h .times2 .ensures) (cc (k .number, h .before .two-at2 .ensures .0));
-      co = is-as (m .times3 .ensures) (cc (k .number, m .before .two-at3 .ensures .0));
-      n2o = is-as (o .times4 .ensures) (cc (k .number, nitrogen, n .before .two-at .ensures .0, o .before .two-at4 .ensures .0));
-      nox = is-as (c .times5 .ensures) (cc (k .number, nitrogen, n .before .two-at .ensures .0, c .before .two-at5 .ensures .0));
+      ch4 = is-as (h .times2 .ensures) (product (k .number) (h .before .two-at2 .ensures .0));
+      co = is-as (m .times3 .ensures) (product (k .number) (m .before .two-at3 .ensures .0));
+      n2o = is-as (o .times4 .ensures) (product nitrogen (o .before .two-at4 .ensures .0));
+      nox = is-as (c .times5 .ensures) (product nitrogen (c .before .two-at5 .ensures .0));
     }
 
 pub row-at-spec : {M : Type 1} → statement M
