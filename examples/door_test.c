@@ -1,12 +1,14 @@
 /* Tries what the header says: areas of length 0, NULL among their pointers; each function on the worked day and on the day with abandoned
- * land and savanna; reading into rooms of every length; writing in both editions, rows with a fault of each kind among them. */
+ * land and savanna; reading into rooms of every length; writing in both editions, rows with a fault of each kind among them. The tests of table 5-2
+ * are in door_table52.c. */
+#include "door_test.h"
 #include "niloferq.h"
 #include <stdio.h>
 #include <string.h>
 
 static unsigned tried, wrong;
 
-static void must(int holds, const char *what) {
+void must(int holds, const char *what) {
     tried++;
     if (!holds) {
         wrong++;
@@ -744,6 +746,7 @@ int main(int count, char **words) {
     later_rules(THIRTEEN_2, ABANDONED, 84, 11 * 512); /* it begins a block behind the parameters */
     later_rules(THIRTEEN_2, SAVANNA, 108, 11 * 512);  /* two blocks behind abandoned land's first */
     defaults();
+    table52();
     printf("door: %u tried, %u wrong\n", tried, wrong);
     return wrong != 0;
 }

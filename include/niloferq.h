@@ -4,13 +4,13 @@
  *   - a pointer and the length after it belong together: that many elements can be read there, and, where the pointer is not to
  *     const, written;
  *   - no two of the lent areas overlap, and nothing else writes to them until the call returns;
- *   - a pointer to uint32_t or uint64_t is aligned as that type is.
+ *   - a pointer to int32_t, uint32_t or uint64_t is aligned as that type is.
  * The pointer of an area of length 0 has to be a valid one too, as for any other length. NULL with length 0 is tried by
  * examples/door_test and works, though the compiler's guide does not promise it.
  *
- * A refusal is 1,000 times its number plus its place, by the paper's table, tried in its order; number 8 is not given any more; the refusal of a room that is too
- * short, 9000 and when reading also 9001 to 9006, comes last. On a refusal no lent element has changed, but for niloferq_lines: the text
- * of a refusal is its line, and it is written like any other.
+ * A refusal is 1,000 times its number plus its place, by the paper's table, tried in its order; number 8 is not given any more; two of niloferq_table52 have
+ * no number there and are 1 and 2; the refusal of a room that is too short, 9000 and when reading also 9001 to 9006, comes last. On a refusal no lent
+ * element has changed, but for niloferq_lines: the text of a refusal is its line, and it is written like any other.
  *
  * Rows in lent memory: a row is its fields in the order of the paper, each a uint32_t, with no zero bytes between. The rows of all kinds
  * lie in one area, kind after kind: conversion, stock, harvest, parameters, abandoned land, savanna, which are kinds 1 to 6.
@@ -23,7 +23,7 @@
 #include <stddef.h>
 #include <stdint.h>
 
-#define NILOFERQ_VERSION 5 /* of the functions below; 4 had five kinds, 3 number 8 and no `thinner`, 2 four kinds and no edition, 1 an area for each kind */
+#define NILOFERQ_VERSION 6 /* of the functions below; 5 had no table, 4 had five kinds, 3 number 8 and no `thinner`, 2 four kinds and no edition, 1 an area for each kind */
 
 #define NILOFERQ_EDITIONS 2            /* the latest edition */
 #define NILOFERQ_KINDS 6               /* the kinds of rows */
@@ -46,6 +46,10 @@
 #define NILOFERQ_RETURN_ROOM 8192                    /* bytes for a return */
 #define NILOFERQ_FIGURES_ROOM (3 * NILOFERQ_FIGURES) /* elements for the figures, 75 */
 #define NILOFERQ_LINES_ROOM 1500                     /* bytes for the lines */
+
+#define NILOFERQ_COUNTRIES 90   /* the countries of table 5-2 */
+#define NILOFERQ_ZONES 6        /* its forest zones */
+#define NILOFERQ_TABLE52_ROOM 7 /* elements for an entry of it */
 
 #ifdef __cplusplus
 extern "C" {
@@ -102,6 +106,16 @@ uint32_t niloferq_defaults(uint32_t *room, size_t room_len);
  *    size_len is 0. */
 uint32_t niloferq_write(uint32_t edition, const uint32_t *rows, size_t rows_len, const uint32_t *lengths, size_t lengths_len, uint8_t *room,
                         size_t room_len, uint32_t *size, size_t size_len);
+
+/* Table 5-2 of document 001: the forest area of 1980 and of 1990, in tenths of kha, and the yearly conversion rate, in tenths of kha a year and
+ * below zero where forest grew, of a country in a forest zone. Both are numbered from 0 in the document's order without totals:
+ * docs/TABLE52.csv has the names.
+ * 0: the first NILOFERQ_TABLE52_ROOM elements of room are two for each of the three figures, 1 and the figure where it is given, 0 and 0 where it
+ *    is not, so that a figure of zero (1, 0) is told apart from none (0, 0); then 1 where the entry is marked, as the source breaks the rule
+ *    of the rates there, and else 0. Later elements keep their values.
+ * 1: country is NILOFERQ_COUNTRIES or above. 2: it is not, and zone is NILOFERQ_ZONES or above. Both are below 1000, as the paper gives
+ *    these refusals no number. Last 9000: room_len is below NILOFERQ_TABLE52_ROOM. */
+uint32_t niloferq_table52(uint32_t country, uint32_t zone, int32_t *room, size_t room_len);
 
 #ifdef __cplusplus
 }

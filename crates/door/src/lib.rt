@@ -1,6 +1,7 @@
 // The door for programs in C. A slice is a pointer and then a length.
 pub mod defaults;
 pub mod figures;
+pub mod table;
 
 ghost use mathlib.Core.Path.{_≡_};
 ghost use Prim.Native.Nat.{_+_, _*_, _≤_, _<_};

@@ -23,6 +23,8 @@ use Rattle.tabled.specs.Figures.{figuresAnswer, figuresAfter}
 use Rattle.door.specs.Door.{codeOf, judgeCall, countsAfter, subtotalCall, bitsAfter, sizeOf, linesAfter}
 use Rattle.door.specs.Defaults.{defaultsCall, defaultsAfter}
 use Rattle.door.specs.Rows.{readCall, rowsRead, countsRead, writeCall, blocksWritten, sizeWritten}
+use Rattle.table52.specs.Lookup.{lookedUp}
+use Rattle.door.specs.Table.{tableCode, tableCall, tableAfter}
 use Rattle.steps.proofs.Clauses.{then, beside}
 use Rattle.judge.proofs.judge as judge
 use Rattle.rows.proofs.read as read
@@ -30,6 +32,7 @@ use Rattle.rows.proofs.write as write
 use Rattle.worksheets.proofs.figures as figures
 use Rattle.doubles.proofs.subtotals as subtotals
 use Rattle.report.proofs.lines as lines
+use Rattle.table52.proofs.look_up as look-up
 use Rattle.door.proofs.niloferq_judge as c-judge
 use Rattle.door.proofs.niloferq_subtotal as c-subtotal
 use Rattle.door.proofs.niloferq_lines as c-lines
@@ -37,6 +40,7 @@ use Rattle.door.proofs.figures.niloferq_figures as c-figures
 use Rattle.door.proofs.defaults.niloferq_defaults as c-defaults
 use Rattle.door.proofs.niloferq_read as c-read
 use Rattle.door.proofs.niloferq_write as c-write
+use Rattle.door.proofs.table.niloferq_table52 as c-table
 
 -- whatever memory is made of
 module _ {M : Type 1} (𝓤 : URA M) where
@@ -59,6 +63,9 @@ module _ {M : Type 1} (𝓤 : URA M) where
 
     pub subtotals-says : Says subtotals.ended (subtotals.clauses 𝓤 H A mem run) (λ κs a r e. r ≡ answerOf (now (a .0)))
     subtotals-says = record { asks-nothing = λ κs a g. id⊢ 𝓤 _; answers = λ κs a g r e. id⊢ 𝓤 _ }
+
+    pub look-up-says : Says look-up.ended (look-up.clauses 𝓤 H A mem run) (λ κs a r e. r ≡ lookedUp (a .0) (a .1 .0))
+    look-up-says = record { asks-nothing = λ κs a g. id⊢ 𝓤 _; answers = λ κs a g r e. id⊢ 𝓤 _ }
 
     -- ---- the answer and the lent room
     pub read-says : Says read.ended (read.clauses 𝓤 H A mem run)
@@ -110,3 +117,7 @@ module _ {M : Type 1} (𝓤 : URA M) where
     pub c-defaults-says : Says c-defaults.ended (c-defaults.clauses 𝓤 H A mem run)
         (λ κs a r e. (r ≡ codeOf (defaultsCall (now (a .0)))) × (now (e .0) ≡ defaultsAfter (now (a .0)) (defaultsCall (now (a .0)))))
     c-defaults-says = record { asks-nothing = λ κs a g. id⊢ 𝓤 _; answers = λ κs a g r e. beside 𝓤 _ _ _ (id⊢ 𝓤 _) }
+
+    pub c-table-says : Says c-table.ended (c-table.clauses 𝓤 H A mem run)
+        (λ κs a r e. (r ≡ tableCode (tableCall (a .0) (a .1 .0) (now (a .1 .1 .0)))) × (now (e .1 .1 .0) ≡ tableAfter (a .0) (a .1 .0) (now (a .1 .1 .0))))
+    c-table-says = record { asks-nothing = λ κs a g. id⊢ 𝓤 _; answers = λ κs a g r e. beside 𝓤 _ _ _ (id⊢ 𝓤 _) }

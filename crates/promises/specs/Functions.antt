@@ -12,6 +12,8 @@ use Rattle.doubles.proofs.subtotals.Statement as subtotals
 use Rattle.doubles.proofs.subtotals.Met as subtotals-proof
 use Rattle.report.proofs.lines.Statement as lines
 use Rattle.report.proofs.lines.Met as lines-proof
+use Rattle.table52.proofs.look_up.Statement as look-up
+use Rattle.table52.proofs.look_up.Met as look-up-proof
 use Rattle.door.proofs.niloferq_judge.Statement as c-judge
 use Rattle.door.proofs.niloferq_judge.Met as c-judge-proof
 use Rattle.door.proofs.niloferq_subtotal.Statement as c-subtotal
@@ -26,6 +28,8 @@ use Rattle.door.proofs.figures.niloferq_figures.Statement as c-figures
 use Rattle.door.proofs.figures.niloferq_figures.Met as c-figures-proof
 use Rattle.door.proofs.defaults.niloferq_defaults.Statement as c-defaults
 use Rattle.door.proofs.defaults.niloferq_defaults.Met as c-defaults-proof
+use Rattle.door.proofs.table.niloferq_table52.Statement as c-table
+use Rattle.door.proofs.table.niloferq_table52.Met as c-table-proof
 
 pub judge-meets : {M : Type 1} → judge.statement M
 judge-meets = judge-proof.met
@@ -44,6 +48,9 @@ subtotals-meets = subtotals-proof.met
 
 pub lines-meets : {M : Type 1} → lines.statement M
 lines-meets = lines-proof.met
+
+pub look-up-meets : {M : Type 1} → look-up.statement M
+look-up-meets = look-up-proof.met
 
 pub c-judge-meets : {M : Type 1} → c-judge.statement M
 c-judge-meets = c-judge-proof.met
@@ -65,3 +72,6 @@ c-figures-meets = c-figures-proof.met
 
 pub c-defaults-meets : {M : Type 1} → c-defaults.statement M
 c-defaults-meets = c-defaults-proof.met
+
+pub c-table-meets : {M : Type 1} → c-table.statement M
+c-table-meets = c-table-proof.met

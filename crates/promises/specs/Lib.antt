@@ -6,6 +6,7 @@
 --     Demand3     each subtotal's double is as near as 01 says
 --     Editions    edition 1 returns are read as before
 --     Adding      the check is the last total of a department's adding sheet
+--     Table52     a lookup answers the printed entry of table 5-2, or which number is off it
 --     ShutOut     wrong answers that the contracts refuse
 --     Answers     whatever meets an entry point's contract is the answer that the demands speak of; no contract asks anything of its caller
 --     OneAnswer   so each admits one answer
@@ -18,6 +19,7 @@ pub mod Demand2
 pub mod Demand3
 pub mod Editions
 pub mod Adding
+pub mod Table52
 pub mod ShutOut
 pub mod Answers
 pub mod OneAnswer

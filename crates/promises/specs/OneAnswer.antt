@@ -12,13 +12,14 @@ use denote.Ref.{now}
 use denote.Triple.Entry.{Args, Res}
 use denote.Triple.Clauses.{Ended, AtExit, Clauses}
 use Rattle.steps.proofs.Clauses.{both}
-use Rattle.promises.specs.Answers.{judge-says, read-says, write-says, figures-says, subtotals-says, lines-says, c-judge-says, c-subtotal-says, c-lines-says, c-figures-says, c-read-says, c-write-says, c-defaults-says}
+use Rattle.promises.specs.Answers.{judge-says, read-says, write-says, figures-says, subtotals-says, lines-says, look-up-says, c-judge-says, c-subtotal-says, c-lines-says, c-figures-says, c-read-says, c-write-says, c-defaults-says, c-table-says}
 use Rattle.judge.proofs.judge as judge
 use Rattle.rows.proofs.read as read
 use Rattle.rows.proofs.write as write
 use Rattle.worksheets.proofs.figures as figures
 use Rattle.doubles.proofs.subtotals as subtotals
 use Rattle.report.proofs.lines as lines
+use Rattle.table52.proofs.look_up as look-up
 use Rattle.door.proofs.niloferq_judge as c-judge
 use Rattle.door.proofs.niloferq_subtotal as c-subtotal
 use Rattle.door.proofs.niloferq_lines as c-lines
@@ -26,6 +27,7 @@ use Rattle.door.proofs.figures.niloferq_figures as c-figures
 use Rattle.door.proofs.defaults.niloferq_defaults as c-defaults
 use Rattle.door.proofs.niloferq_read as c-read
 use Rattle.door.proofs.niloferq_write as c-write
+use Rattle.door.proofs.table.niloferq_table52 as c-table
 
 -- whatever memory is made of
 module _ {M : Type 1} (𝓤 : URA M) where
@@ -46,6 +48,9 @@ module _ {M : Type 1} (𝓤 : URA M) where
 
     pub subtotals-one : AdmitsOne subtotals.ended (subtotals.clauses 𝓤 H A mem run) (λ κs r e q f. r ≡ q)
     subtotals-one κs a g h r q e f = both 𝓤 _ (subtotals-says 𝓤 H A mem run .answers κs a g r e) (subtotals-says 𝓤 H A mem run .answers κs a h q f) (λ x y. x ∙ sym y)
+
+    pub look-up-one : AdmitsOne look-up.ended (look-up.clauses 𝓤 H A mem run) (λ κs r e q f. r ≡ q)
+    look-up-one κs a g h r q e f = both 𝓤 _ (look-up-says 𝓤 H A mem run .answers κs a g r e) (look-up-says 𝓤 H A mem run .answers κs a h q f) (λ x y. x ∙ sym y)
 
     -- ---- the answer and the lent room
     pub read-one : AdmitsOne read.ended (read.clauses 𝓤 H A mem run) (λ κs r e q f. (r ≡ q) × (now (e .1 .0) ≡ now (f .1 .0)))
@@ -81,3 +86,7 @@ module _ {M : Type 1} (𝓤 : URA M) where
     pub c-defaults-one : AdmitsOne c-defaults.ended (c-defaults.clauses 𝓤 H A mem run) (λ κs r e q f. (r ≡ q) × (now (e .0) ≡ now (f .0)))
     c-defaults-one κs a g h r q e f =
         both 𝓤 _ (c-defaults-says 𝓤 H A mem run .answers κs a g r e) (c-defaults-says 𝓤 H A mem run .answers κs a h q f) (λ x y. (x .0 ∙ sym (y .0), x .1 ∙ sym (y .1)))
+
+    pub c-table-one : AdmitsOne c-table.ended (c-table.clauses 𝓤 H A mem run) (λ κs r e q f. (r ≡ q) × (now (e .1 .1 .0) ≡ now (f .1 .1 .0)))
+    c-table-one κs a g h r q e f =
+        both 𝓤 _ (c-table-says 𝓤 H A mem run .answers κs a g r e) (c-table-says 𝓤 H A mem run .answers κs a h q f) (λ x y. (x .0 ∙ sym (y .0), x .1 ∙ sym (y .1)))

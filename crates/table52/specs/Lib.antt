@@ -2,5 +2,6 @@
 pub mod Table
 pub mod Lookup
 pub mod Rule
+pub mod Lent
 mod Examples
 pub mod Cells

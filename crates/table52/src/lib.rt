@@ -1,5 +1,6 @@
 // Table 5-2 of document 001: the forest area of 1980, of 1990 and the yearly conversion rate, by country and forest zone.
 mod figures;
+pub mod lent;
 
 ghost use mathlib.Core.Path.{_≡_};
 ghost use Prim.Native.Nat.{_+_, _*_, _<_};

@@ -1,0 +1,76 @@
+-- §6. "A lookup by country and zone, each numbered from 0 in the document's order without totals, answers the three figures with the mark, or says which is not given.
+-- Refusals: country or zone number off the table, in that order." The table itself is table52/specs/Table.
+use Prim.Native.Nat.{ℕ, _+_, _*_, _≤_, _<_}
+use mathlib.Core.Path.{_≡_, refl}
+use mathlib.Core.Bool.{Bool, false}
+use mathlib.Core.List.{List}
+use borrow.Author.Tests.{lt-ltb, le-ltb}
+use lib.IntN.{ℤ, pos}
+use lib.ListN.{length}
+use Rattle.table52.specs.declared.Figure.{Figure}
+use Rattle.table52.specs.declared.Figure.the-variants.{Given, NotGiven}
+use Rattle.table52.specs.declared.Lookup.the-variants.{Found, NoCountry, NoZone}
+use Rattle.table52.specs.declared.lent.Told.the-variants as told
+use Rattle.table52.specs.Table.{Printed, countries, zones}
+use Rattle.table52.specs.Lookup.{entryOf, entryAt, lookedUp}
+use Rattle.table52.specs.Rule.{deviation}
+use Rattle.table52.specs.Lent.{givenOf, numberOf, withEntry}
+use Rattle.table52.proofs.Answers.{no-country, no-zone, found, zero-rate, blank-rate, told-one, room-kept}
+use Rattle.table52.proofs.Rule.{rule-obeyed}
+use Rattle.door.specs.Table.{tableCode, tableCall, tableAfter}
+
+-- ---- the answer, for every country's and zone's number
+pub country-off : (country zone : ℕ) → countries ≤ country → lookedUp country zone ≡ NoCountry
+country-off = no-country
+
+pub zone-off : (country zone : ℕ) → country < countries → zones ≤ zone → lookedUp country zone ≡ NoZone
+zone-off = no-zone
+
+pub looked-up : (country zone : ℕ) → country < countries → zone < zones → lookedUp country zone ≡ Found (entryAt (zones * country + zone))
+looked-up = found
+
+-- ---- the figures are the printed ones: "A blank rate beside two equal areas is zero; every other blank is 'not given' and never zero"
+pub record AsPrinted (p : Printed) (marked : Bool) : Type 0 where
+  pub area-1980 : entryOf p marked .area1980 ≡ p .area1980
+  pub area-1990 : entryOf p marked .area1990 ≡ p .area1990
+  pub rate-given : (r : ℤ) → p .rate ≡ Given r → entryOf p marked .rate ≡ Given r
+  pub rate-zero : (a : ℤ) → p .rate ≡ NotGiven → p .area1980 ≡ Given a → p .area1990 ≡ Given a → entryOf p marked .rate ≡ Given (pos 0)
+  pub rate-blank : p .rate ≡ NotGiven → ((a : ℤ) → p .area1980 ≡ Given a → p .area1990 ≡ Given a → ⊥) → entryOf p marked .rate ≡ NotGiven
+
+pub as-printed : (p : Printed) (marked : Bool) → AsPrinted p marked
+as-printed p marked = record {
+  area-1980 = refl;
+  area-1990 = refl;
+  rate-given = λ r e. rw e;
+  rate-zero = λ a. zero-rate (p .area1980) (p .area1990) (p .rate) a;
+  rate-blank = blank-rate (p .area1980) (p .area1990) (p .rate);
+}
+
+-- ---- "ten times the rate differs from the fall in area by at most 6 tenths", of every answer with all three figures and no mark
+pub rates-fit : (country zone : ℕ) (a b r : ℤ)
+    → lookedUp country zone ≡ Found (record { area1980 = Given a; area1990 = Given b; rate = Given r; marked = false })
+    → deviation a b r ≤ 6
+rates-fit = rule-obeyed
+
+-- ---- from C: the country, then the zone, last the room; and the entry's numbers at the front of the room
+module _ (country zone : ℕ) (room : List ℤ) where
+  pub c-country-off : countries ≤ country → tableCode (tableCall country zone room) ≡ 1
+  c-country-off c = rw (no-country country zone c)
+
+  pub c-zone-off : country < countries → zones ≤ zone → tableCode (tableCall country zone room) ≡ 2
+  c-zone-off c z = rw (no-zone country zone c z)
+
+  pub c-room-short : country < countries → zone < zones → length room < 7 → tableCode (tableCall country zone room) ≡ 9000
+  c-room-short c z r = rw (found country zone c z, lt-ltb _ _ r)
+
+  pub c-looked-up : country < countries → zone < zones → 7 ≤ length room
+      → (tableCode (tableCall country zone room) ≡ 0) × (tableAfter country zone room ≡ withEntry (entryAt (zones * country + zone)) room)
+  c-looked-up c z r = rw (found country zone c z, le-ltb _ _ r) (refl, refl)
+
+  -- "nothing lent has changed"
+  pub c-table-unchanged : (tableCall country zone room ≡ told.Done → ⊥) → tableAfter country zone room ≡ room
+  c-table-unchanged n = room-kept (lookedUp country zone) room n
+
+-- a figure is known from its two numbers there: none that is given is taken for one that is not
+pub told-apart : (f g : Figure) → givenOf f ≡ givenOf g → numberOf f ≡ numberOf g → f ≡ g
+told-apart = told-one
