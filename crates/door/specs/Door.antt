@@ -9,9 +9,10 @@ use Rattle.form.specs.Bytes.{littleEndian}
 use Rattle.form.specs.Layout.{kinds}
 use Rattle.form.specs.Verdict.{rules, rows, countsOf, countList}
 use Rattle.rows.specs.Reading.{onFront}
-use Rattle.report.specs.Lines.{printed, putOf, textAfter}
-use Rattle.report.specs.declared.Put.{Put}
-use Rattle.report.specs.declared.Put.the-variants.{Done, Short}
+use Rattle.phrases.specs.Room.{putOf, textAfter}
+use Rattle.phrases.specs.declared.Put.{Put}
+use Rattle.phrases.specs.declared.Put.the-variants.{Done, Short}
+use Rattle.report.specs.Lines.{printed}
 use Rattle.doubles.specs.Subtotals.{subtotalsOf}
 use Rattle.doubles.specs.declared.Doubles.{Doubles}
 use Rattle.form.specs.declared.Counts.{Counts}

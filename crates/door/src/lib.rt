@@ -13,14 +13,15 @@ ghost use Rattle.form.specs.Bytes.{littleEndian};
 ghost use Rattle.door.specs.Door.{codeOf, held, judgeCall, countsAfter, subtotalCall, byCode, bitsAfter, linesAfter, sizeOf};
 ghost use Rattle.door.specs.Rows.{readCall, rowsRead, countsRead, writeCall, blocksWritten, sizeWritten};
 ghost use Rattle.rows.specs.Reading.{onFront};
-ghost use Rattle.report.specs.Lines.{printed, putOf};
+ghost use Rattle.phrases.specs.Room.{putOf};
+ghost use Rattle.report.specs.Lines.{printed};
 use doubles::Answer;
 use doubles::Doubles;
 use form::Counts;
 use form::KINDS;
 use form::Verdict;
 use form::count_of;
-use report::Put;
+use phrases::Put;
 use rows::Written;
 
 fn refusal(number: u8, place: u32) -> u32

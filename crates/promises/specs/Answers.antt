@@ -18,7 +18,8 @@ use Rattle.rows.specs.Reading.{readAnswer, roomAfter}
 use Rattle.rows.specs.Writing.{writeAnswer, bytesAfter}
 use Rattle.worksheets.specs.Answers.{outcomeOf, answered}
 use Rattle.doubles.specs.Subtotals.{answerOf}
-use Rattle.report.specs.Lines.{printed, putOf, textAfter}
+use Rattle.phrases.specs.Room.{putOf, textAfter}
+use Rattle.report.specs.Lines.{printed}
 use Rattle.tabled.specs.Figures.{figuresAnswer, figuresAfter}
 use Rattle.door.specs.Door.{codeOf, judgeCall, countsAfter, subtotalCall, bitsAfter, sizeOf, linesAfter}
 use Rattle.door.specs.Defaults.{defaultsCall, defaultsAfter}

@@ -22,8 +22,10 @@ use Rattle.worksheets.specs.Answers.{worked, refusal, outcomeBy, outcomeOf}
 use Rattle.doubles.specs.Subtotals.{subtotalsOf, answerBy, answerOf}
 use Rattle.doubles.specs.declared.Answer.the-variants as doubles
 use Rattle.listed.specs.Listed.{listed}
-use Rattle.report.specs.Lines.{lineOf, refusedLine, textOf, printed, textAfter}
-use Rattle.report.specs.declared.Put.the-variants.{Short}
+use Rattle.phrases.specs.Lines.{refusedLine}
+use Rattle.phrases.specs.Room.{textAfter}
+use Rattle.phrases.specs.declared.Put.the-variants.{Short}
+use Rattle.report.specs.Lines.{lineOf, textOf, printed}
 use Rattle.tabled.specs.Figures.{figuresRules, figuresAnswer, figuresAfter}
 use Rattle.door.specs.Door.{codeOf, judgeRules, judgeCall, countsAfter, subtotalRules, subtotalCall, bitsAfter}
 use Rattle.door.specs.Rows.{readRulesC, readCall, rowsAfter, writeRulesC, writeCall, blocksAfter, sizeAfter}

@@ -1,3 +1,2 @@
-pub mod Room
 mod Filled
 pub mod Short

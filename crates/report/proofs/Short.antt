@@ -19,8 +19,8 @@ use Rattle.worksheets.specs.Answers.{outcomeBy}
 use Rattle.worksheets.proofs.Small.{Small51, Small52, Small53, Small54, Small43, Small, figures-small}
 use Rattle.listed.specs.Listed.{Figure, listed51, listed52, listed53, listed54, listedPeriods, listed43, listed}
 use Rattle.listed.proofs.Laws.{counted}
-use Rattle.report.specs.Lines.{lineOf, refusedLine, textOf, printed, linesRoom}
-use Rattle.report.proofs.Room.{refused-length}
+use Rattle.phrases.proofs.Room.{refused-length}
+use Rattle.report.specs.Lines.{lineOf, textOf, printed, linesRoom}
 
 -- a value of at most 34 digits, with its sign
 marked-short : (z : ℤ) → natAbs z < 10 ^ 34 → length (marked z) ≤ 35

@@ -3,17 +3,14 @@ mod text;
 
 ghost use mathlib.Core.Path.{_≡_};
 ghost use lib.ListN.{length};
-ghost use Rattle.report.specs.Lines.{printed, putOf, textAfter};
+ghost use Rattle.phrases.specs.Room.{putOf, textAfter};
+ghost use Rattle.report.specs.Lines.{printed};
 use listed::FIGURES;
+use phrases::Put;
+use phrases::put_short;
 
 // Room that is always enough for the lines.
 pub const LINES_ROOM: usize = 60 * FIGURES;
-
-// How a text was put into lent room.
-pub enum Put {
-    Done(usize),
-    Short,
-}
 
 // The lines of any bytes at the front of the room, and the text's length; a room too short for them is left as it was.
 pub fn lines(bytes: &[u8], room: &mut [u8]) -> Put
@@ -27,9 +24,5 @@ pub fn lines(bytes: &[u8], room: &mut [u8]) -> Put
     }
     let mut space = [0u8; LINES_ROOM];
     let n = text::write_lines(bytes, &mut space);
-    if room.len() < n {
-        return Put::Short;
-    }
-    text::put(&space, n, room, 0);
-    Put::Done(n)
+    put_short(&space, n, room)
 }

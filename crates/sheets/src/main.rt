@@ -3,8 +3,8 @@ use form::LONGEST;
 use libc::STDERR_FILENO;
 use libc::STDIN_FILENO;
 use libc::STDOUT_FILENO;
+use phrases::Put;
 use report::LINES_ROOM;
-use report::Put;
 
 // Part of the text may be out already: write_all does not say how much.
 fn put(text: &[u8]) {

@@ -1,7 +1,8 @@
 -- `door::niloferq_lines` meets its contract. Assumes nothing.
 use mathlib.Core.Path.{sym, ap, _∙_}
 use denote.Ref.{now}
-use Rattle.report.specs.Lines.{printed, textAfter}
+use Rattle.phrases.specs.Room.{textAfter}
+use Rattle.report.specs.Lines.{printed}
 use Rattle.door.specs.Door.{sizeOf}
 use native.Mathlib.Omega.{arith}
 use borrow.Author.Needs.{needs}

@@ -1,10 +1,10 @@
 -- The text straight in the lent room, or first in room of our own: each is enough for any text. Assumes nothing.
 use native.Mathlib.Omega.{arith}
 use denote.Ref.{now}
-use Rattle.report.specs.Lines.{printed}
-use Rattle.report.proofs.Room.{straight-out, short-out, done-out}
-use Rattle.report.proofs.Short.{printed-short}
 use borrow.Author.Needs.{needs}
+use Rattle.phrases.proofs.Room.{straight-out, elsewhere-out}
+use Rattle.report.specs.Lines.{printed}
+use Rattle.report.proofs.Short.{printed-short}
 use Rattle.report.proofs.lines.Statement.{statement}
 use Rattle.report.proofs.lines.Tie as tie
 
@@ -29,27 +29,24 @@ slice-aggregate-write-lines c = search needs
 write-lines-requires-2 : tie.Need-write-lines-requires-2
 write-lines-requires-2 c κs = omega (arith, printed-short (now (c .before .before .before .before .args .bytes)))
 
-returns-2 : tie.Need-returns-2
-returns-2 c =
-    let w = c .before .before in
+slice-aggregate-put-short : tie.Need-slice-aggregate-put-short
+slice-aggregate-put-short c = search needs
+
+put-short-requires : tie.Need-put-short-requires
+put-short-requires c κs =
+    let w = c .before .before .before in
     let a = w .before .before .before .before .before .args in
-    short-out (printed (now (a .bytes))) _ _ (now (a .room)) _ (w .write-lines2 .ensures) (c .if2 .taken)
-
-slice-aggregate-put : tie.Need-slice-aggregate-put
-slice-aggregate-put c = search needs
-
-put-requires : tie.Need-put-requires
-put-requires c κs = search needs
+    omega (arith, w .write-lines2 .ensures .place, w .write-lines2 .kept .1 .0, printed-short (now (a .bytes)))
 
 same-length-2 : tie.Need-same-length-2
 same-length-2 c = search needs
 
-returns-3 : tie.Need-returns-3
-returns-3 c =
+returns-2 : tie.Need-returns-2
+returns-2 c =
     let p = c .before .before in
-    let w = p .before .before .before .before .before in
+    let w = p .before .before .before .before in
     let a = w .before .before .before .before .before .args in
-    done-out (printed (now (a .bytes))) _ _ (now (a .room)) _ (w .write-lines2 .ensures) _ _ (omega arith) (omega arith) (p .put .ensures)
+    elsewhere-out (printed (now (a .bytes))) _ _ (now (a .room)) _ _ _ (w .write-lines2 .ensures) (omega (arith, w .write-lines2 .ensures .place, printed-short (now (a .bytes)))) (p .put-short .ensures)
 
 pub lines-spec : {M : Type 1} → statement M
 lines-spec =
@@ -60,8 +57,7 @@ lines-spec =
     returns
     slice-aggregate-write-lines
     write-lines-requires-2
-    returns-2
-    slice-aggregate-put
-    put-requires
+    slice-aggregate-put-short
+    put-short-requires
     same-length-2
-    returns-3)
+    returns-2)

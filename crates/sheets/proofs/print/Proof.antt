@@ -4,8 +4,8 @@ use mathlib.Core.Path.{sym, _∙_}
 use denote.Ref.{now}
 use lib.ListN.{length}
 use lib.Seq.{length-take-le}
+use Rattle.phrases.proofs.Room.{put-fits}
 use Rattle.report.specs.Lines.{printed}
-use Rattle.report.proofs.Room.{put-fits}
 use native.Mathlib.Omega.{arith}
 use borrow.Author.Needs.{needs}
 use Rattle.sheets.proofs.print.Statement.{statement}

@@ -5,7 +5,7 @@ use lib.ListN.{length}
 use denote.Ref.{now}
 use Rattle.worksheets.proofs.One.{told, in-form}
 use Rattle.report.specs.Lines.{textOf}
-use Rattle.report.proofs.Room.{as-text}
+use Rattle.report.proofs.Filled.{as-text}
 use borrow.Author.Needs.{needs}
 use Rattle.report.proofs.text.write_lines.Statement.{statement}
 use Rattle.report.proofs.text.write_lines.Tie as tie

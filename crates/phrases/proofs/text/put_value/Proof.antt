@@ -6,8 +6,8 @@ use Rattle.wide.specs.Signs.{amount}
 use Rattle.decimal.specs.Digits.{marked}
 use Rattle.decimal.proofs.DigitLaws.{written-more}
 use borrow.Author.Needs.{needs}
-use Rattle.report.proofs.text.put_value.Statement.{statement}
-use Rattle.report.proofs.text.put_value.Tie as tie
+use Rattle.phrases.proofs.text.put_value.Statement.{statement}
+use Rattle.phrases.proofs.text.put_value.Tie as tie
 
 write-signed-requires : tie.Need-write-signed-requires
 write-signed-requires c κs =

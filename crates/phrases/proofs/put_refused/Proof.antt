@@ -1,10 +1,10 @@
 -- Part after part of a refusal's line. Assumes nothing.
 use Rattle.decimal.proofs.DigitLaws.{written-more}
-use Rattle.report.proofs.Room.{as-refused, ended-length, refused-length}
+use Rattle.phrases.proofs.Room.{as-refused, ended-length, refused-length}
 use native.Mathlib.Omega.{arith}
 use borrow.Author.Needs.{needs}
-use Rattle.report.proofs.text.put_refused.Statement.{statement}
-use Rattle.report.proofs.text.put_refused.Tie as tie
+use Rattle.phrases.proofs.put_refused.Statement.{statement}
+use Rattle.phrases.proofs.put_refused.Tie as tie
 
 slice-aggregate-put : tie.Need-slice-aggregate-put
 slice-aggregate-put c = search needs

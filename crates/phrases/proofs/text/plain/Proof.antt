@@ -4,8 +4,8 @@ use lib.IntN.{pos}
 use Rattle.wide.proofs.SignLaws.{holds-as}
 use native.Mathlib.Omega.{arith}
 use borrow.Author.Needs.{needs}
-use Rattle.report.proofs.text.plain.Statement.{statement}
-use Rattle.report.proofs.text.plain.Tie as tie
+use Rattle.phrases.proofs.text.plain.Statement.{statement}
+use Rattle.phrases.proofs.text.plain.Tie as tie
 
 of-requires : tie.Need-of-requires
 of-requires c κs = search needs

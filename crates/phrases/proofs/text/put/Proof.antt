@@ -1,15 +1,15 @@
--- `report::text::put` meets its contract. Assumes nothing.
+-- `phrases::text::put` meets its contract. Assumes nothing.
 use Prim.Native.Nat.{ℕ, _+_, _-_, _≤_}
 use mathlib.Core.Path.{_≡_, refl, sym, ap, _∙_}
 use denote.Ref.{now}
 use mathlib.Core.List.{List}
 use lib.ListN.{length, take, set, getD, length-set}
 use lib.Seq.{sets, length-sets, length-take-le}
-use Rattle.report.proofs.Room.{put-more}
+use Rattle.phrases.proofs.Room.{put-more}
 use borrow.Author.Needs.{needs}
 use native.Mathlib.Omega.{arith}
-use Rattle.report.proofs.text.put.Statement.{statement}
-use Rattle.report.proofs.text.put.Tie as tie
+use Rattle.phrases.proofs.text.put.Statement.{statement}
+use Rattle.phrases.proofs.text.put.Tie as tie
 
 abbrev Inv-loop : tie.InvT-loop
 Inv-loop text n out₀ at i₀ out i = (i ≤ n) × (length out ≡ length out₀) × (out ≡ sets out₀ at (take i text))

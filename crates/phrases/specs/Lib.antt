@@ -1,0 +1,4 @@
+pub mod Lines
+pub mod Room
+pub mod Words
+mod Examples
