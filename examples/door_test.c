@@ -1,6 +1,6 @@
 /* Tries what the header says: areas of length 0, NULL among their pointers; each function on the worked day and on the day with abandoned
  * land and savanna; reading into rooms of every length; writing in both editions, rows with a fault of each kind among them. The tests of table 5-2
- * are in door_table52.c. */
+ * are in door_table52.c, those of the explanation and of the heaviest rows in door_explain.c. */
 #include "door_test.h"
 #include "niloferq.h"
 #include <stdio.h>
@@ -474,12 +474,11 @@ static void editions(void) {
     must_refuse(&r, sizeof room, 1, 10005, "write: abandoned land and savanna in edition 1");
 }
 
-/* The lowest byte first, as everywhere in a return. */
-static void put(uint8_t *at, uint32_t value, int width) {
+void put(uint8_t *at, uint32_t value, int width) {
     for (int i = 0; i < width; i++) at[i] = (uint8_t)(value >> 8 * i);
 }
 
-static void put_check(uint8_t *block) {
+void put_check(uint8_t *block) {
     uint32_t check = 0;
     for (uint32_t i = 0; i < 508; i++) check += (i + 1) * block[i];
     put(block + 508, check, 4);
@@ -747,6 +746,7 @@ int main(int count, char **words) {
     later_rules(THIRTEEN_2, SAVANNA, 108, 11 * 512);  /* two blocks behind abandoned land's first */
     defaults();
     table52();
+    explanations(day, length);
     printf("door: %u tried, %u wrong\n", tried, wrong);
     return wrong != 0;
 }

@@ -10,7 +10,7 @@
  *
  * A refusal is 1,000 times its number plus its place, by the paper's table, tried in its order; number 8 is not given any more; two of niloferq_table52 have
  * no number there and are 1 and 2; the refusal of a room that is too short, 9000 and when reading also 9001 to 9006, comes last. On a refusal no lent
- * element has changed, but for niloferq_lines: the text of a refusal is its line, and it is written like any other.
+ * element has changed, but for niloferq_lines and niloferq_explain: the text of a refusal is its lines, and it is written like any other.
  *
  * Rows in lent memory: a row is its fields in the order of the paper, each a uint32_t, with no zero bytes between. The rows of all kinds
  * lie in one area, kind after kind: conversion, stock, harvest, parameters, abandoned land, savanna, which are kinds 1 to 6.
@@ -23,7 +23,7 @@
 #include <stddef.h>
 #include <stdint.h>
 
-#define NILOFERQ_VERSION 6 /* of the functions below; 5 had no table, 4 had five kinds, 3 number 8 and no `thinner`, 2 four kinds and no edition, 1 an area for each kind */
+#define NILOFERQ_VERSION 7 /* of the functions below; 6 had no explanation, 5 no table, 4 had five kinds, 3 number 8 and no `thinner`, 2 four kinds and no edition, 1 an area for each kind */
 
 #define NILOFERQ_EDITIONS 2            /* the latest edition */
 #define NILOFERQ_KINDS 6               /* the kinds of rows */
@@ -46,6 +46,8 @@
 #define NILOFERQ_RETURN_ROOM 8192                    /* bytes for a return */
 #define NILOFERQ_FIGURES_ROOM (3 * NILOFERQ_FIGURES) /* elements for the figures, 75 */
 #define NILOFERQ_LINES_ROOM 1500                     /* bytes for the lines */
+#define NILOFERQ_EXPLAIN_ROOM 300                    /* bytes for an explanation */
+#define NILOFERQ_HEAVIEST_ROOM 3                     /* elements for the heaviest row */
 
 #define NILOFERQ_COUNTRIES 90   /* the countries of table 5-2 */
 #define NILOFERQ_ZONES 6        /* its forest zones */
@@ -73,6 +75,19 @@ uint32_t niloferq_figures(const uint8_t *bytes, size_t bytes_len, uint64_t *room
  * The text's length, and the text stands at the front of room, with no zero byte behind it; later bytes keep their values.
  * 0: room_len is below the text's length, and room is unchanged. NILOFERQ_LINES_ROOM bytes are always enough. */
 size_t niloferq_lines(const uint8_t *bytes, size_t bytes_len, uint8_t *room, size_t room_len);
+
+/* The text that the program `explain` prints: `refused`, number and place, then the values that clash, a line each; of a good return the heaviest
+ * conversion row of each of the three carbon subtotals. docs/EXPLAIN.md has the lines.
+ * The text's length, and the text stands at the front of room, with no zero byte behind it; later bytes keep their values.
+ * 0: room_len is below the text's length, and room is unchanged. NILOFERQ_EXPLAIN_ROOM bytes are always enough. */
+size_t niloferq_explain(const uint8_t *bytes, size_t bytes_len, uint8_t *room, size_t room_len);
+
+/* The heaviest row of a carbon subtotal, by its code: 0 on-site, 1 off-site, 2 decay. It is the conversion row with the largest exact part, the one
+ * with the lower id on a tie; where the subtotal is zero there is none.
+ * 0: the first NILOFERQ_HEAVIEST_ROOM elements of room are 1, the row's id and its part in 10^-12 kt C; or 0, 0, 0 where there is none, so that a
+ *    row with id 0 is told apart from none. Later elements keep their values.
+ * 1000 to 7191: refused by one of the numbers 1 to 7. 11000: a good return and a code above 2. 9000: and room_len is below NILOFERQ_HEAVIEST_ROOM. */
+uint32_t niloferq_heaviest(const uint8_t *bytes, size_t bytes_len, uint32_t code, uint64_t *room, size_t room_len);
 
 /* One of the three carbon subtotals as a double, by its code: 0 on-site, 1 off-site, 2 decay.
  * 0: the first eight bytes of room are the double's bits, the lowest byte first; later bytes keep their values. The double is a

@@ -1,9 +1,9 @@
 # Builds the second program beside the proved library. To be read by a shell in the repository's folder:
 #     . second/build.sh; second_run compare
 # The proved library is x86-64 code, so on another processor the second program is built for x86-64 too (tools/machine.sh).
-second_features="lines,doubles,rows"
+second_features="lines,doubles,rows,explain"
 # the longest first, since the gate runs two at a time
-comparisons="compare_lines compare_rows compare_doubles compare compare_sheets fenced"
+comparisons="compare_lines compare_rows compare_doubles compare compare_explain compare_sheets fenced"
 
 . tools/machine.sh
 
@@ -15,8 +15,11 @@ second_build() {
     local door=$PWD/target/staticlib target=x86_64-unknown-linux-gnu
     mkdir -p target
     rt staticlib door >target/door.log 2>&1 || { cat target/door.log >&2; return 1; }
-    # the program itself, for compare_sheets: rt links a proved program to target/bin
-    [ -x target/bin/sheets ] || rt check sheets >target/sheets.log 2>&1 || { cat target/sheets.log >&2; return 1; }
+    # the programs themselves, for compare_sheets: rt links a proved program to target/bin
+    local program
+    for program in sheets explain; do
+        [ -x target/bin/$program ] || rt check $program >target/$program.log 2>&1 || { cat target/$program.log >&2; return 1; }
+    done
     # for the benchmark alone
     $machine_cc -O3 -fPIC -c second/plain_returns.c -o target/plain_returns.o || return 1
     export NILOFERQ_PLAIN=$PWD/target/plain_returns.o
@@ -37,7 +40,8 @@ second_build() {
 second_run() { # PROGRAM [ARGUMENT..]
     local program=$1
     shift
-    NILOFERQ_SHEETS=$PWD/target/bin/sheets NILOFERQ_RUNNER=$machine_runner $machine_runner "$second_folder/$program" "$@"
+    NILOFERQ_SHEETS=$PWD/target/bin/sheets NILOFERQ_EXPLAIN=$PWD/target/bin/explain NILOFERQ_RUNNER=$machine_runner \
+        $machine_runner "$second_folder/$program" "$@"
 }
 
 # The second program's own tests. They need no library, so they are built for this processor and run without an emulator.

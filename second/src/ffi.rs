@@ -9,6 +9,7 @@
 //! nothing else is said.
 
 pub mod doubles;
+pub mod explain;
 pub mod judge;
 pub mod lines;
 pub mod rows;

@@ -2,7 +2,7 @@
 
 use crate::rng::Rng;
 use crate::sweep::Case;
-use crate::{figures, mix, sweep};
+use crate::{clashes, figures, mix, sweep, weights};
 
 /// One input in this many comes from the sweeps, until they are used up.
 const SWEEP_EVERY: usize = 4;
@@ -29,5 +29,32 @@ pub fn with_figures(index: usize, rng: &mut Rng) -> Case {
         figures::case(rng)
     } else {
         plain(index, rng)
+    }
+}
+
+/// One input in this many comes from the sweeps where they have to be over sooner.
+const SOONER: usize = 2;
+
+/// As [`least`], for [`explained`].
+pub fn least_explained() -> usize {
+    LEAST_INPUTS.max(SOONER * sweep::size())
+}
+
+/// For the sake of what is said about them: the sweeps, and as often the others.
+pub fn explained(index: usize, rng: &mut Rng) -> Case {
+    let turn = index / SOONER;
+    if index.is_multiple_of(SOONER) && turn < sweep::size() {
+        sweep::case(turn, rng)
+    } else {
+        drawn_explained(rng)
+    }
+}
+
+/// The mixture, several clashes at one place, and rows by their weight.
+pub fn drawn_explained(rng: &mut Rng) -> Case {
+    match rng.below(4) {
+        0 | 1 => mix::case(rng),
+        2 => clashes::case(rng),
+        _ => weights::case(rng),
     }
 }

@@ -9,9 +9,15 @@
 //! place of each, and the lowest number that was noted is given.
 
 mod blocks;
+mod layout;
 mod records;
 
-use blocks::{blocks_of, check_holds, first_block, header_holds, layout_holds};
+pub(crate) use blocks::{computed_check, stored_check};
+pub(crate) use layout::first_fault;
+pub use layout::Fault;
+
+use blocks::{blocks_of, check_holds, first_block, header_holds};
+use layout::layout_holds;
 use records::records_hold;
 
 /// What a return is answered with.
@@ -62,7 +68,7 @@ const ABANDONED: u8 = 5;
 const SAVANNA: u8 = 6;
 const LAST_KIND: usize = SAVANNA as usize;
 
-type Block = [u8; BLOCK];
+pub(crate) type Block = [u8; BLOCK];
 pub type Record = [u8; RECORD];
 
 /// A return that was accepted: the caller's own bytes and the row counts.
@@ -131,7 +137,20 @@ pub fn check(bytes: &[u8]) -> Result<Checked<'_>, Refusal> {
     Ok(Checked { blocks, counts })
 }
 
-fn edition(block: &Block) -> u16 {
+/// All whole blocks of any bytes.
+pub(crate) fn whole_blocks(bytes: &[u8]) -> &[Block] {
+    let (blocks, _) = bytes.as_chunks();
+    blocks
+}
+
+/// "A record's place is 12 times its block plus its position".
+pub(crate) fn record_at(blocks: &[Block], place: usize) -> (u8, &Record) {
+    let block = &blocks[place / RECORDS_PER_BLOCK];
+    let records = used_records(block, RECORDS_PER_BLOCK);
+    (block[0], &records[place % RECORDS_PER_BLOCK])
+}
+
+pub(crate) fn edition(block: &Block) -> u16 {
     two(block, 6)
 }
 
@@ -151,4 +170,4 @@ pub fn four<const N: usize>(bytes: &[u8; N], at: usize) -> u32 {
 
 #[cfg(test)]
 #[path = "judge_tests/mod.rs"]
-mod tests;
+pub(crate) mod tests;

@@ -7,17 +7,24 @@
 use crate::judge::{four, two, Checked, Record};
 use std::ops::RangeInclusive;
 
-/// A number of a row: where its bytes begin in the record, how many they are,
-/// and the most it may be.
+/// A number of a row: its name in the paper's words, where its bytes begin in the
+/// record, how many they are, and the most it may be.
 #[derive(Clone, Copy)]
-struct Field {
+pub struct Field {
+    /// With `_` for a space.
+    pub name: &'static str,
     at: usize,
     bytes: usize,
-    most: u32,
+    pub most: u32,
 }
 
-const fn field(at: usize, bytes: usize, most: u32) -> Field {
-    Field { at, bytes, most }
+const fn field(name: &'static str, at: usize, bytes: usize, most: u32) -> Field {
+    Field {
+        name,
+        at,
+        bytes,
+        most,
+    }
 }
 
 const AREA: u32 = 1_000_000;
@@ -31,11 +38,13 @@ const RATE: u32 = 10_000;
 const UNIT_CODE: u32 = 1;
 
 /// "An id is any 32-bit number, zero included", and stands first.
-const ID: Field = field(0, 4, u32::MAX);
+const ID: Field = field("id", 0, 4, u32::MAX);
 
 /// A kind whose rows have `N` numbers.
 trait Layout<const N: usize> {
     const FIELDS: [Field; N];
+    /// The same for the table, which has kinds of every length.
+    const ALL_FIELDS: &'static [Field] = &Self::FIELDS;
     /// Whether the first number is an id, which must be above the one before.
     const HAS_ID: bool = true;
 
@@ -49,20 +58,20 @@ struct Conversion;
 impl Layout<15> for Conversion {
     const FIELDS: [Field; 15] = [
         ID,
-        field(4, 4, AREA),
-        field(8, 2, DENSITY),
-        field(10, 2, DENSITY),
-        field(12, 2, SHARE),
-        field(14, 2, SHARE),
-        field(16, 2, SHARE),
-        field(18, 2, SHARE),
-        field(20, 2, SHARE),
-        field(22, 2, SHARE),
-        field(24, 4, AREA),
-        field(28, 2, DENSITY),
-        field(30, 2, DENSITY),
-        field(32, 2, SHARE),
-        field(34, 2, SHARE),
+        field("area", 4, 4, AREA),
+        field("before", 8, 2, DENSITY),
+        field("after", 10, 2, DENSITY),
+        field("on-site_fraction", 12, 2, SHARE),
+        field("on-site_oxidised_fraction", 14, 2, SHARE),
+        field("on-site_carbon_fraction", 16, 2, SHARE),
+        field("off-site_fraction", 18, 2, SHARE),
+        field("off-site_oxidised_fraction", 20, 2, SHARE),
+        field("off-site_carbon_fraction", 22, 2, SHARE),
+        field("ten-year_area", 24, 4, AREA),
+        field("ten-year_before", 28, 2, DENSITY),
+        field("ten-year_after", 30, 2, DENSITY),
+        field("decay_fraction", 32, 2, SHARE),
+        field("decay_carbon_fraction", 34, 2, SHARE),
     ];
 
     /// "on-site + off-site + decay above 1,000"
@@ -75,10 +84,10 @@ struct Stock;
 impl Layout<5> for Stock {
     const FIELDS: [Field; 5] = [
         ID,
-        field(4, 1, UNIT_CODE),
-        field(6, 2, RATE),
-        field(8, 4, AMOUNT),
-        field(12, 2, SHARE),
+        field("unit_code", 4, 1, UNIT_CODE),
+        field("rate", 6, 2, RATE),
+        field("amount", 8, 4, AMOUNT),
+        field("carbon_fraction", 12, 2, SHARE),
     ];
 }
 
@@ -86,22 +95,22 @@ struct Harvest;
 impl Layout<5> for Harvest {
     const FIELDS: [Field; 5] = [
         ID,
-        field(4, 4, AMOUNT),
-        field(8, 2, RATE),
-        field(12, 4, AMOUNT),
-        field(16, 4, AMOUNT),
+        field("F", 4, 4, AMOUNT),
+        field("G", 8, 2, RATE),
+        field("I", 12, 4, AMOUNT),
+        field("J", 16, 4, AMOUNT),
     ];
 }
 
 struct Parameters;
 impl Layout<6> for Parameters {
     const FIELDS: [Field; 6] = [
-        field(4, 2, SHARE),
-        field(6, 2, SHARE),
-        field(8, 2, SHARE),
-        field(10, 2, SHARE),
-        field(12, 2, SHARE),
-        field(14, 2, SHARE),
+        field("N", 4, 2, SHARE),
+        field("CH4", 6, 2, SHARE),
+        field("CO", 8, 2, SHARE),
+        field("N/C", 10, 2, SHARE),
+        field("N2O", 12, 2, SHARE),
+        field("NOx", 14, 2, SHARE),
     ];
     const HAS_ID: bool = false;
 }
@@ -112,12 +121,12 @@ struct Abandoned;
 impl Layout<7> for Abandoned {
     const FIELDS: [Field; 7] = [
         ID,
-        field(4, 4, AMOUNT),
-        field(8, 2, RATE),
-        field(10, 2, SHARE),
-        field(12, 4, AMOUNT),
-        field(16, 2, RATE),
-        field(18, 2, SHARE),
+        field("area", 4, 4, AMOUNT),
+        field("growth_rate", 8, 2, RATE),
+        field("carbon_fraction", 10, 2, SHARE),
+        field("longer_area", 12, 4, AMOUNT),
+        field("longer_growth_rate", 16, 2, RATE),
+        field("longer_carbon_fraction", 18, 2, SHARE),
     ];
 }
 
@@ -127,19 +136,19 @@ struct Savanna;
 impl Layout<14> for Savanna {
     const FIELDS: [Field; 14] = [
         ID,
-        field(4, 4, AREA),
-        field(8, 2, DENSITY),
-        field(10, 2, SHARE),
-        field(12, 2, SHARE),
-        field(14, 2, SHARE),
-        field(16, 2, SHARE),
-        field(18, 2, SHARE),
-        field(20, 2, SHARE),
-        field(22, 2, SHARE),
-        field(24, 2, SHARE),
-        field(26, 2, SHARE),
-        field(28, 2, SHARE),
-        field(30, 2, SHARE),
+        field("area", 4, 4, AREA),
+        field("density", 8, 2, DENSITY),
+        field("fraction_really_burned", 10, 2, SHARE),
+        field("live_fraction", 12, 2, SHARE),
+        field("live_oxidised_fraction", 14, 2, SHARE),
+        field("live_carbon_fraction", 16, 2, SHARE),
+        field("dead_oxidised_fraction", 18, 2, SHARE),
+        field("dead_carbon_fraction", 20, 2, SHARE),
+        field("N/C", 22, 2, SHARE),
+        field("CH4", 24, 2, SHARE),
+        field("CO", 26, 2, SHARE),
+        field("N2O", 28, 2, SHARE),
+        field("NOx", 30, 2, SHARE),
     ];
 }
 
@@ -153,6 +162,8 @@ pub struct Kind {
     pub since: u32,
     /// Numbers of 32 bits in a row.
     pub numbers: usize,
+    /// What each of them is, in the row's order.
+    pub fields: &'static [Field],
     pub least_rows: usize,
     pub most_rows: usize,
     /// The rows of a return's records of this kind, into room for just these.
@@ -205,12 +216,19 @@ impl Kind {
             name,
             since,
             numbers: N,
+            fields: L::ALL_FIELDS,
             least_rows,
             most_rows,
             take: take::<N, L>,
             note: note::<N, L>,
             put: put::<N, L>,
         }
+    }
+
+    /// Whether zero is due at this byte of a used record: no field has it.
+    pub(crate) fn zero_due(&self, at: usize) -> bool {
+        let has = |field: &Field| (field.at..field.at + field.bytes).contains(&at);
+        !self.fields.iter().any(has)
     }
 
     /// How many rows so many elements are, if they can be this kind's rows in
@@ -267,7 +285,7 @@ fn note<const N: usize, L: Layout<N>>(rows: &[u32], place: usize, first: &mut Fi
 
 impl Field {
     #[inline(always)]
-    fn of(self, record: &Record) -> u32 {
+    pub(crate) fn of(self, record: &Record) -> u32 {
         match self.bytes {
             1 => u32::from(record[self.at]),
             2 => u32::from(two(record, self.at)),
@@ -304,7 +322,10 @@ mod tests {
     /// Each field behind the one before, inside the record, and wide enough.
     fn fields_stand_in_order<const N: usize, L: Layout<N>>() {
         let mut free = 0;
-        for Field { at, bytes, most } in L::FIELDS {
+        for field in L::FIELDS {
+            let Field {
+                at, bytes, most, ..
+            } = field;
             assert!(at >= free && at + bytes <= 40 && [1, 2, 4].contains(&bytes));
             assert!(u64::from(most) < 1 << (8 * bytes));
             free = at + bytes;

@@ -1,7 +1,8 @@
 //! The second program, written from the paper (01) and the requests on abandoned
-//! land, on halves, on thinner grass and on savannas (02, §1 to §3 and §5) alone:
-//! a judge, a reader and a writer of returns, the worksheets and the doubles, with
-//! makers of good and damaged inputs to compare all of it with the first program.
+//! land, on halves, on thinner grass, on savannas and on reasons (02, §1 to §3, §5
+//! and §7) alone: a judge, a reader and a writer of returns, the worksheets, the
+//! doubles, the explanations and the heaviest rows, with makers of good and
+//! damaged inputs to compare all of it with the first program.
 //!
 //! It shares no code and no definition with the first program. The unit tests
 //! (`NILOFERQ_LIB= cargo test --lib`) need nothing else; the comparisons and
@@ -12,14 +13,17 @@
 
 pub mod bound;
 pub mod burned;
+pub mod clashes;
 pub mod damage;
 pub mod doubles;
 pub mod drive;
+pub mod explain;
 pub mod fence;
 #[cfg(not(door_missing))]
 pub mod ffi;
 pub mod figures;
 pub mod halves;
+pub mod heaviest;
 pub mod inputs;
 pub mod judge;
 pub mod kinds;
@@ -29,6 +33,7 @@ pub mod make;
 pub mod mix;
 pub mod order_sweeps;
 pub mod reader;
+pub mod reasons;
 pub mod request;
 pub mod rng;
 pub mod rounding;
@@ -42,5 +47,6 @@ pub mod sweep;
 pub mod text;
 pub mod thinner;
 pub mod timing;
+pub mod weights;
 pub mod worst;
 pub mod writer;

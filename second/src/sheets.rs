@@ -60,15 +60,7 @@ pub fn text(bytes: &[u8]) -> Text {
 /// Puts the text at the front of `room` and gives its length, or gives 0 and
 /// leaves `room` alone when it is too short.
 pub fn lines(bytes: &[u8], room: &mut [u8]) -> usize {
-    let text = text(bytes);
-    let text = text.as_bytes();
-    match room.get_mut(..text.len()) {
-        Some(front) => {
-            front.copy_from_slice(text);
-            text.len()
-        }
-        None => 0,
-    }
+    text(bytes).put_into(room)
 }
 
 /// How many numbers C gets for all figures, three for each.
@@ -88,7 +80,7 @@ pub fn figures(bytes: &[u8], room: &mut [u64]) -> u32 {
 }
 
 /// "lent room too short", from C with place 0.
-const SHORT: Refusal = Refusal {
+pub(crate) const SHORT: Refusal = Refusal {
     number: 9,
     place: 0,
 };
@@ -337,7 +329,7 @@ fn cleared(period: Period) -> u64 {
 }
 
 /// One row's carbon: at most 10^19.
-fn carbon(period: Period, share: Share) -> u64 {
+pub(crate) fn carbon(period: Period, share: Share) -> u64 {
     cleared(period)
         * u64::from(share.fraction)
         * u64::from(share.oxidised)

@@ -1,5 +1,5 @@
-//! The lines of `sheets` in a room of their own: "name, one space, value in
-//! decimal, with `-` only below zero", each ended by a line feed.
+//! The lines of `sheets` and of `explain` in a room of their own: "name, one
+//! space, value in decimal, with `-` only below zero", each ended by a line feed.
 
 use crate::judge::Refusal;
 
@@ -39,6 +39,18 @@ impl Text {
         &self.bytes[..self.length]
     }
 
+    /// Puts the text at the front of `room` and gives its length, or gives 0 and
+    /// leaves `room` alone when it is too short.
+    pub fn put_into(&self, room: &mut [u8]) -> usize {
+        match room.get_mut(..self.length) {
+            Some(front) => {
+                front.copy_from_slice(self.as_bytes());
+                self.length
+            }
+            None => 0,
+        }
+    }
+
     /// The name comes with its space. Inlined, its length is known.
     #[inline]
     pub fn line(&mut self, name: &str, value: u64) {
@@ -68,6 +80,14 @@ impl Text {
         self.put(name.as_bytes());
         self.put_number(high as u64);
         put_digits(self.next(19), low as u64);
+        self.put(b"\n");
+    }
+
+    /// A word in the place of a number.
+    #[inline]
+    pub fn word_line(&mut self, name: &str, word: &str) {
+        self.put(name.as_bytes());
+        self.put(word.as_bytes());
         self.put(b"\n");
     }
 

@@ -24,8 +24,9 @@ use Rattle.doubles.specs.declared.Answer.the-variants.{Figures, Refused}
 use Rattle.doubles.specs.Subtotals.{subtotalsOf, answerBy, answerOf}
 use Rattle.doubles.proofs.Wholes.{no-nan}
 use Rattle.doubles.proofs.Demand.{onsite-demand, offsite-demand, decay-demand}
+use Rattle.heaviest.specs.Heaviest.{wrongCode}
 use Rattle.rows.specs.Reading.{onFront}
-use Rattle.door.specs.Door.{codeOf, wrongCode, subtotalRules, byCode, bitsAfter}
+use Rattle.door.specs.Door.{codeOf, subtotalRules, byCode, bitsAfter}
 
 -- what the answer says of the verdict
 refused-by : (s : List ℕ) (v : Verdict) (n p : ℕ) → answerBy s v ≡ Refused n p → v ≡ verdict.Refused n p

@@ -2,9 +2,9 @@
 use Prim.Native.Nat.{ℕ, suc, _+_, _*_}
 use mathlib.Core.Bool.{cond}
 use mathlib.Core.List.{List, [], _∷_, _++_}
-use lib.Dec.{ltb, eqb}
+use lib.Dec.{eqb}
 use lib.Ieee.{Float, binary64, toBits}
-use Rattle.form.specs.Ruling.{Rule, rule, tooShort, ruling}
+use Rattle.form.specs.Ruling.{Rule, tooShort, ruling}
 use Rattle.form.specs.Bytes.{littleEndian}
 use Rattle.form.specs.Layout.{kinds}
 use Rattle.form.specs.Verdict.{rules, rows, countsOf, countList}
@@ -13,6 +13,7 @@ use Rattle.phrases.specs.Room.{putOf, textAfter}
 use Rattle.phrases.specs.declared.Put.{Put}
 use Rattle.phrases.specs.declared.Put.the-variants.{Done, Short}
 use Rattle.report.specs.Lines.{printed}
+use Rattle.heaviest.specs.Heaviest.{wrongCode}
 use Rattle.doubles.specs.Subtotals.{subtotalsOf}
 use Rattle.doubles.specs.declared.Doubles.{Doubles}
 use Rattle.form.specs.declared.Counts.{Counts}
@@ -41,9 +42,6 @@ countsAfter s room Clean = onFront (held (countsOf s)) room
 countsAfter s room (Broken n p) = room
 
 -- the charting program's subtotal: 11 for "a subtotal's code above 2", after the return's rules and before the room for eight bytes
-abbrev pub wrongCode : ℕ → Rule
-wrongCode code = rule 11 1 (λ p. ltb 2 code)
-
 abbrev pub subtotalRules : List ℕ → ℕ → List ℕ → List Rule
 subtotalRules s code room = rules s ++ (wrongCode code ∷ tooShort 8 room ∷ [])
 

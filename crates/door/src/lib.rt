@@ -1,7 +1,9 @@
 // The door for programs in C. A slice is a pointer and then a length.
 pub mod defaults;
+pub mod explain;
 pub mod figures;
 pub mod table;
+pub mod weights;
 
 ghost use mathlib.Core.Path.{_≡_};
 ghost use Prim.Native.Nat.{_+_, _*_, _≤_, _<_};

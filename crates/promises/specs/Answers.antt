@@ -24,24 +24,33 @@ use Rattle.tabled.specs.Figures.{figuresAnswer, figuresAfter}
 use Rattle.door.specs.Door.{codeOf, judgeCall, countsAfter, subtotalCall, bitsAfter, sizeOf, linesAfter}
 use Rattle.door.specs.Defaults.{defaultsCall, defaultsAfter}
 use Rattle.door.specs.Rows.{readCall, rowsRead, countsRead, writeCall, blocksWritten, sizeWritten}
+use Rattle.heaviest.specs.Heaviest.{heaviestAnswer}
+use Rattle.door.specs.Heaviest.{heaviestCall, heaviestAfter}
 use Rattle.table52.specs.Lookup.{lookedUp}
 use Rattle.door.specs.Table.{tableCode, tableCall, tableAfter}
+use Rattle.explained.specs.Explained.{explanationOf, explained}
+use Rattle.door.specs.Explain.{explainAfter}
 use Rattle.steps.proofs.Clauses.{then, beside}
 use Rattle.judge.proofs.judge as judge
 use Rattle.rows.proofs.read as read
 use Rattle.rows.proofs.write as write
 use Rattle.worksheets.proofs.figures as figures
 use Rattle.doubles.proofs.subtotals as subtotals
+use Rattle.heaviest.proofs.heaviest as heaviest
 use Rattle.report.proofs.lines as lines
 use Rattle.table52.proofs.look_up as look-up
+use Rattle.explained.proofs.explain as explain
+use Rattle.explained.proofs.explain_lines as explain-lines
 use Rattle.door.proofs.niloferq_judge as c-judge
 use Rattle.door.proofs.niloferq_subtotal as c-subtotal
+use Rattle.door.proofs.weights.niloferq_heaviest as c-heaviest
 use Rattle.door.proofs.niloferq_lines as c-lines
 use Rattle.door.proofs.figures.niloferq_figures as c-figures
 use Rattle.door.proofs.defaults.niloferq_defaults as c-defaults
 use Rattle.door.proofs.niloferq_read as c-read
 use Rattle.door.proofs.niloferq_write as c-write
 use Rattle.door.proofs.table.niloferq_table52 as c-table
+use Rattle.door.proofs.explain.niloferq_explain as c-explain
 
 -- whatever memory is made of
 module _ {M : Type 1} (𝓤 : URA M) where
@@ -68,6 +77,12 @@ module _ {M : Type 1} (𝓤 : URA M) where
     pub look-up-says : Says look-up.ended (look-up.clauses 𝓤 H A mem run) (λ κs a r e. r ≡ lookedUp (a .0) (a .1 .0))
     look-up-says = record { asks-nothing = λ κs a g. id⊢ 𝓤 _; answers = λ κs a g r e. id⊢ 𝓤 _ }
 
+    pub heaviest-says : Says heaviest.ended (heaviest.clauses 𝓤 H A mem run) (λ κs a r e. r ≡ heaviestAnswer (now (a .0)) (a .1 .0))
+    heaviest-says = record { asks-nothing = λ κs a g. id⊢ 𝓤 _; answers = λ κs a g r e. id⊢ 𝓤 _ }
+
+    pub explain-says : Says explain.ended (explain.clauses 𝓤 H A mem run) (λ κs a r e. r ≡ explanationOf (now (a .0)))
+    explain-says = record { asks-nothing = λ κs a g. id⊢ 𝓤 _; answers = λ κs a g r e. id⊢ 𝓤 _ }
+
     -- ---- the answer and the lent room
     pub read-says : Says read.ended (read.clauses 𝓤 H A mem run)
         (λ κs a r e. (r ≡ readAnswer (now (a .0)) (now (a .1 .0))) × (now (e .1 .0) ≡ roomAfter (now (a .0)) (now (a .1 .0)) (readAnswer (now (a .0)) (now (a .1 .0)))))
@@ -82,6 +97,10 @@ module _ {M : Type 1} (𝓤 : URA M) where
         (λ κs a r e. (r ≡ putOf (printed (now (a .0))) (now (a .1 .0))) × (now (e .1 .0) ≡ textAfter (printed (now (a .0))) (now (a .1 .0)) (putOf (printed (now (a .0))) (now (a .1 .0)))))
     lines-says = record { asks-nothing = λ κs a g. id⊢ 𝓤 _; answers = λ κs a g r e. then 𝓤 _ _ (beside 𝓤 _ _ _ (id⊢ 𝓤 _)) (λ x. (x .0, x .1 ∙ ap (textAfter (printed (now (a .0))) (now (a .1 .0))) (x .0))) }
 
+    pub explain-lines-says : Says explain-lines.ended (explain-lines.clauses 𝓤 H A mem run)
+        (λ κs a r e. (r ≡ putOf (explained (now (a .0))) (now (a .1 .0))) × (now (e .1 .0) ≡ textAfter (explained (now (a .0))) (now (a .1 .0)) (putOf (explained (now (a .0))) (now (a .1 .0)))))
+    explain-lines-says = record { asks-nothing = λ κs a g. id⊢ 𝓤 _; answers = λ κs a g r e. then 𝓤 _ _ (beside 𝓤 _ _ _ (id⊢ 𝓤 _)) (λ x. (x .0, x .1 ∙ ap (textAfter (explained (now (a .0))) (now (a .1 .0))) (x .0))) }
+
     -- ---- from C: the code, or the size, and the lent rooms
     pub c-judge-says : Says c-judge.ended (c-judge.clauses 𝓤 H A mem run)
         (λ κs a r e. (r ≡ codeOf (judgeCall (now (a .0)) (now (a .1 .0))))
@@ -92,6 +111,11 @@ module _ {M : Type 1} (𝓤 : URA M) where
         (λ κs a r e. (r ≡ codeOf (subtotalCall (now (a .0)) (a .1 .0) (now (a .1 .1 .0))))
         × (now (e .1 .1 .0) ≡ bitsAfter (now (a .0)) (a .1 .0) (now (a .1 .1 .0)) (subtotalCall (now (a .0)) (a .1 .0) (now (a .1 .1 .0)))))
     c-subtotal-says = record { asks-nothing = λ κs a g. id⊢ 𝓤 _; answers = λ κs a g r e. beside 𝓤 _ _ _ (id⊢ 𝓤 _) }
+
+    pub c-heaviest-says : Says c-heaviest.ended (c-heaviest.clauses 𝓤 H A mem run)
+        (λ κs a r e. (r ≡ codeOf (heaviestCall (now (a .0)) (a .1 .0) (now (a .1 .1 .0))))
+        × (now (e .1 .1 .0) ≡ heaviestAfter (now (a .0)) (a .1 .0) (now (a .1 .1 .0)) (heaviestCall (now (a .0)) (a .1 .0) (now (a .1 .1 .0)))))
+    c-heaviest-says = record { asks-nothing = λ κs a g. id⊢ 𝓤 _; answers = λ κs a g r e. beside 𝓤 _ _ _ (id⊢ 𝓤 _) }
 
     pub c-lines-says : Says c-lines.ended (c-lines.clauses 𝓤 H A mem run)
         (λ κs a r e. (r ≡ sizeOf (putOf (printed (now (a .0))) (now (a .1 .0))))
@@ -122,3 +146,7 @@ module _ {M : Type 1} (𝓤 : URA M) where
     pub c-table-says : Says c-table.ended (c-table.clauses 𝓤 H A mem run)
         (λ κs a r e. (r ≡ tableCode (tableCall (a .0) (a .1 .0) (now (a .1 .1 .0)))) × (now (e .1 .1 .0) ≡ tableAfter (a .0) (a .1 .0) (now (a .1 .1 .0))))
     c-table-says = record { asks-nothing = λ κs a g. id⊢ 𝓤 _; answers = λ κs a g r e. beside 𝓤 _ _ _ (id⊢ 𝓤 _) }
+
+    pub c-explain-says : Says c-explain.ended (c-explain.clauses 𝓤 H A mem run)
+        (λ κs a r e. (r ≡ sizeOf (putOf (explained (now (a .0))) (now (a .1 .0)))) × (now (e .1 .0) ≡ explainAfter (now (a .0)) (now (a .1 .0))))
+    c-explain-says = record { asks-nothing = λ κs a g. id⊢ 𝓤 _; answers = λ κs a g r e. beside 𝓤 _ _ _ (id⊢ 𝓤 _) }

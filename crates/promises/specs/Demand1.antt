@@ -21,6 +21,8 @@ use Rattle.worksheets.specs.Sheets.{Sheets, figuresOf}
 use Rattle.worksheets.specs.Answers.{worked, refusal, outcomeBy, outcomeOf}
 use Rattle.doubles.specs.Subtotals.{subtotalsOf, answerBy, answerOf}
 use Rattle.doubles.specs.declared.Answer.the-variants as doubles
+use Rattle.heaviest.specs.Heaviest.{heaviestBy, namedOf, heaviestRules, namedBy, heaviestAnswer}
+use Rattle.heaviest.specs.declared.Named.the-variants as named
 use Rattle.listed.specs.Listed.{listed}
 use Rattle.phrases.specs.Lines.{refusedLine}
 use Rattle.phrases.specs.Room.{textAfter}
@@ -30,7 +32,9 @@ use Rattle.tabled.specs.Figures.{figuresRules, figuresAnswer, figuresAfter}
 use Rattle.door.specs.Door.{codeOf, judgeRules, judgeCall, countsAfter, subtotalRules, subtotalCall, bitsAfter}
 use Rattle.door.specs.Rows.{readRulesC, readCall, rowsAfter, writeRulesC, writeCall, blocksAfter, sizeAfter}
 use Rattle.door.specs.Defaults.{defaultsCall, defaultsAfter}
+use Rattle.door.specs.Heaviest.{heaviestRulesC, heaviestCall, heaviestAfter}
 use Rattle.door.proofs.Codes.{verdict-told, bounded, bounded-then, bounded-bytes, bounded-lists}
+use Rattle.door.proofs.Named.{named-told}
 use Rattle.door.proofs.Writing.{written-told}
 use Rattle.steps.proofs.Told.{figures-told, doubles-told}
 use Rattle.promises.specs.Order.{numbers, ByOrder, by-order, Coded, by-code}
@@ -54,6 +58,11 @@ read-numbers s room = refl
 pub write-numbers : (edition : ℕ) (lengths rows room : List ℕ) → numbers (writeRules edition lengths rows room) ≡ 10 ∷ 5 ∷ 6 ∷ 7 ∷ 9 ∷ []
 unfolding numbers listRules
 write-numbers edition lengths rows room = refl
+
+-- §7: "those of the sheets, then 11 for a subtotal's code above 2"
+pub heaviest-numbers : (s : List ℕ) (code : ℕ) → numbers (heaviestRules s code) ≡ 1 ∷ 2 ∷ 3 ∷ 4 ∷ 5 ∷ 6 ∷ 7 ∷ 11 ∷ []
+unfolding numbers blockRules
+heaviest-numbers s code = refl
 
 -- ---- the answers
 -- judge: the edition and the counts, or a refusal
@@ -83,6 +92,11 @@ pub write-by-order : (edition : ℕ) (lengths rows room : List ℕ)
 unfolding writeAnswer
 write-by-order edition lengths rows room = by-order (writtenBy edition (cut lengths rows)) (written-told edition (cut lengths rows)) (writeRules edition lengths rows room)
 
+-- heaviest: the row that weighs most in a subtotal, or none; or a refusal
+pub heaviest-by-order : (s : List ℕ) (code : ℕ)
+    → ByOrder (heaviestRules s code) (λ n p. heaviestAnswer s code ≡ named.Refused n p) (heaviestAnswer s code ≡ namedOf (heaviestBy code s))
+heaviest-by-order s code = by-order (namedBy s code) (named-told s code) (heaviestRules s code)
+
 -- ---- from C
 -- "from C, then 11 and last 9"
 pub c-judge-numbers : (s counts : List ℕ) → numbers (judgeRules s counts) ≡ 1 ∷ 2 ∷ 3 ∷ 4 ∷ 5 ∷ 6 ∷ 7 ∷ 9 ∷ []
@@ -92,6 +106,10 @@ c-judge-numbers s counts = refl
 pub c-subtotal-numbers : (s : List ℕ) (code : ℕ) (room : List ℕ) → numbers (subtotalRules s code room) ≡ 1 ∷ 2 ∷ 3 ∷ 4 ∷ 5 ∷ 6 ∷ 7 ∷ 11 ∷ 9 ∷ []
 unfolding numbers blockRules
 c-subtotal-numbers s code room = refl
+
+pub c-heaviest-numbers : (s : List ℕ) (code : ℕ) (room : List ℕ) → numbers (heaviestRulesC s code room) ≡ 1 ∷ 2 ∷ 3 ∷ 4 ∷ 5 ∷ 6 ∷ 7 ∷ 11 ∷ 9 ∷ []
+unfolding numbers blockRules
+c-heaviest-numbers s code room = refl
 
 pub c-figures-numbers : (s room : List ℕ) → numbers (figuresRules s room) ≡ 1 ∷ 2 ∷ 3 ∷ 4 ∷ 5 ∷ 6 ∷ 7 ∷ 9 ∷ []
 unfolding numbers blockRules
@@ -113,6 +131,10 @@ pub c-subtotal-by-order : (s : List ℕ) (code : ℕ) (room : List ℕ)
     → ByOrder (subtotalRules s code room) (Coded (codeOf (subtotalCall s code room))) (codeOf (subtotalCall s code room) ≡ 0)
 c-subtotal-by-order s code room = by-code (bounded-then (rules s) _ (bounded-bytes s) (bounded (omega arith)))
 
+pub c-heaviest-by-order : (s : List ℕ) (code : ℕ) (room : List ℕ)
+    → ByOrder (heaviestRulesC s code room) (Coded (codeOf (heaviestCall s code room))) (codeOf (heaviestCall s code room) ≡ 0)
+c-heaviest-by-order s code room = by-code (bounded-then (heaviestRules s code) _ (bounded-then (rules s) _ (bounded-bytes s) (bounded (omega arith))) (bounded (omega arith)))
+
 pub c-figures-by-order : (s room : List ℕ) → ByOrder (figuresRules s room) (Coded (codeOf (figuresAnswer s room))) (codeOf (figuresAnswer s room) ≡ 0)
 c-figures-by-order s room = by-code (bounded-then (rules s) _ (bounded-bytes s) (bounded (omega arith)))
 
@@ -133,6 +155,9 @@ c-judge-unchanged s counts n p = refl
 
 pub c-subtotal-unchanged : (s : List ℕ) (code : ℕ) (room : List ℕ) (n p : ℕ) → bitsAfter s code room (Broken n p) ≡ room
 c-subtotal-unchanged s code room n p = refl
+
+pub c-heaviest-unchanged : (s : List ℕ) (code : ℕ) (room : List ℕ) (n p : ℕ) → heaviestAfter s code room (Broken n p) ≡ room
+c-heaviest-unchanged s code room n p = refl
 
 pub c-figures-unchanged : (s room : List ℕ) (n p : ℕ) → figuresAfter s room (Broken n p) ≡ room
 c-figures-unchanged s room n p = refl

@@ -7,6 +7,8 @@
 --     Editions    edition 1 returns are read as before
 --     Adding      the check is the last total of a department's adding sheet
 --     Table52     a lookup answers the printed entry of table 5-2, or which number is off it
+--     Heaviest    the row that is named has the largest part in a subtotal, and the lower id on a tie; none is named where the subtotal is zero
+--     Explained   why a return was refused: the refusal's number and place by the order, and the values that clash there
 --     ShutOut     wrong answers that the contracts refuse
 --     Answers     whatever meets an entry point's contract is the answer that the demands speak of; no contract asks anything of its caller
 --     OneAnswer   so each admits one answer
@@ -20,6 +22,8 @@ pub mod Demand3
 pub mod Editions
 pub mod Adding
 pub mod Table52
+pub mod Heaviest
+pub mod Explained
 pub mod ShutOut
 pub mod Answers
 pub mod OneAnswer

@@ -112,7 +112,7 @@ fn thinner_at(bytes: &[u8], at: usize) -> PeriodsPart
     PeriodsPart(one + ten_years)
 }
 
-fn parts_at(bytes: &[u8], at: usize) -> Parts
+pub fn parts_at(bytes: &[u8], at: usize) -> Parts
     requires { ⌜ at + 40 ≤ length (now bytes) ⌝ }
     requires { ⌜ aboveLimit conversion (rowAt conversion (now bytes) at) ≡ false ⌝ }
     ensures { λ r. ⌜ r ≡ partsOf (rowAt conversion (now (bytes .entry)) at) ⌝ }

@@ -2,7 +2,7 @@
 //! run: `bench [FUNCTION..]`, all functions where none is named. The judge is
 //! also set beside a plain sum of the bytes, and what plain_returns.c has beside
 //! that (`/C`). The parts for the other functions come with the features
-//! `lines`, `doubles` and `rows`. Ten blocks, one and the sixteen of edition 2
+//! `lines`, `doubles`, `rows` and `explain`. Ten blocks, one and the sixteen of edition 2
 //! come first, then how each function grows from two blocks to fifteen, in fewer
 //! rounds.
 
@@ -87,6 +87,8 @@ mod run {
             doubles::bench(load);
             #[cfg(feature = "rows")]
             rows::bench(load);
+            #[cfg(feature = "explain")]
+            explain::bench(load);
         }
     }
 
@@ -243,6 +245,36 @@ mod run {
                     assert!(!done || f64::from_le_bytes(a).to_bits() == c.to_bits());
                 }
             }
+        }
+    }
+
+    #[cfg(feature = "explain")]
+    mod explain {
+        use super::*;
+        use second::explain::{explain, EXPLAIN_ROOM};
+        use second::ffi::explain::{first_explain, first_heaviest};
+        use second::heaviest::{heaviest, HEAVIEST_ROOM};
+
+        pub fn bench(load: &Load) {
+            let [mut a, mut b] = [[0; EXPLAIN_ROOM]; 2];
+            bench_two(
+                "explain",
+                load,
+                &load.returns,
+                |bytes| assert_ne!(first_explain(black_box(bytes), Lent::whole(&mut a)), 0),
+                |bytes| assert_ne!(explain(black_box(bytes), &mut b), 0),
+            );
+            let [mut a, mut b] = [[0; HEAVIEST_ROOM]; 2];
+            bench_two(
+                "heaviest",
+                load,
+                &load.returns,
+                |bytes| {
+                    let room = Lent::whole(&mut a);
+                    assert_eq!(first_heaviest(black_box(bytes), black_box(0), room), 0);
+                },
+                |bytes| assert_eq!(heaviest(black_box(bytes), black_box(0), &mut b), 0),
+            );
         }
     }
 

@@ -1,27 +1,33 @@
 //! Runs the first program's `sheets` on many inputs through its standard input
-//! and compares the whole of its standard output.
+//! and compares the whole of its standard output; then `explain` on some.
 //!
-//! `compare_sheets [SEED [INPUTS]]`, with the program's path in NILOFERQ_SHEETS
-//! and, if it needs one, the command to start it with in NILOFERQ_RUNNER, whose
-//! words are split at spaces. Some inputs are sent in pieces. The exact halves
-//! among the figures are counted, and each is due.
+//! `compare_sheets [SEED [INPUTS]]`, with the programs' paths in NILOFERQ_SHEETS
+//! and NILOFERQ_EXPLAIN and, if they need one, the command to start them with in
+//! NILOFERQ_RUNNER, whose words are split at spaces. Some inputs are sent in
+//! pieces. The exact halves among the figures are counted, and each is due.
 
 use second::drive::{exit, memory_difference, run, Arguments, Outcome, Plan};
+use second::explain::text as explain_text;
 use second::halves::Halves;
 use second::inputs;
 use second::judge::judge;
 use second::make::{Rows, WITH_IDS};
-use second::request;
 use second::rng::Rng;
-use second::sheets::text;
+use second::sheets::text as sheets_text;
 use second::sweep::Case;
+use second::text::Text;
+use second::{mix, request};
+use std::ffi::OsString;
 use std::io::{ErrorKind, Read, Write};
 use std::process::{ChildStdin, Command, ExitCode, Stdio};
 use std::time::Duration;
 
-/// "`sheets` takes one byte beyond the longest", which is 16 blocks.
+/// "`sheets` takes one byte beyond the longest", which is 16 blocks, and so does
+/// `explain`.
 const TAKEN: usize = 8_193;
 const INPUTS: usize = 2_000;
+/// For `explain`, whose text is compared on many more without the program.
+const EXPLAINED: usize = 500;
 const LENGTHS: [usize; 21] = [
     0, 1, 2, 511, 512, 513, 1_024, 5_119, 5_120, 5_121, 5_632, 6_656, 6_657, 7_168, 8_191, 8_192,
     8_193, 8_194, 8_704, 9_000, 20_480,
@@ -32,19 +38,8 @@ fn main() -> ExitCode {
     let Some(arguments) = Arguments::from_command("compare_sheets") else {
         return ExitCode::FAILURE;
     };
-    let Some(path) = std::env::var_os("NILOFERQ_SHEETS") else {
-        eprintln!("the path of the program `sheets` is to be named in NILOFERQ_SHEETS");
+    let [Some(sheets), Some(explain)] = ["SHEETS", "EXPLAIN"].map(Program::named) else {
         return ExitCode::FAILURE;
-    };
-    let runner = std::env::var("NILOFERQ_RUNNER").unwrap_or_default();
-    let words: Vec<&str> = runner.split(' ').filter(|word| !word.is_empty()).collect();
-    let command = || match words.as_slice() {
-        [] => Command::new(&path),
-        [first, rest @ ..] => {
-            let mut command = Command::new(first);
-            command.args(rest).arg(&path);
-            command
-        }
     };
     let plan = Plan {
         name: "sheets",
@@ -54,15 +49,59 @@ fn main() -> ExitCode {
         sorts: 10,
     };
     let mut halves = Halves::default();
-    let good = run(&plan, arguments, make, |case, rng| {
-        let outcome = try_one(command(), case, rng);
+    let mut good = run(&plan, arguments, make, |case, rng| {
+        let outcome = try_one(sheets.command(), case, rng, sheets_text);
         if outcome.difference.is_none() {
             halves.note(&case.bytes);
         }
         outcome
     });
     halves.print();
-    exit(good & (arguments.inputs.is_some() || halves.reach(1)))
+    good &= arguments.inputs.is_some() || halves.reach(1);
+
+    let plan = Plan {
+        name: "explain",
+        inputs: EXPLAINED,
+        least: EXPLAINED,
+        // No sort of rows is asked of so few.
+        sorts: 0,
+        ..plan
+    };
+    let explained = run(&plan, arguments, make_explained, |case, rng| {
+        try_one(explain.command(), case, rng, explain_text)
+    });
+    exit(good & explained)
+}
+
+/// A program of the first, and what it is started with.
+struct Program {
+    path: OsString,
+    runner: String,
+}
+
+impl Program {
+    /// From the variable of this name, or nothing after a word on it.
+    fn named(name: &str) -> Option<Self> {
+        let name = format!("NILOFERQ_{name}");
+        let path = std::env::var_os(&name);
+        if path.is_none() {
+            eprintln!("the path of a program is to be named in {name}");
+        }
+        let runner = std::env::var("NILOFERQ_RUNNER").unwrap_or_default();
+        path.map(|path| Program { path, runner })
+    }
+
+    fn command(&self) -> Command {
+        let mut words = self.runner.split(' ').filter(|word| !word.is_empty());
+        match words.next() {
+            None => Command::new(&self.path),
+            Some(first) => {
+                let mut command = Command::new(first);
+                command.args(words).arg(&self.path);
+                command
+            }
+        }
+    }
 }
 
 /// The named lengths first, in every filling; then the requests' refusals, and
@@ -93,7 +132,18 @@ fn make(index: usize, rng: &mut Rng) -> Case {
     }
 }
 
-fn try_one(mut command: Command, case: &Case, rng: &mut Rng) -> Outcome {
+/// As [`make`], but no sweeps behind the requests' refusals.
+fn make_explained(index: usize, rng: &mut Rng) -> Case {
+    if index < LENGTHS.len() * FILLINGS + request::size() {
+        make(index, rng)
+    } else if rng.one_in(4) {
+        inputs::drawn_explained(rng)
+    } else {
+        mix::case(rng)
+    }
+}
+
+fn try_one(mut command: Command, case: &Case, rng: &mut Rng, text: fn(&[u8]) -> Text) -> Outcome {
     let taken = &case.bytes[..case.bytes.len().min(TAKEN)];
     let due = text(taken);
     let difference = match output(&mut command, &case.bytes, rng.one_in(8)) {

@@ -9,11 +9,11 @@ mod second_edition;
 use super::{judge, Counts, Refusal, Verdict};
 
 /// A return under construction: whole blocks, headers right from the start.
-struct Hand(Vec<u8>);
+pub(crate) struct Hand(Vec<u8>);
 
 impl Hand {
     /// One (kind, count) for each block.
-    fn new(blocks: &[(u8, u8)]) -> Self {
+    pub(crate) fn new(blocks: &[(u8, u8)]) -> Self {
         let mut bytes = vec![0; 512 * blocks.len()];
         for (b, &(kind, count)) in blocks.iter().enumerate() {
             let header = [kind, count, b as u8, 0, blocks.len() as u8, 0, 1, 0];
@@ -23,11 +23,11 @@ impl Hand {
     }
 
     /// As [`Hand::new`], in edition 2.
-    fn second(blocks: &[(u8, u8)]) -> Self {
+    pub(crate) fn second(blocks: &[(u8, u8)]) -> Self {
         (0..blocks.len()).fold(Self::new(blocks), |hand, b| hand.edition(b, 2))
     }
 
-    fn edition(mut self, block: usize, edition: u16) -> Self {
+    pub(crate) fn edition(mut self, block: usize, edition: u16) -> Self {
         self.0[512 * block + 6..512 * block + 8].copy_from_slice(&edition.to_le_bytes());
         self
     }
@@ -36,32 +36,32 @@ impl Hand {
         512 * block + 8 + 40 * record + offset
     }
 
-    fn two(mut self, block: usize, record: usize, offset: usize, value: u16) -> Self {
+    pub(crate) fn two(mut self, block: usize, record: usize, offset: usize, value: u16) -> Self {
         let at = Self::at(block, record, offset);
         self.0[at..at + 2].copy_from_slice(&value.to_le_bytes());
         self
     }
 
-    fn four(mut self, block: usize, record: usize, offset: usize, value: u32) -> Self {
+    pub(crate) fn four(mut self, block: usize, record: usize, offset: usize, value: u32) -> Self {
         let at = Self::at(block, record, offset);
         self.0[at..at + 4].copy_from_slice(&value.to_le_bytes());
         self
     }
 
-    fn byte(mut self, at: usize, value: u8) -> Self {
+    pub(crate) fn byte(mut self, at: usize, value: u8) -> Self {
         self.0[at] = value;
         self
     }
 
     /// Ids 0, 1, 2 and so on in the first `count` records of a block.
-    fn ids(mut self, block: usize, count: usize, from: u32) -> Self {
+    pub(crate) fn ids(mut self, block: usize, count: usize, from: u32) -> Self {
         for record in 0..count {
             self = self.four(block, record, 0, from + record as u32);
         }
         self
     }
 
-    fn checked(mut self) -> Vec<u8> {
+    pub(crate) fn checked(mut self) -> Vec<u8> {
         for block in self.0.chunks_mut(512) {
             let mut sum = 0u32;
             for (i, &byte) in block[..508].iter().enumerate() {
@@ -92,12 +92,12 @@ fn refused(number: u32, place: u32) -> Verdict {
 }
 
 /// The 32 rows of a kind with ids, from block `b` on.
-fn filled(hand: Hand, b: usize) -> Hand {
+pub(crate) fn filled(hand: Hand, b: usize) -> Hand {
     hand.ids(b, 12, 0).ids(b + 1, 12, 12).ids(b + 2, 8, 24)
 }
 
 /// The blocks of 32 rows of each kind.
-const FULL: [(u8, u8); 16] = [
+pub(crate) const FULL: [(u8, u8); 16] = [
     (1, 12),
     (1, 12),
     (1, 8),

@@ -3,11 +3,14 @@
 
 use second::doubles::subtotal;
 use second::drive::{first_of, memory_difference};
+use second::explain::explain;
 use second::fence::{Fence, Place};
 use second::ffi::doubles::first_subtotal;
+use second::ffi::explain::{first_explain, first_heaviest};
 use second::ffi::judge::first_judge;
 use second::ffi::lines::{first_figures, first_lines};
 use second::ffi::rows::{first_read, first_write};
+use second::heaviest::heaviest;
 use second::judge::{judge, Verdict};
 use second::kinds::COUNTS_ROOM;
 use second::lent::Lent;
@@ -66,10 +69,37 @@ pub fn figures_at(fences: &mut Fences, place: Place, bytes: &[u8], before: &[u64
 pub fn lines_at(fences: &mut Fences, place: Place, bytes: &[u8], before: &[u8]) -> Found {
     let mut room_due = before.to_vec();
     let due = lines(bytes, &mut room_due);
+    text_at(fences, place, bytes, before, (first_lines, due, &room_due))
+}
+
+pub fn explain_at(fences: &mut Fences, place: Place, bytes: &[u8], before: &[u8]) -> Found {
+    let mut room_due = before.to_vec();
+    let due = explain(bytes, &mut room_due);
+    text_at(
+        fences,
+        place,
+        bytes,
+        before,
+        (first_explain, due, &room_due),
+    )
+}
+
+/// A function of the first program that puts a text into a room.
+type FirstText = fn(&[u8], Lent<u8>) -> usize;
+
+/// A text of the first program, with the length and the room that are due. A room
+/// that is too short counts as number 9.
+fn text_at(
+    fences: &mut Fences,
+    place: Place,
+    bytes: &[u8],
+    before: &[u8],
+    (first, due, room_due): (FirstText, usize, &[u8]),
+) -> Found {
     let [input, room, ..] = fences;
     let input = input.area(place, bytes);
     let mut room = room.area(place, before);
-    let answer = first_lines(&input, Lent::whole(&mut room));
+    let answer = first(&input, Lent::whole(&mut room));
     let number = match judge(bytes) {
         _ if due == 0 => 9,
         Verdict::Refused(refusal) => refusal.number,
@@ -79,9 +109,28 @@ pub fn lines_at(fences: &mut Fences, place: Place, bytes: &[u8], before: &[u8]) 
     let difference = first_of([
         (answer != due).then_some(wrong),
         memory_difference("the input", &input, bytes),
-        memory_difference("the room", &room, &room_due),
+        memory_difference("the room", &room, room_due),
     ]);
     (number, difference)
+}
+
+pub fn heaviest_at(
+    fences: &mut Fences,
+    place: Place,
+    bytes: &[u8],
+    (code, before): (u32, &[u64]),
+) -> Found {
+    let mut room_due = before.to_vec();
+    let due = heaviest(bytes, code, &mut room_due);
+    let [input, room, ..] = fences;
+    let input = input.area(place, bytes);
+    let mut room = room.area(place, before);
+    let answer = first_heaviest(&input, code, Lent::whole(&mut room));
+    let memory = [
+        memory_difference("the input", &input, bytes),
+        memory_difference("the room", &room, &room_due),
+    ];
+    found(answer, due, memory)
 }
 
 pub fn subtotal_at(

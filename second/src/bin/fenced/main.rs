@@ -26,7 +26,8 @@ mod tally;
 
 #[cfg(not(door_missing))]
 mod run {
-    use crate::calls::{figures_at, judge_at, lines_at, read_at, subtotal_at, write_at, Fences};
+    use crate::calls::{explain_at, figures_at, heaviest_at, judge_at, lines_at, read_at};
+    use crate::calls::{subtotal_at, write_at, Fences};
     use crate::cross::{cross_on_purpose, fences_stop};
     use crate::rooms::{Fit, Rooms};
     use crate::tally::Tally;
@@ -40,7 +41,7 @@ mod run {
     use second::rowlists::{self, RowLists};
     use second::sweep::Case;
     use second::thinner::Thinner;
-    use second::{figures, mix, sweep};
+    use second::{clashes, figures, mix, sweep, weights};
     use std::process::ExitCode;
 
     const INPUTS: usize = 2_000;
@@ -72,6 +73,8 @@ mod run {
             Tally::new("figures", &[0, 1, 2, 3, 4, 5, 6, 7, 9]),
             Tally::new("lines", &[0, 1, 2, 3, 4, 5, 6, 7, 9]),
             Tally::new("subtotal", &[0, 1, 2, 3, 4, 5, 6, 7, 9, 11]),
+            Tally::new("explain", &[0, 1, 2, 3, 4, 5, 6, 7, 9]),
+            Tally::new("heaviest", &[0, 1, 2, 3, 4, 5, 6, 7, 9, 11]),
             Tally::new("read", &[0, 1, 2, 3, 4, 5, 6, 7, 9]),
             Tally::new("write", &[0, 5, 6, 7, 9, 10]),
         ];
@@ -89,6 +92,8 @@ mod run {
                         figures_at(&mut fences, place, &case.bytes, &lent.figures),
                         lines_at(&mut fences, place, &case.bytes, &lent.text),
                         subtotal_at(&mut fences, place, &case.bytes, (lent.code, &lent.double)),
+                        explain_at(&mut fences, place, &case.bytes, &lent.reasons),
+                        heaviest_at(&mut fences, place, &case.bytes, (lent.code, &lent.heaviest)),
                         read_at(
                             &mut fences,
                             place,
@@ -98,7 +103,7 @@ mod run {
                         write_at(&mut fences, place, &lists, (&lent.blocks, &lent.size)),
                     ];
                     let returned = case.edition();
-                    let editions = [returned; 5].into_iter().chain([lists.edition]);
+                    let editions = [returned; 7].into_iter().chain([lists.edition]);
                     let found = found.into_iter().zip(editions);
                     for (tally, ((number, difference), edition)) in tallies.iter_mut().zip(found) {
                         tally.note(edition, number);
@@ -132,9 +137,11 @@ mod run {
 
     /// From the comparisons' makers; of the sweeps any, for they are long.
     fn any_return(rng: &mut Rng) -> Case {
-        match rng.below(4) {
-            0 => sweep::case(rng.below(sweep::size()), rng),
-            1 => figures::case(rng),
+        match rng.below(10) {
+            0 | 1 => sweep::case(rng.below(sweep::size()), rng),
+            2 | 3 => figures::case(rng),
+            4 => clashes::case(rng),
+            5 => weights::case(rng),
             _ => mix::case(rng),
         }
     }

@@ -1,5 +1,7 @@
 //! The rooms of a call: how long they are, and what stands in them before it.
 
+use second::explain;
+use second::heaviest::HEAVIEST_ROOM;
 use second::judge::{judge, Verdict};
 use second::kinds::{COUNTS_ROOM, KINDS, RETURN_ROOM, ROWS_ROOM};
 use second::make::MOST_BLOCKS;
@@ -39,6 +41,8 @@ pub struct Rooms {
     pub text: Vec<u8>,
     pub code: u32,
     pub double: Vec<u8>,
+    pub reasons: Vec<u8>,
+    pub heaviest: Vec<u64>,
     pub rows: Vec<u32>,
     pub row_counts: Vec<u32>,
     pub blocks: Vec<u8>,
@@ -56,13 +60,12 @@ impl Rooms {
         let (blocks, size) = block_lengths(lists, fit, rng);
         Rooms {
             counts: words(fit.length(COUNTS_ROOM, rng), rng),
-            figures: {
-                let length = fit.length(FIGURES, rng);
-                (0..length).map(|_| rng.draw()).collect()
-            },
+            figures: long_words(fit.length(FIGURES, rng), rng),
             text: any_bytes(fit.length(text(bytes).as_bytes().len(), rng), rng),
             code,
             double: any_bytes(fit.length(8, rng), rng),
+            reasons: any_bytes(fit.length(explain::text(bytes).as_bytes().len(), rng), rng),
+            heaviest: long_words(fit.length(HEAVIEST_ROOM, rng), rng),
             rows: words(rows, rng),
             row_counts: words(row_counts, rng),
             blocks: any_bytes(blocks, rng),
@@ -73,6 +76,10 @@ impl Rooms {
 
 fn words(length: usize, rng: &mut Rng) -> Vec<u32> {
     (0..length).map(|_| rng.word()).collect()
+}
+
+fn long_words(length: usize, rng: &mut Rng) -> Vec<u64> {
+    (0..length).map(|_| rng.draw()).collect()
 }
 
 fn any_bytes(length: usize, rng: &mut Rng) -> Vec<u8> {

@@ -1,0 +1,71 @@
+-- §7: "A small tool takes a return and says, for a refusal, the number, the place and the values that clash." "For an accepted return and one of the three subtotals it names the row
+-- with the largest exact part, the lower id on a tie, 'none' where the subtotal is zero."
+use Prim.Native.Nat.{ℕ}
+use mathlib.Core.Bool.{cond}
+use mathlib.Core.List.{List, [], _∷_, _++_}
+use lib.Dec.{eqb}
+use Rattle.form.specs.Ruling.{ruling}
+use Rattle.form.specs.Verdict.{rules}
+use Rattle.form.specs.declared.Ruling.{Ruling}
+use Rattle.form.specs.declared.Ruling.the-variants.{Clean, Broken}
+use Rattle.heaviest.specs.Heaviest.{heaviestOf}
+use Rattle.heaviest.specs.declared.Weight.{Weight}
+use Rattle.heaviest.specs.declared.Weights.{Weights}
+use Rattle.phrases.specs.Lines.{Line, numberLine, refusedLine, linesText, filledIn, unsigned}
+use Rattle.reasons.specs.Reasons.{refusalOf, reasonOf}
+use Rattle.wording.specs.Wording.{wordLine, valueLines}
+use Rattle.explained.specs.declared.Explanation.{Explanation}
+use Rattle.explained.specs.declared.Explanation.the-variants.{Accepted, Refused}
+
+-- by the ruling: the heaviest row of each subtotal, or the values that clash
+abbrev pub explainedBy : List ℕ → Ruling → Explanation
+explainedBy s Clean = Accepted (heaviestOf s)
+explainedBy s (Broken n p) = Refused (reasonOf s n p)
+
+-- of any bytes
+unfoldable pub explanationOf : List ℕ → Explanation
+explanationOf s = explainedBy s (ruling (rules s))
+
+-- the ruling that an explanation is of
+abbrev pub rulingOf : Explanation → Ruling
+rulingOf (Accepted w) = Clean
+rulingOf (Refused r) = refusalOf r
+
+-- ---- the text
+
+-- "heaviest_onsite" "heaviest_offsite" "heaviest_decay"
+abbrev pub onsiteName : List ℕ
+onsiteName = 104 ∷ 101 ∷ 97 ∷ 118 ∷ 105 ∷ 101 ∷ 115 ∷ 116 ∷ 95 ∷ 111 ∷ 110 ∷ 115 ∷ 105 ∷ 116 ∷ 101 ∷ []
+
+abbrev pub offsiteName : List ℕ
+offsiteName = 104 ∷ 101 ∷ 97 ∷ 118 ∷ 105 ∷ 101 ∷ 115 ∷ 116 ∷ 95 ∷ 111 ∷ 102 ∷ 102 ∷ 115 ∷ 105 ∷ 116 ∷ 101 ∷ []
+
+abbrev pub decayName : List ℕ
+decayName = 104 ∷ 101 ∷ 97 ∷ 118 ∷ 105 ∷ 101 ∷ 115 ∷ 116 ∷ 95 ∷ 100 ∷ 101 ∷ 99 ∷ 97 ∷ 121 ∷ []
+
+-- "`heaviest_onsite ID` .. and then `heaviest_onsite_part VALUE`; where the subtotal is zero only `heaviest_onsite none`"
+abbrev pub weightLines : List ℕ → Weight → List Line
+weightLines name w =
+    cond (eqb (w .part) 0) (wordLine name (110 ∷ 111 ∷ 110 ∷ 101 ∷ []) ∷ [])
+    (numberLine name (w .id) ∷ numberLine (name ++ (95 ∷ 112 ∷ 97 ∷ 114 ∷ 116 ∷ [])) (w .part) ∷ [])
+
+-- "for `onsite`, `offsite`, `decay` in this order"
+abbrev pub weightsLines : Weights → List Line
+weightsLines w = weightLines onsiteName (w .onsite) ++ (weightLines offsiteName (w .offsite) ++ weightLines decayName (w .decay))
+
+-- "first `refused NUMBER PLACE` as `sheets` does", then the values
+abbrev pub refusedText : Ruling → List ℕ
+refusedText Clean = []
+refusedText (Broken n p) = refusedLine n p
+
+abbrev pub explainedText : Explanation → List ℕ
+explainedText (Accepted w) = linesText (weightsLines w)
+explainedText (Refused r) = refusedText (refusalOf r) ++ linesText (valueLines r)
+
+-- what `explain` prints
+abbrev pub explained : List ℕ → List ℕ
+explained s = explainedText (explanationOf s)
+
+-- ---- as the code puts a weight: the line that there is none, or the two lines, by the names with a space behind each
+abbrev pub weightText : List ℕ → List ℕ → Weight → List ℕ
+weightText none names w = cond (eqb (w .part) 0) none (filledIn names (unsigned (w .id ∷ w .part ∷ [])))

@@ -1,0 +1,4 @@
+mod Blocks
+pub mod Strays
+pub mod First
+pub mod Fourth

@@ -1,0 +1,4 @@
+pub mod Rising
+pub mod Walk
+pub mod Largest
+pub mod Answers

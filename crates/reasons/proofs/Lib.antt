@@ -1,0 +1,4 @@
+mod Above
+mod Rows
+mod Refused
+pub mod Explains

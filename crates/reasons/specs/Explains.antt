@@ -1,0 +1,37 @@
+-- §7. "Values that stand in the return are proved to be those at that place, a computed one to follow its rule in 01": what each case says of the bytes.
+use Prim.Native.Nat.{ℕ, _+_, _-_, _*_, _<_, _≤_}
+use mathlib.Core.Path.{_≡_}
+use mathlib.Core.Bool.{true}
+use mathlib.Core.List.{List}
+use lib.ListN.{length}
+use Rattle.form.specs.Layout.{layout}
+use Rattle.form.specs.Block.{blocks, edition, checkSaid, checkDue, badLength, badHeader}
+use Rattle.form.specs.Records.{filed, hasId, idOf, onsite, offsite, decay}
+use Rattle.faults.specs.declared.Fault.{Fault}
+use Rattle.faults.specs.Faults.{Faulty}
+use Rattle.reasons.specs.declared.records.Above.{Above}
+use Rattle.reasons.specs.declared.Reason.{Reason}
+use Rattle.reasons.specs.declared.Reason.the-variants.{BadLength, BadCheck, BadHeader, BadBlock, IdBelow, FieldAbove, FractionsAbove}
+use Rattle.reasons.specs.Above.{FirstAbove}
+use Rattle.reasons.specs.Reasons.{headerOf}
+
+-- a case for each number
+pub data Explains (s : List ℕ) : Reason → Type 0 where
+  -- 1: the length, which is not a good one
+  length-1 : badLength s ≡ true → Explains s (BadLength (length s))
+  -- 2: the check that stands in the block is not the one that is due
+  check-2 : (b : ℕ) → b < blocks s → (checkSaid s b ≡ checkDue s b → ⊥) → Explains s (BadCheck b (checkSaid s b) (checkDue s b))
+  -- 3: the header as it stands, beside the number of blocks there are and block 0's edition
+  header-3 : (b : ℕ) → b < blocks s → badHeader s b ≡ true → Explains s (BadHeader b (headerOf s b) (blocks s) (edition s 0))
+  -- 4: the header as it stands, and the block's first fault
+  block-4 : (b : ℕ) (f : Fault) → b < blocks s → Faulty s b f → Explains s (BadBlock b (headerOf s b) f)
+  -- 5: the two ids, of records of one kind, one behind the other
+  ids-5 : (p : ℕ) → p < 12 * blocks s → 0 < p → hasId (filed s .kind p) ≡ true → filed s .kind (p - 1) ≡ filed s .kind p
+      → idOf (filed s .row p) ≤ idOf (filed s .row (p - 1)) → Explains s (IdBelow p (idOf (filed s .row (p - 1))) (idOf (filed s .row p)))
+  -- 6: the first field above its limit
+  field-6 : (p : ℕ) (a : Above) → p < 12 * blocks s → FirstAbove (layout (filed s .kind p)) (filed s .row p) a
+      → Explains s (FieldAbove p (filed s .kind p) (a .field) (a .value) (a .limit))
+  -- 7: the fractions of a conversion row, and their sum above 1,000
+  fractions-7 : (p : ℕ) → p < 12 * blocks s → filed s .kind p ≡ 1 → 1000 < onsite (filed s .row p) + offsite (filed s .row p) + decay (filed s .row p)
+      → Explains s (FractionsAbove p (onsite (filed s .row p)) (offsite (filed s .row p)) (decay (filed s .row p))
+      (onsite (filed s .row p) + offsite (filed s .row p) + decay (filed s .row p)))

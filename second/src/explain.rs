@@ -1,0 +1,132 @@
+//! Why a return is refused (02, §7): "for a refusal, the number, the place and
+//! the values that clash: the length, stored and computed check, the block's
+//! header or non-zero byte, the two ids, the field and its limit, the sum of the
+//! fractions". Of a return that is accepted, the heaviest rows.
+
+use crate::heaviest;
+use crate::judge::{check, computed_check, edition, first_fault, four, record_at, stored_check};
+use crate::judge::{two, whole_blocks, Block, Fault, Record, Refusal};
+use crate::kinds::{Kind, KINDS};
+use crate::land::Conversion;
+use crate::text::Text;
+
+/// What is always enough for C. The longest text, three heaviest rows with ids
+/// of ten digits and parts of twenty, has 207 bytes.
+pub const EXPLAIN_ROOM: usize = 300;
+
+/// The text that the program `explain` prints for these bytes.
+pub fn text(bytes: &[u8]) -> Text {
+    let mut text = Text::new();
+    match check(bytes) {
+        Ok(checked) => heaviest::print(checked, &mut text),
+        Err(refusal) => {
+            text.refused(refusal);
+            print_clash(bytes, refusal, &mut text);
+        }
+    }
+    text
+}
+
+/// Puts the text at the front of `room` and gives its length, or gives 0 and
+/// leaves `room` alone when it is too short.
+pub fn explain(bytes: &[u8], room: &mut [u8]) -> usize {
+    text(bytes).put_into(room)
+}
+
+/// The values that clash at a refusal's place, a block up to number 4 and a
+/// record from number 5 on.
+fn print_clash(bytes: &[u8], refusal: Refusal, text: &mut Text) {
+    let (blocks, place) = (whole_blocks(bytes), refusal.place as usize);
+    match refusal.number {
+        1 => text.line("length ", bytes.len() as u64),
+        2 => {
+            text.line("stored ", stored_check(&blocks[place]).into());
+            text.line("computed ", computed_check(&blocks[place]).into());
+        }
+        3 => {
+            print_header(&blocks[place], text);
+            text.line("number_due ", place as u64);
+            text.line("blocks_due ", blocks.len() as u64);
+            text.line("edition_first ", edition(&blocks[0]).into());
+        }
+        4 => print_fault(blocks, text),
+        5 => {
+            // A kind's blocks stand together and are full but for the last, so
+            // its rows' places follow each other from block to block.
+            let [before, here] = [place - 1, place].map(|place| record_at(blocks, place).1);
+            text.line("id_before ", four(before, 0).into());
+            text.line("id ", four(here, 0).into());
+        }
+        6 => {
+            let (kind, record) = record_at(blocks, place);
+            print_field(kind_of(kind), record, text);
+        }
+        _ => {
+            let row = Conversion::of(record_at(blocks, place).1);
+            let fractions =
+                [row.on_site, row.off_site, row.decay].map(|share| u64::from(share.fraction));
+            for (name, fraction) in ["onsite ", "offsite ", "decay "].iter().zip(fractions) {
+                text.line(name, fraction);
+            }
+            text.line("sum ", fractions.iter().sum());
+        }
+    }
+}
+
+fn kind_of(kind: u8) -> &'static Kind {
+    &KINDS[usize::from(kind) - 1]
+}
+
+/// What a block says of itself: "Offset 0 kind, 1 record count, 2 block number
+/// from 0, 4 number of blocks, 6 edition".
+fn print_header(block: &Block, text: &mut Text) {
+    text.line("kind ", block[0].into());
+    text.line("count ", block[1].into());
+    text.line("number ", two(block, 2).into());
+    text.line("blocks ", two(block, 4).into());
+    text.line("edition ", edition(block).into());
+}
+
+/// Number 4: the header, and the neighbour's kind where that is what it clashes
+/// with; or the byte, where the header is good.
+fn print_fault(blocks: &[Block], text: &mut Text) {
+    let (b, fault) = first_fault(blocks).expect("number 4 was given");
+    let block = &blocks[b];
+    text.word_line("fault ", fault.word());
+    if fault == Fault::Stray {
+        let at = first_stray(block).expect("a byte is at fault");
+        text.line("offset ", at as u64);
+        text.line("byte ", block[at].into());
+        return;
+    }
+    print_header(block, text);
+    match fault {
+        Fault::Order => text.line("kind_before ", blocks[b - 1][0].into()),
+        Fault::Unfilled => text.line("kind_next ", blocks[b + 1][0].into()),
+        _ => {}
+    }
+}
+
+/// The lowest offset of a non-zero byte where zero is due, in a block whose kind
+/// and count are good: in a used record where no field is, in the unused records,
+/// and in the twenty bytes behind them.
+fn first_stray(block: &Block) -> Option<usize> {
+    let (kind, count) = (kind_of(block[0]), usize::from(block[1]));
+    let zero_due = |at: usize| (at - 8) / 40 >= count || kind.zero_due((at - 8) % 40);
+    (8..508).find(|&at| block[at] != 0 && zero_due(at))
+}
+
+/// Number 6: the first field above its limit, counted from 0 with the id.
+fn print_field(kind: &Kind, record: &Record, text: &mut Text) {
+    let mut fields = (0..).zip(kind.fields);
+    let above = fields.find(|(_, field)| field.of(record) > field.most);
+    let (number, field) = above.expect("a field is at fault");
+    text.line("field ", number);
+    text.word_line("field_name ", field.name);
+    text.line("value ", field.of(record).into());
+    text.line("limit ", field.most.into());
+}
+
+#[cfg(test)]
+#[path = "explain_tests/mod.rs"]
+mod tests;
