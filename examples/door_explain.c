@@ -1,12 +1,11 @@
 /* Tries niloferq_explain and niloferq_heaviest: returns that are refused by each number and each fault, and good ones, in rooms of every length; the
  * refusals in their order; rows of the same weight, and none. The texts and the parts are by hand, from the paper. */
 #include "door_test.h"
-#include "niloferq.h"
+#include <stdio.h>
 #include <string.h>
 
-/* Bytes and elements behind what is lent, which must keep their values. */
-enum { SPARE = 3, LENT = NILOFERQ_HEAVIEST_ROOM + SPARE };
-static const uint64_t UNTOUCHED = 0xdeadbeefdeadbeef;
+/* Elements that a heaviest row is tried with. */
+enum { LENT = NILOFERQ_HEAVIEST_ROOM + SPARE };
 
 /* What a return is made in, with room for one that is too long. */
 static uint8_t bytes[NILOFERQ_RETURN_ROOM + 512];
@@ -31,7 +30,7 @@ static void copy_rows(conversion *rows, uint32_t count) {
 /* A return of these conversion rows and the parameters; the answer is its number of bytes. */
 static size_t written_rows(conversion *rows, uint32_t count) {
     static uint32_t area[NILOFERQ_ROWS_ROOM];
-    const uint32_t lengths[NILOFERQ_KINDS] = {NILOFERQ_CONVERSION_NUMBERS * count, 0, 0, NILOFERQ_PARAMETERS_NUMBERS, 0, 0};
+    const uint32_t lengths[NILOFERQ_KINDS] = {NILOFERQ_CONVERSION_NUMBERS * count, 0, 0, NILOFERQ_PARAMETERS_NUMBERS};
     uint32_t size = 0;
     memcpy(area, rows, count * sizeof *rows);
     must(niloferq_defaults(area + lengths[0], NILOFERQ_PARAMETERS_NUMBERS) == 0, "write: the parameters");
@@ -71,11 +70,13 @@ static void must_explain_with(const uint8_t *day, size_t length, size_t block, s
 static void lengths(const uint8_t *day, size_t length) {
     must_explain(NULL, 0, "refused 1 0\nlength 0\n", "explain: no bytes, NULL");
     must_explain(day, length - 1, "refused 1 0\nlength 2047\n", "explain: the day less a byte");
+    char due[NILOFERQ_EXPLAIN_ROOM];
     memset(bytes, 0, sizeof bytes);
-    must_explain(bytes, sizeof bytes, "refused 1 0\nlength 8704\n", "explain: a block too many, told as it is and not as the program reads it");
-    must_explain(bytes, NILOFERQ_RETURN_ROOM,
-                 "refused 3 0\nkind 0\ncount 0\nnumber 0\nblocks 0\nedition 0\nnumber_due 0\nblocks_due 16\nedition_first 0\n",
-                 "explain: sixteen blocks of zeros, whose checks are right");
+    sprintf(due, "refused 1 0\nlength %u\n", (unsigned)sizeof bytes);
+    must_explain(bytes, sizeof bytes, due, "explain: a block too many, told as it is and not as the program reads it");
+    sprintf(due, "refused 3 0\nkind 0\ncount 0\nnumber 0\nblocks 0\nedition 0\nnumber_due 0\nblocks_due %u\nedition_first 0\n",
+            NILOFERQ_RETURN_ROOM / 512);
+    must_explain(bytes, NILOFERQ_RETURN_ROOM, due, "explain: the most blocks, all of zeros, whose checks are right");
 }
 
 /* Numbers 2 and 3, with numbers as long as they can be among them. */

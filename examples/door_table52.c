@@ -1,21 +1,18 @@
 /* Tries niloferq_table52: entries as document 001 prints them, rooms of every length, the refusals in their order, and what docs/TABLE52.md counts
  * over the whole table. */
 #include "door_test.h"
-#include "niloferq.h"
 #include <stdlib.h>
 
-/* Elements behind what is lent, which must keep their values. */
-enum { SPARE = 3, LENT = NILOFERQ_TABLE52_ROOM + SPARE };
-static const int32_t UNTOUCHED = -559038737;
+enum { LENT = NILOFERQ_TABLE52_ROOM + SPARE };
 
 static void clear(int32_t room[LENT]) {
-    for (int i = 0; i < LENT; i++) room[i] = UNTOUCHED;
+    for (int i = 0; i < LENT; i++) room[i] = (int32_t)UNTOUCHED;
 }
 
 /* Has the room these elements in front, and is untouched behind them? */
 static int holds(const int32_t room[LENT], const int32_t *front, int length) {
     int good = 1;
-    for (int i = 0; i < LENT; i++) good &= room[i] == (i < length ? front[i] : UNTOUCHED);
+    for (int i = 0; i < LENT; i++) good &= room[i] == (i < length ? front[i] : (int32_t)UNTOUCHED);
     return good;
 }
 

@@ -1,21 +1,68 @@
-/* What the three files of door_test share. */
+/* What the files of door_test share: the count of trials, the table of kinds, and rows and returns made from it. */
 #ifndef DOOR_TEST_H
 #define DOOR_TEST_H
 
+#include "niloferq.h"
 #include <stddef.h>
 #include <stdint.h>
 
 /* Counts a trial, and says which it was where it went wrong. */
 void must(int holds, const char *what);
 
+/* Elements and bytes behind what is lent, which must keep their values. */
+enum { SPARE = 3 };
+static const uint32_t UNTOUCHED = 0xdeadbeef;
+
+/* Kinds are numbered as in the paper. A shape is what a read counts: the edition, and how many rows of each kind. */
+enum { EDITION, CONVERSION, STOCK, HARVEST, PARAMETERS, ABANDONED, SAVANNA };
+typedef uint32_t shape[NILOFERQ_COUNTS];
+static const shape DAY = {1, 1, 1, 1, 1}, DAY_IN_2 = {2, 1, 1, 1, 1};
+
+/* A line for each kind: the edition that brought it, the numbers in a row, the most rows, a row, and of a kind above 4 the most that each field may
+ * be and the row's record, by hand. The first four kinds' rows are the worked day's. */
+struct kind {
+    uint32_t since, numbers, most;
+    uint32_t row[NILOFERQ_CONVERSION_NUMBERS], limits[NILOFERQ_CONVERSION_NUMBERS];
+    uint8_t record[40];
+};
+extern const struct kind KINDS[NILOFERQ_COUNTS];
+
+/* So many rows of each kind that the edition has; of parameters one. */
+void fill_shape(shape counts, uint32_t edition, uint32_t rows);
+
+/* The first block of a kind's rows, and the bytes of all blocks. */
+uint32_t first_block(const shape counts, uint32_t kind);
+size_t bytes_of(const shape counts);
+
+/* Rows as they lie in lent memory, with room for a row too many. */
+struct rows {
+    shape counts;
+    uint32_t area[NILOFERQ_ROWS_ROOM + NILOFERQ_CONVERSION_NUMBERS];
+    size_t area_len;
+    uint32_t lengths[NILOFERQ_KINDS + 1];
+    size_t lengths_len;
+};
+
+/* The table's rows, of each kind so many; copies have rising ids, but for parameters, which have none. */
+void fill_rows(struct rows *r, const shape counts);
+/* A kind's row in the area, by the lengths. */
+uint32_t *row_of(struct rows *r, uint32_t kind, uint32_t row);
+/* A return of these rows, to be tried further; the answer is its number of bytes. */
+size_t written(const struct rows *r, uint8_t bytes[NILOFERQ_RETURN_ROOM]);
+size_t written_as(const shape counts, uint8_t bytes[NILOFERQ_RETURN_ROOM]);
+
 /* Puts a number into so many bytes, the lowest first, as everywhere in a return; and into a block the check that is then due. */
 void put(uint8_t *at, uint32_t value, int width);
 void put_check(uint8_t *block);
 
-/* The trials of niloferq_table52. */
-void table52(void);
+/* Accepted with this edition and these counts, in rooms of every length. */
+void must_judge(const uint8_t *bytes, size_t length, const shape due, const char *what);
 
-/* The trials of niloferq_explain and niloferq_heaviest, with the worked day. */
+/* The trials of reading and writing, of returns byte by byte, of niloferq_table52, and of niloferq_explain and niloferq_heaviest, with the worked day. */
+void reading(const uint8_t *day, size_t length);
+void writing(const uint8_t *day, size_t length);
+void returns_in_bytes(const uint8_t *day, size_t length);
+void table52(void);
 void explanations(const uint8_t *day, size_t length);
 
 #endif

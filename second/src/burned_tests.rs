@@ -1,17 +1,7 @@
 use super::*;
-use crate::drive::Input;
-use crate::judge::judge;
 use crate::make::Rows;
-use crate::rng::Rng;
-use crate::sweep::Case;
-use crate::{figures, mix, rowlists};
+use crate::sorts::sorts_of;
 
-fn sorts_of(savannas: &Savannas) -> Vec<&'static str> {
-    let of = SORTS.iter().filter(|(_, holds)| holds(&savannas.0));
-    of.map(|(name, _)| *name).collect()
-}
-
-/// As a return and as rows for the writer.
 fn sorts(rows: &[Row]) -> Vec<&'static str> {
     let rows = Rows {
         edition: 2,
@@ -20,10 +10,7 @@ fn sorts(rows: &[Row]) -> Vec<&'static str> {
         savanna: rows.to_vec(),
         ..Rows::default()
     };
-    let found = sorts_of(&Savannas::of_return(&rows.to_bytes()));
-    let lists = RowLists::of(String::new(), &rows);
-    assert_eq!(sorts_of(&Savannas::of_lists(&lists)), found);
-    found
+    sorts_of(&SORTS, &rows)
 }
 
 #[test]
@@ -67,30 +54,4 @@ fn a_word_is_the_bound() {
     assert_eq!(savanna_carbon(&rows(65_536)[0]), [1 << 64, 0]);
     assert!(sorts(&rows(65_536)).contains(&wide));
     assert!(!sorts(&rows(65_535)).contains(&wide));
-}
-
-/// The makers of returns and of rows leave no sort to chance.
-#[test]
-fn every_sort_comes_often() {
-    let noted = |case: Case, burned: &mut Burned| {
-        if judge(&case.bytes).answer() == 0 {
-            burned.note(&case.burned());
-        }
-    };
-    for make in [mix::case, figures::case] {
-        let mut burned = Burned::default();
-        for index in 0..10_000 {
-            noted(make(&mut Rng::for_input(123, index)), &mut burned);
-        }
-        assert!(burned.reach(20), "{:?}", burned.0);
-    }
-    let mut burned = Burned::default();
-    for index in 0..10_000 {
-        let lists = rowlists::case(&mut Rng::for_input(124, index));
-        if lists.write(&mut [0; 8_192], &mut [0]) == 0 {
-            burned.note(&lists.burned());
-        }
-    }
-    assert!(burned.reach(20), "{:?}", burned.0);
-    assert!(!Burned::default().reach(1));
 }

@@ -1,11 +1,11 @@
 //! Refused returns with several clashes at one place, so that the first of them
 //! has to be named.
 
+use crate::case::Case;
 use crate::damage::{block, block_count};
-use crate::make::{fields, last_kind, repair_checks, seal, zero_areas, Rows, BLOCK};
+use crate::make::{fields, last_kind, repair_checks, seal, zero_areas, Rows, BLOCK, MOST_BLOCKS};
 use crate::rng::Rng;
-use crate::spoil::{any_limited, spoil_limit, ABOVES};
-use crate::sweep::Case;
+use crate::spoil::{any_limited, any_limited_of, spoil_limit, ABOVES};
 
 /// A random return of this kind.
 pub fn case(rng: &mut Rng) -> Case {
@@ -22,11 +22,9 @@ pub fn case(rng: &mut Rng) -> Case {
 fn several_fields(rng: &mut Rng) -> Case {
     let mut rows = Rows::good_from(rng, 2);
     let (kind, row, _) = any_limited(rng, &rows);
-    let first = usize::from(kind != 4);
-    let limited = fields(kind).count() - first;
-    let times = 2 + rng.below(limited);
+    let times = 2 + rng.below(fields(kind).len() - 1);
     for _ in 0..times {
-        let (field, way) = (first + rng.below(limited), rng.pick(&ABOVES));
+        let (field, way) = (any_limited_of(rng, kind), rng.pick(&ABOVES));
         spoil_limit(rng, &mut rows, (kind, row, field), way);
     }
     if rng.one_in(3) {
@@ -92,7 +90,7 @@ fn any_layout(rng: &mut Rng) -> Case {
         kinds.sort_unstable();
         kinds.dedup_by(|a, b| [*a, *b] == [4, 4]);
     }
-    kinds.truncate(16);
+    kinds.truncate(MOST_BLOCKS);
     // Mostly counts that are good where the kind goes on.
     let good = rng.one_in(2);
     let mut bytes = vec![0; BLOCK * kinds.len()];

@@ -1,7 +1,7 @@
 use super::*;
 use crate::bound::holds;
 use crate::inputs;
-use crate::make::Rows;
+use crate::make::{Rows, FIRST_WITH_IDS, WITH_IDS};
 use crate::rng::Rng;
 use crate::sheets::Worksheets;
 
@@ -48,16 +48,19 @@ fn the_order_shows_in_the_bits() {
     assert_eq!(found.map(f64::to_bits), due.map(f64::to_bits));
 }
 
-/// The edition, abandoned land and savannas change no double.
+/// The edition and the kinds above 4 change no double.
 #[test]
 fn editions_have_the_same_doubles() {
     let mut rng = Rng::new(83);
     for count in [1, 13, 32] {
         let mut rows = Rows::good(&mut rng, [count; 3]);
         let first = subtotals(&rows.to_bytes()).expect("good rows").in_order();
-        rows.edition = 2;
-        let later = Rows::good_in(&mut rng, 2, [0, 0, 0, count, count]);
-        (rows.abandoned, rows.savanna) = (later.abandoned, later.savanna);
+        let mut counts = [count; WITH_IDS.len()];
+        counts[..FIRST_WITH_IDS].fill(0);
+        rows = Rows {
+            conversion: rows.conversion,
+            ..Rows::good_in(&mut rng, 2, counts)
+        };
         let second = subtotals(&rows.to_bytes()).expect("good rows").in_order();
         assert_eq!(first.map(f64::to_bits), second.map(f64::to_bits));
     }

@@ -40,6 +40,7 @@ pub enum Place {
 /// Numbers that any bits are good for, and whose alignment divides `PAGE`.
 pub trait Number: Copy {}
 impl Number for u8 {}
+impl Number for i32 {}
 impl Number for u32 {}
 impl Number for u64 {}
 

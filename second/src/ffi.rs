@@ -13,3 +13,4 @@ pub mod explain;
 pub mod judge;
 pub mod lines;
 pub mod rows;
+pub mod tables;

@@ -3,9 +3,9 @@
 
 mod savanna;
 
-use crate::make::{thin, Rows, AFTER, BEFORE, MOST_ROWS, SUMMED, WITH_IDS};
+use crate::case::Case;
+use crate::make::{thin, Rows, AFTER, BEFORE, FIRST_WITH_IDS, MOST_ROWS, SUMMED, WITH_IDS};
 use crate::rng::Rng;
-use crate::sweep::Case;
 use crate::worst;
 
 /// A random return of this kind.
@@ -29,20 +29,24 @@ pub fn case(rng: &mut Rng) -> Case {
         _ => ("all rows", Rows::good(rng, [MOST_ROWS; 3])),
     };
     if rows.edition == 1 && rng.one_in(2) {
-        add_later_kinds(rng, &mut rows);
+        rows = add_later_kinds(rng, rows);
     }
     let how = format!("{how}, edition {}, {:?} rows", rows.edition, rows.counts());
     let bytes = rows.to_bytes();
     Case { how, bytes }
 }
 
-/// The same rows in edition 2, with some of abandoned land and savannas.
-fn add_later_kinds(rng: &mut Rng, rows: &mut Rows) {
-    let [abandoned, savanna] = [0; 2].map(|_| rng.pick(&[0, 1, 2, 12, 13, 32]));
-    let later = Rows::good_in(rng, 2, [0, 0, 0, abandoned, savanna]);
-    rows.edition = 2;
-    rows.abandoned = later.abandoned;
-    rows.savanna = later.savanna;
+/// The same rows in edition 2, with some of the kinds above 4.
+fn add_later_kinds(rng: &mut Rng, rows: Rows) -> Rows {
+    let mut counts = [0; WITH_IDS.len()];
+    counts[FIRST_WITH_IDS..].fill_with(|| rng.pick(&[0, 1, 2, 12, 13, 32]));
+    Rows {
+        conversion: rows.conversion,
+        stock: rows.stock,
+        harvest: rows.harvest,
+        parameters: rows.parameters,
+        ..Rows::good_in(rng, 2, counts)
+    }
 }
 
 /// Uptake on a half or beside it. The last row is one for single units, of land

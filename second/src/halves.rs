@@ -1,74 +1,47 @@
 //! How many exact halves the accepted inputs of a comparison had, for each
 //! rounded figure and each way to the even neighbour.
 
+use crate::coverage::{Counters, Coverage, Due};
 use crate::judge::check;
-use crate::rounding::Half;
+use crate::rounding::{Half, Tonnes};
 use crate::sheets::{exact_tonnes, ROUNDED};
 
 /// Q and the report, which come first, are on both sides of zero.
 const SIGNED: usize = 2;
 
-/// Halves that go down, and halves that go up.
-type Ways = [usize; 2];
-
-#[derive(Default)]
-pub struct Halves {
-    /// For each figure, above zero and below it.
-    counts: [[Ways; 2]; ROUNDED.len()],
-    accepted: usize,
-}
+/// For each figure the halves above zero that go down and up, and of the signed ones those below zero.
+pub struct Halves(Counters);
 
 impl Halves {
+    /// So many of each are due.
+    pub fn new(due: Due, coverage: &mut Coverage) -> Self {
+        let ways = |figure: String| ["down", "up"].map(|way| format!("{figure}, {way}"));
+        let sides = |figure: &str| ["above", "below"].map(|side| format!("{figure} {side} zero"));
+        let (signed, others) = ROUNDED.split_at(SIGNED);
+        let signed = signed.iter().flat_map(|figure| sides(figure));
+        let all = signed.chain(others.iter().map(|figure| figure.to_string()));
+        let names = all.flat_map(|figure| ways(format!("exact halves of {figure}")));
+        Halves(coverage.add(due, names))
+    }
+
     /// Counts the halves of a return, if it is accepted.
-    pub fn note(&mut self, bytes: &[u8]) {
+    pub fn note(&self, bytes: &[u8], coverage: &mut Coverage) {
         let Ok(checked) = check(bytes) else {
             return;
         };
-        self.accepted += 1;
-        for (exact, sides) in exact_tonnes(checked).iter().zip(&mut self.counts) {
-            let side = usize::from(exact.above < 0);
-            match exact.half() {
-                Some(Half::Down) => sides[side][0] += 1,
-                Some(Half::Up) => sides[side][1] += 1,
-                None => {}
+        for (figure, exact) in exact_tonnes(checked).iter().enumerate() {
+            if let Some(way) = exact.half() {
+                let place = 2 * place(figure, exact) + usize::from(way == Half::Up);
+                coverage.count(self.0, place);
             }
         }
     }
+}
 
-    /// How many returns were accepted.
-    pub fn accepted(&self) -> usize {
-        self.accepted
-    }
-
-    fn lines(&self) -> impl Iterator<Item = (String, Ways)> + '_ {
-        let figures = ROUNDED.iter().zip(&self.counts).enumerate();
-        figures.flat_map(|(figure, (name, &[above, below]))| {
-            let sides = [(" above zero", above), (" below zero", below)];
-            let one = [("", above)];
-            let sides = if figure < SIGNED { &sides[..] } else { &one };
-            let named = |&(side, ways): &(_, Ways)| (format!("{name}{side}"), ways);
-            sides.iter().map(named).collect::<Vec<_>>()
-        })
-    }
-
-    pub fn print(&self) {
-        println!("exact halves in {} accepted inputs:", self.accepted);
-        println!("{:<20}{:>10}{:>10}", "figure", "down", "up");
-        for (name, [down, up]) in self.lines() {
-            println!("{name:<20}{down:>10}{up:>10}");
-        }
-    }
-
-    /// Whether so many came of each, each way; says of which they didn't.
-    pub fn reach(&self, least: usize) -> bool {
-        let short = |(_, ways): &(String, Ways)| ways.iter().any(|&count| count < least);
-        let mut good = true;
-        for (name, [down, up]) in self.lines().filter(short) {
-            eprintln!("{name}: {down} exact halves went down and {up} up, {least} each are due");
-            good = false;
-        }
-        good
-    }
+/// A signed figure has two places, any other one.
+fn place(figure: usize, exact: &Tonnes) -> usize {
+    let below = usize::from(exact.above < 0);
+    figure + figure.min(SIGNED) + if figure < SIGNED { below } else { 0 }
 }
 
 #[cfg(test)]
@@ -86,28 +59,30 @@ mod tests {
             parameters: vec![[0; 6]],
             ..Rows::default()
         };
-        let mut halves = Halves::default();
+        let mut coverage = Coverage::default();
+        let halves = Halves::new(Due::Once, &mut coverage);
         // 5.5 goes up to 6, and the report's -5.5 down to -6.
-        halves.note(&rows.to_bytes());
+        halves.note(&rows.to_bytes(), &mut coverage);
         rows.stock[0][3] = 15_001;
-        halves.note(&rows.to_bytes());
-        halves.note(&rows.to_bytes()[1..]);
-        assert_eq!(halves.accepted(), 2);
-        let found: Vec<(String, Ways)> = halves.lines().filter(|(_, w)| *w != [0, 0]).collect();
-        let due = [("Q above zero", [0, 1]), ("report below zero", [1, 0])];
-        assert_eq!(found, due.map(|(name, ways)| (name.to_string(), ways)));
-        assert_eq!(halves.lines().count(), 14);
-        assert!(!halves.reach(1));
+        halves.note(&rows.to_bytes(), &mut coverage);
+        halves.note(&rows.to_bytes()[1..], &mut coverage);
+        let due = [
+            ("exact halves of Q above zero, up", 1),
+            ("exact halves of report below zero, down", 1),
+        ];
+        assert_eq!(coverage.came(), due);
     }
 
     /// Every figure has its halves, each way, and Q and the report on each side.
     #[test]
     fn halves_come_of_every_figure() {
-        let mut halves = Halves::default();
+        let mut coverage = Coverage::default();
+        let halves = Halves::new(Due::Once, &mut coverage);
         for index in 0..6_000 {
-            halves.note(&figures::case(&mut Rng::for_input(56, index)).bytes);
+            let case = figures::case(&mut Rng::for_input(56, index));
+            halves.note(&case.bytes, &mut coverage);
         }
-        assert_eq!(halves.accepted(), 6_000);
-        assert!(halves.reach(50));
+        assert_eq!(coverage.came().len(), 2 * (ROUNDED.len() + SIGNED));
+        assert!(coverage.each_came(50), "{:?}", coverage.came());
     }
 }

@@ -1,7 +1,7 @@
 //! Which input of a comparison comes from which maker.
 
+use crate::case::Case;
 use crate::rng::Rng;
-use crate::sweep::Case;
 use crate::{clashes, figures, mix, sweep, weights};
 
 /// One input in this many comes from the sweeps, until they are used up.

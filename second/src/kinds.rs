@@ -13,8 +13,8 @@ use std::ops::RangeInclusive;
 pub struct Field {
     /// With `_` for a space.
     pub name: &'static str,
-    at: usize,
-    bytes: usize,
+    pub at: usize,
+    pub bytes: usize,
     pub most: u32,
 }
 
@@ -37,8 +37,26 @@ const RATE: u32 = 10_000;
 /// "0 land, 1 scattered trees"
 const UNIT_CODE: u32 = 1;
 
+/// A row of a later kind: "a record is the id in four bytes, then the fields in the order named, four bytes for an area or a
+/// production and two for anything else, then zeros" (02, §1).
+const fn behind_id<const N: usize>(named: [(&'static str, usize, u32); N]) -> [Field; N] {
+    let (mut fields, mut nth) = ([ID; N], 1);
+    while nth < N {
+        let (name, bytes, most) = named[nth];
+        fields[nth] = field(
+            name,
+            fields[nth - 1].at + fields[nth - 1].bytes,
+            bytes,
+            most,
+        );
+        nth += 1;
+    }
+    fields
+}
+
 /// "An id is any 32-bit number, zero included", and stands first.
 const ID: Field = field("id", 0, 4, u32::MAX);
+const NAMED_ID: (&str, usize, u32) = (ID.name, ID.bytes, ID.most);
 
 /// A kind whose rows have `N` numbers.
 trait Layout<const N: usize> {
@@ -115,41 +133,39 @@ impl Layout<6> for Parameters {
     const HAS_ID: bool = false;
 }
 
-/// "the id in four bytes, then the fields in the order named, four bytes for an
-/// area or a production and two for anything else, then zeros"
 struct Abandoned;
 impl Layout<7> for Abandoned {
-    const FIELDS: [Field; 7] = [
-        ID,
-        field("area", 4, 4, AMOUNT),
-        field("growth_rate", 8, 2, RATE),
-        field("carbon_fraction", 10, 2, SHARE),
-        field("longer_area", 12, 4, AMOUNT),
-        field("longer_growth_rate", 16, 2, RATE),
-        field("longer_carbon_fraction", 18, 2, SHARE),
-    ];
+    const FIELDS: [Field; 7] = behind_id([
+        NAMED_ID,
+        ("area", 4, AMOUNT),
+        ("growth_rate", 2, RATE),
+        ("carbon_fraction", 2, SHARE),
+        ("longer_area", 4, AMOUNT),
+        ("longer_growth_rate", 2, RATE),
+        ("longer_carbon_fraction", 2, SHARE),
+    ]);
 }
 
 /// Area and density, then the part burned, the live part of that, oxidised and
 /// carbon fraction of the live and of the dead, N/C, CH4, CO, N2O and NOx.
 struct Savanna;
 impl Layout<14> for Savanna {
-    const FIELDS: [Field; 14] = [
-        ID,
-        field("area", 4, 4, AREA),
-        field("density", 8, 2, DENSITY),
-        field("fraction_really_burned", 10, 2, SHARE),
-        field("live_fraction", 12, 2, SHARE),
-        field("live_oxidised_fraction", 14, 2, SHARE),
-        field("live_carbon_fraction", 16, 2, SHARE),
-        field("dead_oxidised_fraction", 18, 2, SHARE),
-        field("dead_carbon_fraction", 20, 2, SHARE),
-        field("N/C", 22, 2, SHARE),
-        field("CH4", 24, 2, SHARE),
-        field("CO", 26, 2, SHARE),
-        field("N2O", 28, 2, SHARE),
-        field("NOx", 30, 2, SHARE),
-    ];
+    const FIELDS: [Field; 14] = behind_id([
+        NAMED_ID,
+        ("area", 4, AREA),
+        ("density", 2, DENSITY),
+        ("fraction_really_burned", 2, SHARE),
+        ("live_fraction", 2, SHARE),
+        ("live_oxidised_fraction", 2, SHARE),
+        ("live_carbon_fraction", 2, SHARE),
+        ("dead_oxidised_fraction", 2, SHARE),
+        ("dead_carbon_fraction", 2, SHARE),
+        ("N/C", 2, SHARE),
+        ("CH4", 2, SHARE),
+        ("CO", 2, SHARE),
+        ("N2O", 2, SHARE),
+        ("NOx", 2, SHARE),
+    ]);
 }
 
 /// The first place of each of the numbers 5, 6 and 7.
@@ -164,6 +180,8 @@ pub struct Kind {
     pub numbers: usize,
     /// What each of them is, in the row's order.
     pub fields: &'static [Field],
+    /// Whether the first is an id.
+    pub has_id: bool,
     pub least_rows: usize,
     pub most_rows: usize,
     /// The rows of a return's records of this kind, into room for just these.
@@ -186,6 +204,12 @@ pub static KINDS: [Kind; 6] = [
     Kind::of::<14, Savanna>("savanna", 2, 0, 32),
 ];
 
+/// The kinds above 4, which edition 1 doesn't have.
+pub fn later_kinds() -> impl Iterator<Item = u8> {
+    let kinds = (1..).zip(&KINDS).filter(|(_, kind)| kind.since > 1);
+    kinds.map(|(number, _)| number)
+}
+
 /// "an unknown edition" is any other.
 pub const EDITIONS: RangeInclusive<u32> = 1..=2;
 
@@ -202,8 +226,20 @@ pub const ROWS_ROOM: usize = {
     room
 };
 
-/// Bytes that the blocks of any rows fit: 13 blocks, and "three blocks" more.
-pub const RETURN_ROOM: usize = 8_192;
+/// The blocks that the most rows take of the kinds of an edition.
+pub const fn full_blocks(edition: u32) -> usize {
+    let (mut blocks, mut kind) = (0, 0);
+    while kind < KINDS.len() {
+        if KINDS[kind].since <= edition {
+            blocks += KINDS[kind].most_rows.div_ceil(12);
+        }
+        kind += 1;
+    }
+    blocks
+}
+
+/// Bytes that the blocks of any rows fit.
+pub const RETURN_ROOM: usize = 512 * full_blocks(*EDITIONS.end());
 
 impl Kind {
     const fn of<const N: usize, L: Layout<N>>(
@@ -217,12 +253,18 @@ impl Kind {
             since,
             numbers: N,
             fields: L::ALL_FIELDS,
+            has_id: L::HAS_ID,
             least_rows,
             most_rows,
             take: take::<N, L>,
             note: note::<N, L>,
             put: put::<N, L>,
         }
+    }
+
+    /// Where the last field ends: "bytes after the last field are zero".
+    pub fn fields_end(&self) -> usize {
+        self.fields.iter().map(Field::end).max().unwrap_or(0)
     }
 
     /// Whether zero is due at this byte of a used record: no field has it.
@@ -284,6 +326,21 @@ fn note<const N: usize, L: Layout<N>>(rows: &[u32], place: usize, first: &mut Fi
 }
 
 impl Field {
+    pub fn end(&self) -> usize {
+        self.at + self.bytes
+    }
+
+    /// Whether its bytes hold a number above its limit; those of an id don't.
+    pub fn can_exceed(&self) -> bool {
+        self.most < u32::MAX >> (32 - 8 * self.bytes)
+    }
+
+    /// Its number in a record, byte by byte.
+    pub fn number(&self, record: &[u8]) -> u32 {
+        let bytes = record[self.at..self.end()].iter().rev();
+        bytes.fold(0, |number, &byte| number << 8 | u32::from(byte))
+    }
+
     #[inline(always)]
     pub(crate) fn of(self, record: &Record) -> u32 {
         match self.bytes {
@@ -295,7 +352,7 @@ impl Field {
 
     /// Only for a value inside the limit, which its bytes hold.
     #[inline(always)]
-    fn put(self, record: &mut Record, value: u32) {
+    pub(crate) fn put(self, record: &mut Record, value: u32) {
         let bytes = value.to_le_bytes();
         match self.bytes {
             1 => record[self.at] = bytes[0],
@@ -306,93 +363,5 @@ impl Field {
 }
 
 #[cfg(test)]
-mod tests {
-    use super::*;
-
-    /// By the paper's own numbers: "15, 5, 5 and 6". An abandoned row is an id
-    /// and twice three fields, a savanna row an id and 13 fields; 806 numbers, 32
-    /// times 7 and 32 times 14 are 1,478.
-    #[test]
-    fn rows_have_the_papers_lengths() {
-        let numbers = KINDS.each_ref().map(|kind| kind.numbers);
-        assert_eq!(numbers, [15, 5, 5, 6, 7, 14]);
-        assert_eq!((ROWS_ROOM, COUNTS_ROOM), (1_478, 7));
-    }
-
-    /// Each field behind the one before, inside the record, and wide enough.
-    fn fields_stand_in_order<const N: usize, L: Layout<N>>() {
-        let mut free = 0;
-        for field in L::FIELDS {
-            let Field {
-                at, bytes, most, ..
-            } = field;
-            assert!(at >= free && at + bytes <= 40 && [1, 2, 4].contains(&bytes));
-            assert!(u64::from(most) < 1 << (8 * bytes));
-            free = at + bytes;
-        }
-    }
-
-    #[test]
-    fn layouts_hold() {
-        fields_stand_in_order::<15, Conversion>();
-        fields_stand_in_order::<5, Stock>();
-        fields_stand_in_order::<5, Harvest>();
-        fields_stand_in_order::<6, Parameters>();
-        fields_stand_in_order::<7, Abandoned>();
-        fields_stand_in_order::<14, Savanna>();
-    }
-
-    /// By hand: ages of eight bytes each behind the id, 20 in all.
-    #[test]
-    fn abandoned_land_has_no_gaps() {
-        let ends = Abandoned::FIELDS.map(|field| field.at + field.bytes);
-        assert_eq!(ends, [4, 8, 10, 12, 16, 18, 20]);
-    }
-
-    /// By hand: id and area of four bytes, then twelve numbers of two, 32 in all.
-    #[test]
-    fn savannas_have_no_gaps() {
-        let ends = Savanna::FIELDS.map(|field| field.at + field.bytes);
-        assert_eq!(ends, [4, 8, 10, 12, 14, 16, 18, 20, 22, 24, 26, 28, 30, 32]);
-    }
-
-    #[test]
-    fn lengths_are_whole_rows_inside_the_limits() {
-        let [conversion, stock, _, parameters, abandoned, savanna] = &KINDS;
-        for (kind, length, due) in [
-            (conversion, 0, Some(0)),
-            (conversion, 14, None),
-            (conversion, 480, Some(32)),
-            (conversion, 495, None),
-            (stock, 161, None),
-            (stock, u32::MAX, None),
-            (parameters, 0, None),
-            (parameters, 6, Some(1)),
-            (parameters, 12, None),
-        ] {
-            for edition in EDITIONS {
-                let found = kind.rows_in(edition, length);
-                assert_eq!(found, due, "{} of {length}", kind.name);
-            }
-        }
-        for (kind, length, first, second) in [
-            (abandoned, 0, Some(0), Some(0)),
-            (abandoned, 1, None, None),
-            (abandoned, 6, None, None),
-            (abandoned, 7, None, Some(1)),
-            (abandoned, 224, None, Some(32)),
-            (abandoned, 225, None, None),
-            (abandoned, 231, None, None),
-            (savanna, 0, Some(0), Some(0)),
-            (savanna, 7, None, None),
-            (savanna, 13, None, None),
-            (savanna, 14, None, Some(1)),
-            (savanna, 448, None, Some(32)),
-            (savanna, 449, None, None),
-            (savanna, 462, None, None),
-        ] {
-            let found = [1, 2].map(|edition| kind.rows_in(edition, length));
-            assert_eq!(found, [first, second], "{} of {length}", kind.name);
-        }
-    }
-}
+#[path = "kinds_tests.rs"]
+mod tests;

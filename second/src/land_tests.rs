@@ -5,10 +5,12 @@ use super::*;
 use crate::doubles::{subtotal, subtotals};
 use crate::inputs;
 use crate::judge::{check, judge};
+use crate::kinds::{COUNTS_ROOM, KINDS};
 use crate::make::{Rows, AFTER, BEFORE};
 use crate::reader::read;
 use crate::rng::Rng;
-use crate::sheets::{figures, sheets, text, Worksheets};
+use crate::sheets::{figures, sheets, text, Worksheets, NUMBERS};
+use crate::text::FIGURES;
 use crate::writer::write;
 
 /// A row of which everything is burnt or decays, with these densities.
@@ -87,7 +89,7 @@ fn grass_turned_to_a_crop() {
     let text = text(&bytes);
     let text = std::str::from_utf8(text.as_bytes()).expect("the text is ASCII");
     let zeros = text.lines().filter(|line| line.ends_with(" 0")).count();
-    assert_eq!((zeros, text.lines().count()), (24, 25));
+    assert_eq!((zeros, text.lines().count()), (FIGURES - 1, FIGURES));
     assert_eq!(text.lines().nth(19), Some("thinner 1"));
 }
 
@@ -107,7 +109,7 @@ fn at_most_64_pairs() {
     let rows: Vec<[u32; 15]> = (0..32).map(|id| row(id, [GRASS, GRASS])).collect();
     let bytes = return_of(&rows).to_bytes();
     assert_eq!(sheets_of(&rows).thinner, 64);
-    let mut room = [7; 76];
+    let mut room = [7; NUMBERS];
     assert_eq!(figures(&bytes, &mut room), 0);
     assert_eq!(room[57..61], [0, 0, 64, 0]);
 }
@@ -173,14 +175,16 @@ fn the_order_closes_over_8() {
     let rows = return_of(&[row(1, [GRASS, GRASS])]);
     let bytes = rows.to_bytes();
     assert_eq!(judge(&bytes).answer(), 0);
-    assert_eq!(figures(&bytes, &mut [0; 74]), 9000);
+    assert_eq!(figures(&bytes, &mut [0; NUMBERS - 1]), 9000);
     assert_eq!(subtotal(&bytes, 3, &mut []), 11_000);
     assert_eq!(subtotal(&bytes, 2, &mut [0; 7]), 9000);
-    assert_eq!(read(&bytes, &mut [0; 14], &mut [0; 7]), 9001);
-    let (area, lengths) = (rows.lists().concat(), [15, 0, 0, 6, 0, 0]);
+    assert_eq!(read(&bytes, &mut [0; 14], &mut [0; COUNTS_ROOM]), 9001);
+    let (area, mut lengths) = (rows.lists().concat(), [0; KINDS.len()]);
     let written = |lengths: &[u32], room: &mut [u8]| write(1, &area, lengths, room, &mut [0]);
+    lengths[..3].copy_from_slice(&[15, 0, 6]);
+    assert_eq!(written(&lengths, &mut []), 10_003);
+    lengths[..4].copy_from_slice(&[15, 0, 0, 6]);
     assert_eq!(written(&lengths, &mut [0; 1_023]), 9000);
-    assert_eq!(written(&[15, 0, 6, 0, 0, 0], &mut []), 10_003);
     let mut room = [0; 1_024];
     assert_eq!(written(&lengths, &mut room), 0);
     assert_eq!(room, bytes[..]);

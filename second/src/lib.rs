@@ -1,8 +1,9 @@
 //! The second program, written from the paper (01) and the requests on abandoned
-//! land, on halves, on thinner grass, on savannas and on reasons (02, §1 to §3, §5
-//! and §7) alone: a judge, a reader and a writer of returns, the worksheets, the
-//! doubles, the explanations and the heaviest rows, with makers of good and
-//! damaged inputs to compare all of it with the first program.
+//! land, on halves, on thinner grass, on savannas, on table 5-2 and on reasons (02,
+//! §1 to §3 and §5 to §7) alone: a judge, a reader and a writer of returns, the
+//! worksheets, the doubles, the table, the explanations and the heaviest rows, with
+//! makers of good and damaged inputs to compare all of it with the first program.
+//! The table is read from docs/TABLE52.csv.
 //!
 //! It shares no code and no definition with the first program. The unit tests
 //! (`NILOFERQ_LIB= cargo test --lib`) need nothing else; the comparisons and
@@ -11,24 +12,30 @@
 
 #![deny(unsafe_code)]
 
+pub mod answers;
 pub mod bound;
 pub mod burned;
+pub mod case;
 pub mod clashes;
+pub mod coverage;
 pub mod damage;
 pub mod doubles;
 pub mod drive;
 pub mod explain;
+pub mod families;
 pub mod fence;
 #[cfg(not(door_missing))]
 pub mod ffi;
 pub mod figures;
 pub mod halves;
 pub mod heaviest;
+pub mod input;
 pub mod inputs;
 pub mod judge;
 pub mod kinds;
 pub mod land;
 pub mod lent;
+pub mod lists;
 pub mod make;
 pub mod mix;
 pub mod order_sweeps;
@@ -42,11 +49,16 @@ pub mod rowlists;
 pub mod savanna;
 pub mod sentences;
 pub mod sheets;
+pub mod sorts;
 pub mod spoil;
 pub mod sweep;
+pub mod table52;
 pub mod text;
 pub mod thinner;
 pub mod timing;
 pub mod weights;
 pub mod worst;
 pub mod writer;
+
+#[cfg(test)]
+mod modules_tests;

@@ -1,72 +1,47 @@
 //! A maker of returns: from rows to bytes, and random good rows.
 //!
-//! The tables here are written from the paper on their own, not from the
-//! judge's reading code, so that the two check each other.
+//! All that is common to the kinds comes from the table of kinds. The judge doesn't use
+//! that table: its reading code is written from the paper on its own, so that the two
+//! check each other.
 
 mod bytes;
+mod draw;
 mod good;
 mod savannas;
 
 pub use bytes::{renumber, repair_check, repair_checks, seal};
-pub use good::{drawn_counts, good_ids, later, thin};
-pub use savannas::{largest, savanna_carbon};
+pub use draw::good_ids;
+pub use good::{drawn_counts, later, thin};
+pub use savannas::{enlarge, savanna_carbon};
 
+use crate::kinds::{full_blocks, Field, Kind, EDITIONS, KINDS};
 use std::ops::Range;
 
 pub const BLOCK: usize = 512;
 pub const CHECK_AT: usize = 508;
 pub const MOST_ROWS: usize = 32;
 /// Of a return, in either edition.
-pub const MOST_BLOCKS: usize = 16;
+pub const MOST_BLOCKS: usize = full_blocks(*EDITIONS.end());
 /// All that edition 1 has rows for.
-pub const FIRST_FULL: usize = 10;
-/// The kinds whose rows have ids, in order.
-pub const WITH_IDS: [u8; 5] = [1, 2, 3, 5, 6];
+pub const FIRST_FULL: usize = full_blocks(1);
+/// The kinds whose rows have ids, in order: all but the parameters.
+pub const WITH_IDS: [u8; KINDS.len() - 1] = {
+    let (mut kinds, mut nth, mut kind) = ([0; KINDS.len() - 1], 0, 0);
+    while kind < KINDS.len() {
+        if KINDS[kind].has_id {
+            kinds[nth] = kind as u8 + 1;
+            nth += 1;
+        }
+        kind += 1;
+    }
+    kinds
+};
 /// How many of them edition 1 has; the later ones are edition 2's alone.
 pub const FIRST_WITH_IDS: usize = 3;
+/// How many are edition 2's alone.
+pub const LATER: usize = WITH_IDS.len() - FIRST_WITH_IDS;
 /// Numbers of rows of the kinds with ids.
 pub type RowCounts = [usize; WITH_IDS.len()];
-
-/// A part of a record: a field with its width and limit, or bytes of zero.
-#[derive(Clone, Copy)]
-pub enum Part {
-    Field { width: usize, limit: u32 },
-    Zero(usize),
-}
-
-const fn field(width: usize, limit: u32) -> Part {
-    Part::Field { width, limit }
-}
-
-/// The only field that can't go above its limit: every 32-bit number is an id.
-/// All the others are wider than their limits need.
-const ID: Part = field(4, u32::MAX);
-const AREA: Part = field(4, 1_000_000);
-const DENSITY: Part = field(2, 10_000);
-const SHARE: Part = field(2, 1_000);
-const UNIT: Part = field(1, 1);
-const RATE: Part = field(2, 10_000);
-const LARGE: Part = field(4, 10_000_000);
-
-#[rustfmt::skip]
-const CONVERSION: [Part; 16] = [
-    ID, AREA, DENSITY, DENSITY, SHARE, SHARE, SHARE, SHARE, SHARE, SHARE,
-    AREA, DENSITY, DENSITY, SHARE, SHARE, Part::Zero(4),
-];
-const STOCK: [Part; 7] = [ID, UNIT, Part::Zero(1), RATE, LARGE, SHARE, Part::Zero(26)];
-const HARVEST: [Part; 7] = [ID, LARGE, RATE, Part::Zero(2), LARGE, LARGE, Part::Zero(20)];
-#[rustfmt::skip]
-const PARAMETERS: [Part; 8] = [
-    Part::Zero(4), SHARE, SHARE, SHARE, SHARE, SHARE, SHARE, Part::Zero(24),
-];
-
-#[rustfmt::skip]
-const ABANDONED: [Part; 8] = [ID, LARGE, RATE, SHARE, LARGE, RATE, SHARE, Part::Zero(20)];
-#[rustfmt::skip]
-const SAVANNA: [Part; 15] = [
-    ID, AREA, DENSITY, SHARE, SHARE, SHARE, SHARE, SHARE, SHARE,
-    SHARE, SHARE, SHARE, SHARE, SHARE, Part::Zero(8),
-];
 
 /// Positions in a conversion row.
 pub const BEFORE: [usize; 2] = [2, 11];
@@ -82,48 +57,22 @@ pub const DEAD_BURNT: [usize; 2] = [7, 8];
 pub const NITROGEN: usize = 9;
 pub const GASES: [usize; 4] = [10, 11, 12, 13];
 
-const RECORDS: [&[Part]; 6] = [
-    &CONVERSION,
-    &STOCK,
-    &HARVEST,
-    &PARAMETERS,
-    &ABANDONED,
-    &SAVANNA,
-];
-
 /// The last kind that an edition has.
 pub fn last_kind(edition: u16) -> u8 {
-    if edition == 1 {
-        4
-    } else {
-        RECORDS.len() as u8
-    }
+    let has = |kind: &&Kind| kind.since <= edition.into();
+    KINDS.iter().filter(has).count() as u8
 }
 
-/// The parts of a record of kind 1 to 6, in order; together 40 bytes.
-pub fn parts(kind: u8) -> &'static [Part] {
-    RECORDS[usize::from(kind) - 1]
-}
-
-/// Width and limit of each field of a kind, in row order.
-pub fn fields(kind: u8) -> impl Iterator<Item = (usize, u32)> {
-    parts(kind).iter().filter_map(|part| match *part {
-        Part::Field { width, limit } => Some((width, limit)),
-        Part::Zero(_) => None,
-    })
+/// The fields of a kind, in row order.
+pub fn fields(kind: u8) -> &'static [Field] {
+    KINDS[usize::from(kind) - 1].fields
 }
 
 /// How many fields of all kinds have a limit: every one but the ids.
 pub const LIMITED: usize = {
     let (mut limited, mut kind) = (0, 0);
-    while kind < RECORDS.len() {
-        let mut part = 0;
-        while part < RECORDS[kind].len() {
-            if let Part::Field { limit, .. } = RECORDS[kind][part] {
-                limited += (limit < u32::MAX) as usize;
-            }
-            part += 1;
-        }
+    while kind < KINDS.len() {
+        limited += KINDS[kind].numbers - KINDS[kind].has_id as usize;
         kind += 1;
     }
     limited
@@ -131,30 +80,29 @@ pub const LIMITED: usize = {
 
 /// The kind of the `nth` field with a limit, and its position in the row.
 pub fn limited(nth: usize) -> (u8, usize) {
-    let of_kind = |kind| {
-        let fields = fields(kind).enumerate();
-        let limited = fields.filter(|(_, (_, limit))| *limit < u32::MAX);
-        limited.map(move |(position, _)| (kind, position))
+    let of_kind = |(number, kind): (u8, &'static Kind)| {
+        let positions = usize::from(kind.has_id)..kind.numbers;
+        positions.map(move |position| (number, position))
     };
-    let mut all = (1..=RECORDS.len() as u8).flat_map(of_kind);
+    let mut all = (1..).zip(&KINDS).flat_map(of_kind);
     all.nth(nth).expect("so many fields have a limit")
+}
+
+/// The blocks of all rows that an edition has, by their kinds.
+pub fn full_kinds(edition: u16) -> Vec<u8> {
+    let of_kind = |kind: u8| vec![kind; if kind == 4 { 1 } else { 3 }];
+    (1..=last_kind(edition)).flat_map(of_kind).collect()
 }
 
 /// Where zero is due in a block of this kind and count, in order: each area of
 /// the used records, each unused record, and the twenty bytes at 488.
 pub fn zero_areas(kind: u8, count: usize) -> Vec<Range<usize>> {
     let mut areas = Vec::new();
-    let mut at = 8;
-    for _ in 0..count {
-        for part in parts(kind) {
-            match *part {
-                Part::Field { width, .. } => at += width,
-                Part::Zero(width) => {
-                    areas.push(at..at + width);
-                    at += width;
-                }
-            }
-        }
+    for record in (0..count).map(|record| 8 + 40 * record) {
+        let starts = fields(kind).iter().map(|field| field.at).chain([40]);
+        let ends = [0].into_iter().chain(fields(kind).iter().map(Field::end));
+        let gaps = ends.zip(starts).filter(|(end, start)| end < start);
+        areas.extend(gaps.map(|(end, start)| record + end..record + start));
     }
     areas.extend((count..12).map(|record| 8 + 40 * record..48 + 40 * record));
     areas.push(488..CHECK_AT);
@@ -166,73 +114,86 @@ pub fn place_of(kind: u8) -> Option<usize> {
     WITH_IDS.iter().position(|&other| other == kind)
 }
 
-/// The rows of a return. A good one has at most 32 of each kind with ids, of
-/// abandoned land and savannas only in edition 2, and exactly one of parameters;
-/// more or fewer are written just the same.
-#[derive(Clone, Debug)]
-pub struct Rows {
-    pub edition: u16,
-    pub conversion: Vec<[u32; 15]>,
-    pub stock: Vec<[u32; 5]>,
-    pub harvest: Vec<[u32; 5]>,
-    pub parameters: Vec<[u32; 6]>,
-    pub abandoned: Vec<[u32; 7]>,
-    pub savanna: Vec<[u32; 14]>,
+/// The rows of a return, a list for each kind: its name in the paper's words and the numbers of a row.
+macro_rules! rows {
+    ($($kind:ident: $numbers:literal,)*) => {
+        /// A good return has at most 32 rows of each kind with ids, of the kinds above 4
+        /// only in edition 2, and exactly one of parameters; more or fewer are written
+        /// just the same.
+        #[derive(Clone, Debug)]
+        pub struct Rows {
+            pub edition: u16,
+            $(pub $kind: Vec<[u32; $numbers]>,)*
+        }
+
+        impl Rows {
+            /// Rows of zeros, so many of each kind.
+            fn zeros(edition: u16, [$($kind),*]: [usize; KINDS.len()]) -> Self {
+                Rows { edition, $($kind: vec![[0; $numbers]; $kind],)* }
+            }
+
+            /// Each kind's rows, one row's numbers after the other's.
+            fn all(&self) -> [&[u32]; KINDS.len()] {
+                [$(self.$kind.as_flattened()),*]
+            }
+
+            fn all_mut(&mut self) -> [&mut [u32]; KINDS.len()] {
+                [$(self.$kind.as_flattened_mut()),*]
+            }
+        }
+    };
+}
+
+rows! {
+    conversion: 15,
+    stock: 5,
+    harvest: 5,
+    parameters: 6,
+    abandoned: 7,
+    savanna: 14,
 }
 
 /// No rows, in edition 1.
 impl Default for Rows {
     fn default() -> Self {
-        Rows {
-            edition: 1,
-            conversion: Vec::new(),
-            stock: Vec::new(),
-            harvest: Vec::new(),
-            parameters: Vec::new(),
-            abandoned: Vec::new(),
-            savanna: Vec::new(),
-        }
+        Self::zeros(1, [0; KINDS.len()])
     }
 }
 
 impl Rows {
     pub fn len(&self, kind: u8) -> usize {
-        match kind {
-            1 => self.conversion.len(),
-            2 => self.stock.len(),
-            3 => self.harvest.len(),
-            4 => self.parameters.len(),
-            5 => self.abandoned.len(),
-            _ => self.savanna.len(),
-        }
+        let kind = usize::from(kind) - 1;
+        self.all()[kind].len() / KINDS[kind].numbers
     }
 
     pub fn row(&mut self, kind: u8, row: usize) -> &mut [u32] {
-        match kind {
-            1 => &mut self.conversion[row],
-            2 => &mut self.stock[row],
-            3 => &mut self.harvest[row],
-            4 => &mut self.parameters[row],
-            5 => &mut self.abandoned[row],
-            _ => &mut self.savanna[row],
-        }
+        let kind = usize::from(kind) - 1;
+        let list = self.all_mut().into_iter().nth(kind).expect("a kind");
+        let mut rows = list.chunks_mut(KINDS[kind].numbers);
+        rows.nth(row).expect("a row of this kind")
     }
 
-    /// Each kind's rows, one row's numbers after the other's.
-    pub fn lists(&self) -> [Vec<u32>; RECORDS.len()] {
-        [
-            self.conversion.concat(),
-            self.stock.concat(),
-            self.harvest.concat(),
-            self.parameters.concat(),
-            self.abandoned.concat(),
-            self.savanna.concat(),
-        ]
+    pub fn lists(&self) -> [Vec<u32>; KINDS.len()] {
+        self.all().map(<[u32]>::to_vec)
     }
 
     /// How many rows there are of each kind with ids.
     pub fn counts(&self) -> RowCounts {
         WITH_IDS.map(|kind| self.len(kind))
+    }
+}
+
+/// "One day's return, whole".
+#[cfg(test)]
+pub fn worked_day() -> Rows {
+    Rows {
+        conversion: vec![[
+            7, 200, 1000, 100, 400, 900, 500, 200, 900, 500, 300, 1000, 100, 300, 500,
+        ]],
+        stock: vec![[1, 0, 680, 1000, 500]],
+        harvest: vec![[1, 500, 950, 300, 0]],
+        parameters: vec![[500, 12, 60, 10, 7, 121]],
+        ..Rows::default()
     }
 }
 

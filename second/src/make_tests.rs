@@ -2,27 +2,26 @@ use super::*;
 use crate::judge::{judge, Counts, Verdict};
 use crate::rng::Rng;
 
-#[test]
-fn every_kind_is_forty_bytes() {
-    for kind in 1..=6 {
-        let width = |part: &Part| match *part {
-            Part::Field { width, .. } => width,
-            Part::Zero(width) => width,
-        };
-        assert_eq!(parts(kind).iter().map(width).sum::<usize>(), 40);
-    }
-}
-
-/// "15, 5, 5 and 6" numbers, of which the first three have an id, and 7 of
-/// abandoned land and 14 of savannas, which have one too.
+/// Each number of each kind but the ids.
 #[test]
 fn limited_fields_come_once_each() {
-    let first = [(1, 1..15), (2, 1..5), (3, 1..5), (4, 0..6)];
-    let due = first.into_iter().chain([(5, 1..7), (6, 1..14)]);
-    let due = due.map(|(kind, positions)| positions.map(move |position| (kind, position)));
-    let due: Vec<(u8, usize)> = due.flatten().collect();
     let found: Vec<(u8, usize)> = (0..LIMITED).map(limited).collect();
-    assert_eq!(found, due);
+    assert!(found.is_sorted_by(|a, b| a < b));
+    let numbers: usize = KINDS.iter().map(|kind| kind.numbers).sum();
+    assert_eq!(found.len(), numbers - WITH_IDS.len());
+    assert_eq!(found[..2], [(1, 1), (1, 2)]);
+    assert!(found.contains(&(4, 0)) && !found.contains(&(5, 0)));
+}
+
+/// By hand: a stock record has zeros at 5 and from 14 on, the parameters have them in front too.
+#[test]
+fn zeros_lie_between_the_fields() {
+    assert_eq!(zero_areas(2, 1)[..2], [13..14, 22..48]);
+    assert_eq!(zero_areas(4, 1)[..2], [8..12, 24..48]);
+    assert_eq!(zero_areas(1, 12), {
+        let used = (0..12).map(|record| 8 + 40 * record + 36..48 + 40 * record);
+        used.chain([488..508]).collect::<Vec<_>>()
+    });
 }
 
 #[test]
@@ -31,13 +30,18 @@ fn good_rows_are_accepted_with_their_counts() {
     for count in 0..=MOST_ROWS {
         for counts in [[count, 0, 0], [0, count, 32], [32, 32, count], [count; 3]] {
             let bytes = Rows::good(&mut rng, counts).to_bytes();
-            let [c, s, h] = counts.map(|count| count as u32);
-            assert_eq!(judge(&bytes), accepted(1, [c, s, h, 1, 0, 0]));
+            assert_eq!(judge(&bytes), accepted(1, &counts));
         }
     }
 }
 
-fn accepted(edition: u16, rows: [u32; 6]) -> Verdict {
+/// With these numbers of rows of the kinds with ids, and one of parameters.
+fn accepted(edition: u16, counts: &[usize]) -> Verdict {
+    let mut rows = [0; KINDS.len()];
+    rows[3] = 1;
+    for (&kind, &count) in WITH_IDS.iter().zip(counts) {
+        rows[usize::from(kind) - 1] = count as u32;
+    }
     Verdict::Accepted(Counts { edition, rows })
 }
 
@@ -45,26 +49,21 @@ fn accepted(edition: u16, rows: [u32; 6]) -> Verdict {
 fn later_kinds_are_accepted_in_edition_2() {
     let mut rng = Rng::new(5);
     for count in 0..=MOST_ROWS {
-        for counts in [
-            [0, 0, 0, count, 0],
-            [0, 0, 0, 0, count],
-            [count, 0, 32, count, count],
-            [32, 32, 32, count, MOST_ROWS - count],
-        ] {
-            let mut rows = Rows::good_in(&mut rng, 2, counts);
-            let [c, s, h, a, v] = counts.map(|count| count as u32);
-            assert_eq!(judge(&rows.to_bytes()), accepted(2, [c, s, h, 1, a, v]));
-            rows.edition = 1;
-            let alone = a + v == 0;
-            assert_eq!(
-                judge(&rows.to_bytes()) == accepted(1, [c, s, h, 1, 0, 0]),
-                alone
-            );
+        for nth in FIRST_WITH_IDS..WITH_IDS.len() {
+            for others in [0, 32, MOST_ROWS - count] {
+                let mut counts = [others; WITH_IDS.len()];
+                counts[nth] = count;
+                let mut rows = Rows::good_in(&mut rng, 2, counts);
+                assert_eq!(judge(&rows.to_bytes()), accepted(2, &counts));
+                rows.edition = 1;
+                let first = judge(&rows.to_bytes()) == accepted(1, &counts);
+                assert_eq!(first, !later(&counts));
+            }
         }
     }
 }
 
-/// Sixteen blocks in edition 2 and ten in edition 1 come often.
+/// The most blocks of each edition come often.
 #[test]
 fn full_returns_come() {
     let mut rng = Rng::new(6);

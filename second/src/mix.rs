@@ -1,11 +1,11 @@
 //! Inputs drawn at random: good returns, each number broken alone, in pairs
 //! and several times, and random blocks.
 
+use crate::case::Case;
 use crate::damage::{block, block_count, break_number, random_blocks};
 use crate::make::{drawn_counts, repair_checks, seal, Rows, BLOCK};
 use crate::rng::Rng;
 use crate::spoil::spoil;
-use crate::sweep::Case;
 
 type Weighted = (usize, fn(&mut Rng) -> Case);
 

@@ -1,20 +1,34 @@
 //! Returns by the kinds and the editions of their blocks, each in its turn.
 //! Everything else in them is good.
 
+use crate::case::Case;
 use crate::damage::{block, block_count};
-use crate::make::{last_kind, place_of, repair_checks, seal, RowCounts, Rows, BLOCK};
+use crate::kinds::{self, KINDS};
+use crate::make::{full_kinds, last_kind, place_of, repair_checks, seal, RowCounts, Rows};
+use crate::make::{BLOCK, MOST_BLOCKS, WITH_IDS};
 use crate::rng::Rng;
-use crate::sweep::Case;
 
-/// The kinds 1 to 7 in one to four blocks.
-pub const ORDERS: usize = 7 + 49 + 343 + 2_401;
-/// Editions 0 to 3 in one to four blocks.
-pub const EDITIONS: usize = 4 + 16 + 64 + 256;
+/// Every kind and one more.
+const ANY_KIND: usize = KINDS.len() + 1;
+/// Every edition, 0 and one more.
+const ANY_EDITION: usize = *kinds::EDITIONS.end() as usize + 2;
+/// The kinds in one to four blocks.
+pub const ORDERS: usize = lists(ANY_KIND, 4);
+/// The editions in one to four blocks.
+pub const EDITIONS: usize = lists(ANY_EDITION, 4);
 /// Numbers of blocks from eight to some more than there may be.
-pub const CROWDS: usize = 12;
+pub const CROWDS: usize = MOST_BLOCKS - 4;
 /// The orders and the editions of one block and of two, which come first.
-pub const SHORT_ORDERS: usize = 2 * (7 + 49);
-pub const SHORT_EDITIONS: usize = 4 + 16;
+pub const SHORT_ORDERS: usize = 2 * lists(ANY_KIND, 2);
+pub const SHORT_EDITIONS: usize = lists(ANY_EDITION, 2);
+
+/// How many lists of numbers below `below` there are, of one to so many.
+const fn lists(below: usize, longest: u32) -> usize {
+    match longest {
+        0 => 0,
+        _ => below.pow(longest) + lists(below, longest - 1),
+    }
+}
 
 /// The `index`-th list of numbers below `below`, the shorter lists first.
 fn nth_list(mut index: usize, below: usize) -> Vec<u8> {
@@ -27,25 +41,27 @@ fn nth_list(mut index: usize, below: usize) -> Vec<u8> {
     (0..length).map(digit).collect()
 }
 
-/// Every order of kinds in each edition, 5 to 7 in edition 1 and 7 in edition 2
-/// included.
+/// Every order of kinds in each edition, those that it doesn't have included.
 pub fn orders(index: usize, rng: &mut Rng) -> Case {
     let edition = 1 + (index % 2) as u16;
-    let kinds: Vec<u8> = nth_list(index / 2, 7).iter().map(|kind| kind + 1).collect();
+    let kinds = nth_list(index / 2, ANY_KIND);
+    let kinds: Vec<u8> = kinds.iter().map(|kind| kind + 1).collect();
     of_kinds(rng, edition, &kinds)
 }
 
 /// Every edition in every block of a small return, whose kinds are good in
 /// edition 2 and now and then in edition 1 too.
 pub fn editions(index: usize, rng: &mut Rng) -> Case {
-    let editions = nth_list(index, 4);
-    let kinds: &[u8] = match editions.len() {
-        1 => &[4],
-        2 => rng.pick(&[&[1, 4], &[4, 5], &[4, 6]]),
-        3 => rng.pick(&[&[1, 2, 4], &[2, 4, 5], &[4, 5, 6]]),
-        _ => rng.pick(&[&[1, 2, 3, 4], &[1, 3, 4, 5], &[2, 4, 5, 6]]),
-    };
-    let mut bytes = of_kinds(rng, 2, kinds).bytes;
+    let editions = nth_list(index, ANY_EDITION);
+    let mut kinds = vec![4];
+    while kinds.len() < editions.len() {
+        let kind = rng.pick(&WITH_IDS);
+        if !kinds.contains(&kind) {
+            kinds.push(kind);
+        }
+    }
+    kinds.sort_unstable();
+    let mut bytes = of_kinds(rng, 2, &kinds).bytes;
     for (b, &edition) in editions.iter().enumerate() {
         block(&mut bytes, b)[6] = edition;
     }
@@ -57,13 +73,10 @@ pub fn editions(index: usize, rng: &mut Rng) -> Case {
 }
 
 /// Rising kinds in eight blocks and more, in each edition: from eleven on edition
-/// 1 has no place for them, from seventeen on neither has.
+/// 1 has no place for them, and above the most blocks neither has.
 pub fn crowds(index: usize, rng: &mut Rng) -> Case {
     let (edition, blocks) = (1 + (index % 2) as u16, 8 + index / 2 % CROWDS);
-    let mut kinds = vec![1, 1, 1, 2, 2, 2, 3, 3, 3, 4];
-    if edition == 2 {
-        kinds.extend([5, 5, 5, 6, 6, 6]);
-    }
+    let mut kinds = full_kinds(edition);
     while kinds.len() > blocks {
         let b = rng.below(kinds.len());
         if kinds[b] != 4 {
@@ -120,9 +133,8 @@ mod tests {
     use super::*;
     use crate::judge::judge;
 
-    /// By hand: four kinds in edition 1, six in edition 2.
     fn known(edition: u8, kind: u8) -> bool {
-        kind <= [4, 6][usize::from(edition) - 1]
+        kind <= last_kind(edition.into())
     }
 
     /// All rules on kinds together: the kinds rise, one of them is 4 and there are
@@ -130,7 +142,7 @@ mod tests {
     fn form_is_good(edition: u8, kinds: &[u8]) -> bool {
         let times = |kind: u8| kinds.iter().filter(|&&other| other == kind).count();
         let known = kinds.iter().all(|&kind| known(edition, kind));
-        let few = (1..=6).all(|kind| times(kind) <= 3);
+        let few = kinds.iter().all(|&kind| times(kind) <= 3);
         kinds.is_sorted() && times(4) == 1 && known && few
     }
 
@@ -177,7 +189,7 @@ mod tests {
             let number = judge(&case.bytes).answer() / 1000;
             let good = form_is_good(edition, &kinds);
             let due = match kinds.len() {
-                17.. => 1,
+                blocks if blocks > MOST_BLOCKS => 1,
                 _ if good => 0,
                 _ => 4,
             };

@@ -24,6 +24,18 @@ pub fn read(bytes: &[u8], rows: &mut [u32], counts: &mut [u32]) -> u32 {
     }
 }
 
+/// Judges a return, as C sees it: 0 with the edition and the number of each kind at the front of `counts`, or the refusal with `counts` as it was.
+pub fn count(bytes: &[u8], counts: &mut [u32]) -> u32 {
+    match (check(bytes), counts.get_mut(..COUNTS_ROOM)) {
+        (Err(refusal), _) => refusal.answer(),
+        (Ok(_), None) => 9000,
+        (Ok(checked), Some(front)) => {
+            front.copy_from_slice(&checked.counts.numbers());
+            0
+        }
+    }
+}
+
 /// Elements that the rows of the kinds up to each one take together.
 pub fn ends(counts: &[u32; KINDS.len()]) -> [usize; KINDS.len()] {
     let mut end = 0;

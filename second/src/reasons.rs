@@ -4,13 +4,13 @@
 //! What a text doesn't say is read off the bytes once more, not asked of the
 //! judge or of the sheets.
 
+use crate::coverage::{Counters, Coverage, Due};
 use crate::judge::Fault;
-use crate::kinds::{EDITIONS, KINDS};
-use crate::make::{parts, Part, AFTER, BEFORE, BLOCK};
+use crate::kinds::KINDS;
+use crate::lists::{rows_in, rows_of};
+use crate::make::{AFTER, BEFORE, BLOCK};
 use std::cmp::Ordering;
 
-/// The most fields a row has.
-const FIELDS: usize = 15;
 const SUBTOTALS: [&str; 3] = ["on-site", "off-site", "decay"];
 /// The rules on where a return may end: edition, whether the block's kind is
 /// below 4, 4 or above, and the rule in the paper's words.
@@ -26,190 +26,144 @@ const ENDS: [(u8, Ordering, &str); 5] = [
     ),
 ];
 
-#[derive(Default)]
+/// Counters for all of it.
 pub struct Reasons {
     /// Acceptance and the numbers 1 to 7.
-    numbers: [usize; 8],
-    /// In edition 1, and in edition 2.
-    faults: [[usize; 2]; Fault::ALL.len()],
+    numbers: Counters,
+    /// Each in edition 1 and in the later ones.
+    faults: Counters,
     /// Blocks at fault with the end, by [`ENDS`].
-    ends: [usize; ENDS.len()],
+    ends: Counters,
     /// A byte in a used record, in an unused one, and in the twenty behind them.
-    strays: [usize; 3],
+    strays: Counters,
     /// The id before stands in the same block, and in the block before.
-    ids: [usize; 2],
+    ids: Counters,
     /// By kind, in the row's order.
-    fields: [[usize; FIELDS]; KINDS.len()],
+    fields: [Counters; KINDS.len()],
     /// Rows with more than one field above its limit.
-    several_fields: usize,
+    several_fields: Counters,
     /// For each subtotal: no row, one, and a later one as heavy as the first.
-    heaviest: [[usize; 3]; SUBTOTALS.len()],
+    heaviest: Counters,
 }
 
 impl Reasons {
+    /// So many of each are due, but for what can't come.
+    pub fn new(due: Due, coverage: &mut Coverage) -> Self {
+        let numbers = (0..8).map(|number| format!("explained, number {number}"));
+        let numbers = coverage.add(due, numbers);
+        let faults = coverage.add(due, [""; 0]);
+        for fault in Fault::ALL {
+            let named = |edition| format!("fault {}, edition {edition}", fault.word());
+            let can_come = fault != Fault::Fourth;
+            coverage.add(
+                if can_come { due } else { Due::Never },
+                ["1", "2"].map(named),
+            );
+        }
+        let end =
+            |(edition, _, rule): &(u8, Ordering, &str)| format!("end, edition {edition}, {rule}");
+        let strays = ["a used record", "an unused record", "the twenty bytes"];
+        let ids = ["the same block", "the block before"];
+        Reasons {
+            numbers,
+            faults,
+            ends: coverage.add(due, ENDS.iter().map(end)),
+            strays: coverage.add(due, strays.map(|place| format!("stray in {place}"))),
+            ids: coverage.add(due, ids.map(|place| format!("id before in {place}"))),
+            fields: KINDS.each_ref().map(|kind| {
+                let first = coverage.add(due, [""; 0]);
+                for field in kind.fields {
+                    let can_come = field.can_exceed();
+                    let name = format!("field {} of {}", field.name, kind.name);
+                    coverage.add(if can_come { due } else { Due::Never }, [name]);
+                }
+                first
+            }),
+            several_fields: coverage.add(due, ["several fields"]),
+            heaviest: coverage.add(
+                due,
+                SUBTOTALS.iter().flat_map(|name| {
+                    ["none", "one row", "a tie"].map(|sort| format!("heaviest {name}, {sort}"))
+                }),
+            ),
+        }
+    }
+
     /// Counts the text that is due for these bytes.
-    pub fn note(&mut self, bytes: &[u8], text: &[u8]) {
+    pub fn note(&self, bytes: &[u8], text: &[u8], coverage: &mut Coverage) {
         let text = std::str::from_utf8(text).expect("the text is ASCII");
         let lines: Vec<(&str, &str)> = text.lines().filter_map(|l| l.split_once(' ')).collect();
         let value = |name: &str| lines.iter().find(|line| line.0 == name).map(|line| line.1);
         let number_of = |name| value(name).and_then(|value| value.parse::<usize>().ok());
         let refused = value("refused").and_then(|value| value.split_once(' '));
         let Some((number, place)) = refused else {
-            self.numbers[0] += 1;
-            return self.note_heaviest(bytes);
+            coverage.count(self.numbers, 0);
+            return self.note_heaviest(bytes, coverage);
         };
         let [number, place] = [number, place].map(|word| word.parse().expect("a number"));
-        self.numbers[number] += 1;
+        coverage.count(self.numbers, number);
         match number {
             4 => {
                 let words = Fault::ALL.map(Fault::word);
                 let fault = words.iter().position(|&word| value("fault") == Some(word));
                 let fault = fault.expect("one of the words");
-                self.faults[fault][usize::from(bytes[6] > 1)] += 1;
+                coverage.count(self.faults, 2 * fault + usize::from(bytes[6] > 1));
                 let block = &bytes[BLOCK * place..BLOCK * (place + 1)];
                 match Fault::ALL[fault] {
                     Fault::End => {
-                        let broken = (bytes[6], block[0].cmp(&4));
+                        let broken = (bytes[6].min(2), block[0].cmp(&4));
                         let rule = ENDS.iter().position(|&(e, kind, _)| (e, kind) == broken);
-                        self.ends[rule.expect("one of the rules")] += 1;
+                        coverage.count(self.ends, rule.expect("one of the rules"));
                     }
                     Fault::Stray => {
                         let offset = number_of("offset").expect("an offset is named");
                         let record = (offset - 8) / 40;
                         let behind = usize::from(record >= block[1].into());
-                        self.strays[if record < 12 { behind } else { 2 }] += 1;
+                        coverage.count(self.strays, if record < 12 { behind } else { 2 });
                     }
                     _ => {}
                 }
             }
-            5 => self.ids[usize::from(place.is_multiple_of(12))] += 1,
+            5 => coverage.count(self.ids, usize::from(place.is_multiple_of(12))),
             6 => {
                 let block = &bytes[BLOCK * (place / 12)..];
                 let record = &block[8 + 40 * (place % 12)..];
                 let field = number_of("field").expect("a field is named");
-                self.fields[usize::from(block[0]) - 1][field] += 1;
-                self.several_fields += usize::from(above(block[0], record) > 1);
+                let kind = usize::from(block[0]) - 1;
+                coverage.count(self.fields[kind], field);
+                let above = KINDS[kind].fields.iter();
+                if above
+                    .filter(|field| field.number(record) > field.most)
+                    .count()
+                    > 1
+                {
+                    coverage.count(self.several_fields, 0);
+                }
             }
             _ => {}
         }
     }
 
-    fn note_heaviest(&mut self, bytes: &[u8]) {
+    fn note_heaviest(&self, bytes: &[u8], coverage: &mut Coverage) {
         let mut most = [0; SUBTOTALS.len()];
         let mut times = [0usize; SUBTOTALS.len()];
-        let blocks = bytes.chunks(BLOCK).filter(|block| block[0] == 1);
-        for record in blocks.flat_map(|block| block[8..488].chunks(40).take(block[1].into())) {
-            for (code, part) in parts_of(record).into_iter().enumerate() {
+        for row in rows_in::<15>(&rows_of(bytes), 1) {
+            for (code, part) in parts_of(row).into_iter().enumerate() {
                 if part > most[code] {
                     (most[code], times[code]) = (part, 0);
                 }
                 times[code] += usize::from(part > 0 && part == most[code]);
             }
         }
-        for (sorts, times) in self.heaviest.iter_mut().zip(times) {
-            sorts[times.min(2)] += 1;
+        for (code, times) in times.into_iter().enumerate() {
+            coverage.count(self.heaviest, 3 * code + times.min(2));
         }
-    }
-
-    /// What is counted, each with its name and whether it has to come.
-    fn counts(&self) -> Vec<(String, usize, bool)> {
-        let mut all = Vec::new();
-        let mut add = |name: String, count, due| all.push((name, count, due));
-        for (number, &count) in self.numbers.iter().enumerate() {
-            add(format!("explained, number {number}"), count, true);
-        }
-        for (fault, counts) in Fault::ALL.iter().zip(self.faults) {
-            for (edition, count) in EDITIONS.zip(counts) {
-                let name = format!("fault {}, edition {edition}", fault.word());
-                add(name, count, *fault != Fault::Fourth);
-            }
-        }
-        for ((edition, _, rule), count) in ENDS.iter().zip(self.ends) {
-            add(format!("end, edition {edition}, {rule}"), count, true);
-        }
-        let strays = ["a used record", "an unused record", "the twenty bytes"];
-        for (name, count) in strays.iter().zip(self.strays) {
-            add(format!("stray in {name}"), count, true);
-        }
-        for (name, count) in ["the same block", "the block before"].iter().zip(self.ids) {
-            add(format!("id before in {name}"), count, true);
-        }
-        for (kind, counts) in KINDS.iter().zip(&self.fields) {
-            for (field, &count) in kind.fields.iter().zip(counts) {
-                // No id is above the largest of 32 bits.
-                let due = field.most < u32::MAX;
-                add(format!("field {} of {}", field.name, kind.name), count, due);
-            }
-        }
-        add("several fields".to_string(), self.several_fields, true);
-        for (name, counts) in SUBTOTALS.iter().zip(self.heaviest) {
-            for (sort, count) in ["none", "one row", "a tie"].iter().zip(counts) {
-                add(format!("heaviest {name}, {sort}"), count, true);
-            }
-        }
-        all
-    }
-
-    pub fn print(&self) {
-        for (name, count, due) in self.counts() {
-            if due || count > 0 {
-                println!("{name}: {count}");
-            }
-        }
-    }
-
-    /// Whether so many came of each, and none of what can't come; says of which
-    /// it isn't so.
-    pub fn reach(&self, least: usize) -> bool {
-        let mut good = true;
-        for (name, count, due) in self.counts() {
-            if due && count < least {
-                eprintln!("{name}: {count}, and {least} are due");
-                good = false;
-            }
-            if !due && count > 0 {
-                eprintln!("{name}: {count}, and it can't come");
-                good = false;
-            }
-        }
-        good
     }
 }
 
-/// How many fields of a record are above their limits.
-fn above(kind: u8, record: &[u8]) -> usize {
-    let (mut at, mut above) = (0, 0);
-    for part in parts(kind) {
-        at += match *part {
-            Part::Zero(width) => width,
-            Part::Field { width, limit } => {
-                above += usize::from(number(&record[at..at + width]) > u64::from(limit));
-                width
-            }
-        };
-    }
-    above
-}
-
-fn number(bytes: &[u8]) -> u64 {
-    bytes
-        .iter()
-        .rev()
-        .fold(0, |sum, &byte| 256 * sum + u64::from(byte))
-}
-
-/// A conversion record's part of each subtotal.
-fn parts_of(record: &[u8]) -> [u64; SUBTOTALS.len()] {
-    let mut row = [0; FIELDS];
-    let mut at = 0;
-    let fields = parts(1).iter().filter_map(|part| match part {
-        Part::Field { width, .. } => Some(width),
-        Part::Zero(_) => None,
-    });
-    for (value, width) in row.iter_mut().zip(fields) {
-        *value = number(&record[at..at + width]);
-        at += width;
-    }
+/// A conversion row's part of each subtotal.
+fn parts_of(row: &[u32; 15]) -> [u64; SUBTOTALS.len()] {
+    let row = row.map(u64::from);
     let [year, ten_years] =
         [0, 1].map(|period| row[BEFORE[period]].saturating_sub(row[AFTER[period]]));
     [

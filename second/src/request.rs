@@ -1,75 +1,79 @@
 //! A few inputs that meet all that the requests say of refusals, for a comparison
 //! that is too slow for the whole sweeps.
 
-use crate::damage::{block, block_count};
-use crate::make::{seal, Rows, BLOCK};
+use crate::case::Case;
+use crate::damage::block;
+use crate::families::Families;
+use crate::kinds::KINDS;
+use crate::make::{seal, Rows, BLOCK, FIRST_WITH_IDS, LATER, WITH_IDS};
 use crate::order_sweeps::{crowds, editions, orders, CROWDS, SHORT_EDITIONS, SHORT_ORDERS};
 use crate::rng::Rng;
-use crate::spoil::{spoil_id, spoil_limit, ABOVES, BAD_IDS};
-use crate::sweep::Case;
+use crate::spoil::{any_limited_of, spoil_id, spoil_limit, ABOVES, BAD_IDS};
 
-type Family = (usize, fn(usize, &mut Rng) -> Case);
-
-const FAMILIES: [Family; 4] = [
+static FAMILIES: Families<Case> = Families(&[
     (SHORT_ORDERS, orders),
     (SHORT_EDITIONS, editions),
     (2 * CROWDS, crowds),
-    (WAYS * TRIES, savannas),
-];
+    (WAYS * TRIES * LATER, later),
+]);
 
-/// Ways in which savannas are at fault, and how often each is drawn.
+/// Ways in which rows of a kind above 4 are at fault, and how often each is drawn.
 const WAYS: usize = 6;
 const TRIES: usize = 5;
 
 /// How many there are.
 pub fn size() -> usize {
-    FAMILIES.iter().map(|(size, _)| size).sum()
+    FAMILIES.size()
 }
 
 /// The `index`-th of them.
-pub fn case(mut index: usize, rng: &mut Rng) -> Case {
-    for (size, make) in FAMILIES {
-        if index < size {
-            return make(index, rng);
-        }
-        index -= size;
-    }
-    panic!("there are {} inputs", size())
+pub fn case(index: usize, rng: &mut Rng) -> Case {
+    FAMILIES.case(index, rng)
 }
 
-/// Savannas at fault with an id, a field, a byte behind the fields, a count, the
-/// count of the third block, or before abandoned land.
-fn savannas(index: usize, rng: &mut Rng) -> Case {
-    let way = index % WAYS;
+/// A kind above 4 at fault with an id, a field, a byte behind the fields, a count,
+/// the count of the third block, or by standing behind a higher one.
+fn later(index: usize, rng: &mut Rng) -> Case {
+    let (way, nth) = (index % WAYS, index / WAYS % LATER);
+    let kind = WITH_IDS[FIRST_WITH_IDS + nth];
     let row = if way == 4 { 24 } else { 1 + rng.below(31) };
-    let savanna = row + 1 + rng.below(32 - row);
-    let abandoned = if way == 5 { 3 } else { rng.pick(&[0, 3]) };
-    let mut rows = Rows::good_in(rng, 2, [0, 1, 0, abandoned, savanna]);
+    let mut counts = [0, 1, 0].to_vec();
+    counts.extend((0..LATER).map(|_| if way == 5 { 3 } else { rng.pick(&[0, 3]) }));
+    counts[FIRST_WITH_IDS + nth] = row + 1 + rng.below(32 - row);
+    let mut rows = Rows::good_in(rng, 2, &counts);
     match way {
         0 => {
             let bad = rng.pick(&BAD_IDS);
-            spoil_id(&mut rows, 6, row, bad);
+            spoil_id(&mut rows, kind, row, bad);
         }
         1 => {
-            let (field, above) = (1 + rng.below(13), rng.pick(&ABOVES));
-            spoil_limit(rng, &mut rows, (6, row, field), above);
+            let at = (kind, row, any_limited_of(rng, kind));
+            let above = rng.pick(&ABOVES);
+            spoil_limit(rng, &mut rows, at, above);
         }
         _ => {}
     }
     let mut bytes = rows.to_bytes();
-    let first = (0..block_count(&bytes)).find(|&b| bytes[BLOCK * b] == 6);
-    let first = first.expect("savannas");
+    let kinds: Vec<u8> = bytes.chunks(BLOCK).map(|block| block[0]).collect();
+    let first = kinds.partition_point(|&other| other < kind);
     let at = block(&mut bytes, first + row / 12);
     match way {
-        2 => at[8 + 40 * (row % 12) + 32 + rng.below(8)] = rng.nonzero_byte(),
+        2 => {
+            let end = KINDS[usize::from(kind) - 1].fields_end();
+            at[8 + 40 * (row % 12) + end + rng.below(40 - end)] = rng.nonzero_byte();
+        }
         3 => at[1] = rng.pick(&[0, 13, 255]),
         4 => at[1] = 9 + rng.below(4) as u8,
-        5 => bytes[BLOCK * (first - 1)..].rotate_left(BLOCK),
+        5 => {
+            // The first of all kinds above 4 goes behind the others.
+            let later = kinds.partition_point(|&other| other <= 4);
+            bytes[BLOCK * later..].rotate_left(BLOCK);
+        }
         _ => {}
     }
     seal(&mut bytes);
     Case {
-        how: format!("savannas at fault, way {way} at row {row} of {savanna}"),
+        how: format!("kind {kind} at fault, way {way} at row {row}"),
         bytes,
     }
 }
@@ -77,26 +81,26 @@ fn savannas(index: usize, rng: &mut Rng) -> Case {
 #[cfg(test)]
 mod tests {
     use super::*;
-    use crate::drive::Input;
+    use crate::input::Input;
     use crate::judge::judge;
     use crate::sentences::OF_RETURNS;
 
     /// The few inputs that stand for the requests meet all of their sentences.
     #[test]
     fn the_requests_are_met() {
-        let mut met = [0; OF_RETURNS.len()];
+        let mut met = vec![0; OF_RETURNS.names().len()];
         for index in 0..size() {
             let case = case(index, &mut Rng::for_input(114, index as u64));
-            let found = case.sentences(judge(&case.bytes).answer());
+            let found = case.met(judge(&case.bytes).answer());
             found.into_iter().for_each(|i| met[i] += 1);
         }
-        assert!(!met.contains(&0), "{met:?}");
+        assert!(!met.contains(&0), "{:?} {met:?}", OF_RETURNS.names());
     }
 
     #[test]
-    fn savannas_are_refused_by_their_way() {
-        for index in 0..200 * WAYS {
-            let case = savannas(index, &mut Rng::for_input(115, index as u64));
+    fn later_kinds_are_refused_by_their_way() {
+        for index in 0..100 * WAYS * LATER {
+            let case = later(index, &mut Rng::for_input(115, index as u64));
             let due = [5, 6, 4, 4, 4, 4][index % WAYS];
             assert_eq!(judge(&case.bytes).answer() / 1000, due, "{}", case.how);
         }

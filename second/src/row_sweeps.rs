@@ -1,20 +1,19 @@
 //! Rows for the writer made one after the other, each count, length, value and
 //! id in its turn.
 
+use crate::families::Families;
 use crate::kinds::KINDS;
+use crate::lists::RowLists;
 use crate::make::{drawn_counts, fields, limited, place_of, RowCounts, Rows};
 use crate::make::{FIRST_WITH_IDS, LIMITED, MOST_ROWS, WITH_IDS};
 use crate::rng::Rng;
-use crate::rowlists::{wrap_sum, RowLists, UNKNOWN_EDITIONS};
-use crate::spoil::{spoil_id, BAD_IDS};
-
-type Family = (usize, fn(usize, &mut Rng) -> RowLists);
+use crate::rowlists::{wrap_sum, UNKNOWN_EDITIONS};
+use crate::spoil::{spoil_id, value, BAD_IDS, VALUES};
 
 /// More rows than are allowed, far enough to see 33, 34, 36 and 37.
 const COUNTS: usize = MOST_ROWS + 6;
-pub const VALUES: usize = 20;
 
-const FAMILIES: [Family; 9] = [
+static FAMILIES: Families<RowLists> = Families(&[
     (COUNTS * WITH_IDS.len() * 2, counts),
     (2 * LENGTHS, lengths),
     (LIMITED * MOST_ROWS * VALUES, values),
@@ -24,22 +23,16 @@ const FAMILIES: [Family; 9] = [
     (LENGTH_COUNTS * 3 * 8, length_counts),
     (2 * AREAS, areas),
     (WRAPS, wraps),
-];
+]);
 
 /// How many inputs the sweeps have together.
 pub fn size() -> usize {
-    FAMILIES.iter().map(|(size, _)| size).sum()
+    FAMILIES.size()
 }
 
-/// The `index`-th of the sweeps.
-pub fn case(mut index: usize, rng: &mut Rng) -> RowLists {
-    for (size, make) in FAMILIES {
-        if index < size {
-            return make(index, rng);
-        }
-        index -= size;
-    }
-    panic!("the sweeps have {} inputs", size())
+/// The `index`-th input of the sweeps.
+pub fn case(index: usize, rng: &mut Rng) -> RowLists {
+    FAMILIES.case(index, rng)
 }
 
 /// Every count of each kind, the other kinds empty or of any count.
@@ -91,33 +84,6 @@ fn lengths(index: usize, rng: &mut Rng) -> RowLists {
     RowLists::joined(how, u32::from(edition), &lists)
 }
 
-/// A value to try in a field of this limit: good ones, one above, and some that
-/// would be good again were the field's width all that is looked at.
-pub fn value(which: usize, limit: u32, rng: &mut Rng) -> u32 {
-    match which {
-        0 => 0,
-        1 => 1,
-        2 => limit - 1,
-        3 => limit,
-        4 => limit + 1,
-        5 => 255,
-        6 => 256,
-        7 => 257,
-        8 => 65_535,
-        9 => 65_536,
-        10 => 65_537,
-        11 => 65_536 + limit,
-        12 => 256 + limit,
-        13 => 1 << 24,
-        14 => (1 << 31) - 1,
-        15 => 1 << 31,
-        16 => (1 << 31) + limit,
-        17 => u32::MAX,
-        18 => u32::MAX - limit,
-        _ => rng.from_to(limit + 1, u32::MAX),
-    }
-}
-
 fn some_counts(rng: &mut Rng) -> RowCounts {
     drawn_counts(rng, |rng| rng.below(14))
 }
@@ -135,7 +101,7 @@ fn values(index: usize, rng: &mut Rng) -> RowLists {
         counts[place] = row + 1 + rng.below(MOST_ROWS - row);
     }
     let mut rows = Rows::good_in_either(rng, counts);
-    let (_, limit) = fields(kind).nth(field).expect("a field of this kind");
+    let limit = fields(kind)[field].most;
     let value = value(which, limit, rng);
     rows.row(kind, row)[field] = value;
     RowLists::of(

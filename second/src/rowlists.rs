@@ -2,78 +2,11 @@
 //! of rows, too many or don't add up, editions that there aren't or that don't
 //! have a kind, and each rule broken alone and beside others.
 
-use crate::burned::Savannas;
-use crate::drive::Input;
 use crate::kinds::KINDS;
+use crate::lists::{Lists, RowLists};
 use crate::make::{fields, Rows};
 use crate::rng::Rng;
-use crate::row_sweeps::{value, VALUES};
-use crate::sentences;
-use crate::spoil::{any_limited, spoil};
-use crate::thinner::Sort;
-use crate::writer::write;
-
-/// An edition to write and an area of rows, kind after kind, with the length of
-/// each kind's part, and a short word on how they were made.
-#[derive(Clone)]
-pub struct RowLists {
-    pub how: String,
-    pub edition: u32,
-    pub rows: Vec<u32>,
-    pub lengths: Vec<u32>,
-}
-
-/// Each kind's part of the area by itself.
-pub type Lists = [Vec<u32>; KINDS.len()];
-
-impl RowLists {
-    pub fn of(how: String, rows: &Rows) -> Self {
-        Self::joined(how, u32::from(rows.edition), &rows.lists())
-    }
-
-    pub fn joined(how: String, edition: u32, lists: &Lists) -> Self {
-        RowLists {
-            how,
-            edition,
-            rows: lists.concat(),
-            lengths: lists.iter().map(|list| list.len() as u32).collect(),
-        }
-    }
-
-    /// The second program's own answer to them.
-    pub fn write(&self, room: &mut [u8], size: &mut [u32]) -> u32 {
-        write(self.edition, &self.rows, &self.lengths, room, size)
-    }
-}
-
-impl Input for RowLists {
-    fn how(&self) -> &str {
-        &self.how
-    }
-
-    /// The edition, the lengths, then the area, in decimal.
-    fn dump(&self) -> Vec<u8> {
-        format!("{}\n{:?}\n{:?}\n", self.edition, self.lengths, self.rows).into_bytes()
-    }
-
-    fn edition(&self) -> u32 {
-        self.edition
-    }
-
-    const SENTENCES: &'static [&'static str] = &sentences::OF_WRITING;
-
-    fn sentences(&self, answer: u32) -> Vec<usize> {
-        sentences::of_writing(self, answer)
-    }
-
-    fn thinner(&self) -> Sort {
-        Sort::of_lists(self)
-    }
-
-    fn burned(&self) -> Savannas {
-        Savannas::of_lists(self)
-    }
-}
+use crate::spoil::{any_limited, spoil, value, VALUES};
 
 /// Random rows with their lengths.
 pub fn case(rng: &mut Rng) -> RowLists {
@@ -148,7 +81,7 @@ fn broken(rng: &mut Rng, numbers: &[u32]) -> RowLists {
 /// A value that its field has no width for, or that only its limit forbids.
 fn far_above(rng: &mut Rng, rows: &mut Rows) -> String {
     let (kind, row, field) = any_limited(rng, rows);
-    let (_, limit) = fields(kind).nth(field).expect("a field of this kind");
+    let limit = fields(kind)[field].most;
     let value = value(rng.below(VALUES), limit, rng).max(limit + 1);
     rows.row(kind, row)[field] = value;
     format!(", 6: {value} at kind {kind} row {row} field {field}")

@@ -1,8 +1,11 @@
 use super::*;
+use crate::kinds::{later_kinds, RETURN_ROOM};
+use crate::make::WITH_IDS;
 use crate::row_sweeps;
+use crate::writer::write;
 
 fn answer(made: &RowLists) -> u32 {
-    made.write(&mut [0; 8_192], &mut [0])
+    made.write(&mut [0; RETURN_ROOM], &mut [0])
 }
 
 #[test]
@@ -22,8 +25,9 @@ fn every_index_makes_lists() {
 #[test]
 fn every_answer_comes_often() {
     let mut given = [0; 12];
-    let mut places = [0; 7];
-    for index in 0..20_000 {
+    let mut places = [0; KINDS.len() + 1];
+    // 20,000 for the first six kinds, and for each kind more as many more.
+    for index in 0..20_000 * KINDS.len() as u64 / 6 {
         let answer = answer(&case(&mut Rng::for_input(42, index)));
         given[(answer / 1000) as usize] += 1;
         if answer / 1000 == 10 {
@@ -96,149 +100,148 @@ fn lengths_add_up() {
     let rows: Vec<u32> = (0..31).map(|i| if i == 0 { 9 } else { 0 }).collect();
     let answer =
         |rows: &[u32], lengths: &[u32]| write(1, rows, lengths, &mut [0; 5_120], &mut [0; 1]);
-    assert_eq!(answer(&rows, &[15, 5, 5, 6, 0, 0]), 0);
-    // Each sum is 31, or would be in 32 bits.
+    // Lengths of the first kinds, and none of the others.
+    let padded = |front: &[u32]| [front, &vec![0; KINDS.len() - front.len()]].concat();
+    assert_eq!(answer(&rows, &padded(&[15, 5, 5, 6])), 0);
+    // Not a length for each kind, though each sum is 31.
+    let one_too_many = [padded(&[15, 5, 5, 6]), vec![0]].concat();
+    let all_but_one = &one_too_many[..KINDS.len() - 1];
+    let mut last = [padded(&[15, 5, 5, 5]), vec![1]].concat();
     for lengths in [
         &[15, 5, 11][..],
         &[15, 5, 5, 6],
-        &[15, 5, 5, 6, 0],
-        &[15, 5, 5, 6, 0, 0, 0],
-        &[15, 5, 5, 5, 0, 0, 1],
+        all_but_one,
+        &one_too_many,
+        &last,
         &[31],
-        &[15, 5, u32::MAX, 12, 0, 0],
-        &[15, 5, 5, 5, 0, 0],
-        &[15, 5, 5, 12, 0, 0],
-        &[0, 0, 0, 0, 0, 0],
-        &[1 << 31, 1 << 31, 25, 6, 0, 0],
-        &[1 << 30, 1 << 30, 1 << 30, (1 << 30) + 31, 0, 0],
-        &[u32::MAX, u32::MAX, u32::MAX, 34, 0, 0],
-        &[u32::MAX, u32::MAX, u32::MAX, u32::MAX, 35, 0],
-        &[15, 5, 5, 6, 1 << 31, 1 << 31],
     ] {
         assert_eq!(answer(&rows, lengths), 10_000, "{lengths:?}");
     }
+    last.truncate(KINDS.len());
+    assert_eq!(answer(&rows, &last), 10_000);
+    // Another sum, of which some would be 31 in 32 bits.
+    for lengths in [
+        &[15, 5, u32::MAX, 12][..],
+        &[15, 5, 5, 5],
+        &[15, 5, 5, 12],
+        &[],
+        &[1 << 31, 1 << 31, 25, 6],
+        &[1 << 30, 1 << 30, 1 << 30, (1 << 30) + 31],
+        &[u32::MAX, u32::MAX, u32::MAX, 34],
+        &[u32::MAX, u32::MAX, u32::MAX, u32::MAX, 35],
+        &[15, 5, 5, 6, 1 << 31, 1 << 31],
+    ] {
+        assert_eq!(answer(&rows, &padded(lengths)), 10_000, "{lengths:?}");
+    }
     assert_eq!(answer(&[], &[]), 10_000);
     // The sum is right: the kinds come next.
-    assert_eq!(answer(&[], &[0, 0, 0, 0, 0, 0]), 10_004);
-    assert_eq!(answer(&rows, &[15, 5, 6, 5, 0, 0]), 10_003);
-    assert_eq!(answer(&rows, &[16, 4, 5, 6, 0, 0]), 10_001);
-    assert_eq!(answer(&rows, &[0, 20, 5, 6, 0, 0]), 5001);
-    assert_eq!(answer(&rows[15..], &[0, 10, 0, 6, 0, 0]), 5001);
-    assert_eq!(answer(&rows[20..], &[0, 5, 0, 6, 0, 0]), 0);
-    assert_eq!(answer(&rows[20..], &[0, 0, 5, 6, 0, 0]), 0);
+    for (from, lengths, due) in [
+        (31, &[][..], 10_004),
+        (0, &[15, 5, 6, 5], 10_003),
+        (0, &[16, 4, 5, 6], 10_001),
+        (0, &[0, 20, 5, 6], 5001),
+        (15, &[0, 10, 0, 6], 5001),
+        (20, &[0, 5, 0, 6], 0),
+        (20, &[0, 0, 5, 6], 0),
+    ] {
+        assert_eq!(answer(&rows[from..], &padded(lengths)), due, "{lengths:?}");
+    }
 }
 
-/// By hand: the edition is tried at place 0, abandoned land at place 5, savannas
-/// at place 6.
+/// The edition is tried at place 0, each kind above 4 at its own.
 #[test]
 fn editions() {
-    let rows = [0; 27];
-    let answer = |edition: u32, lengths: &[u32]| {
-        let rows = &rows[..lengths.iter().sum::<u32>() as usize];
-        write(edition, rows, lengths, &mut [0; 1_536], &mut [0; 1])
+    let answer = |edition: u32, of: &[(u8, usize)]| {
+        let mut lengths = [0; KINDS.len()];
+        for &(kind, length) in of {
+            lengths[usize::from(kind) - 1] = length as u32;
+        }
+        let rows = vec![0; of.iter().map(|(_, length)| length).sum()];
+        write(edition, &rows, &lengths, &mut [0; RETURN_ROOM], &mut [0; 1])
     };
-    for (lengths, first, second) in [
-        (&[0, 0, 0, 6, 7, 0][..], 10_005, 0),
-        (&[0, 0, 0, 6, 0, 14], 10_006, 0),
-        (&[0, 0, 0, 6, 7, 14], 10_005, 0),
-        (&[0, 0, 0, 6, 0, 0], 0, 0),
-        (&[0, 0, 0, 6, 1, 0], 10_005, 10_005),
-        (&[0, 0, 0, 6, 6, 0], 10_005, 10_005),
-        (&[0, 0, 0, 6, 0, 1], 10_006, 10_006),
-        (&[0, 0, 0, 6, 0, 7], 10_006, 10_006),
-        (&[0, 0, 0, 6, 0, 13], 10_006, 10_006),
-        // A lower kind's fault comes first, and so does place 0.
-        (&[0, 0, 0, 6, 1, 13], 10_005, 10_005),
-        (&[0, 0, 0, 5, 7, 0], 10_004, 10_004),
-        (&[0, 0, 0, 5, 0, 14], 10_004, 10_004),
-        (&[1, 0, 0, 5, 7, 14], 10_001, 10_001),
-        (&[0, 0, 0, 6, 7], 10_000, 10_000),
-        (&[0, 0, 0, 6], 10_000, 10_000),
-    ] {
-        assert_eq!(answer(1, lengths), first, "{lengths:?}");
-        assert_eq!(answer(2, lengths), second, "{lengths:?}");
-        for edition in UNKNOWN_EDITIONS {
-            assert_eq!(answer(edition, lengths), 10_000, "{lengths:?}");
+    for kind in later_kinds() {
+        let (numbers, own) = (
+            KINDS[usize::from(kind) - 1].numbers,
+            10_000 + u32::from(kind),
+        );
+        let one = (kind, numbers);
+        for (of, first, second) in [
+            (&[(4, 6)][..], 0, 0),
+            (&[(4, 6), one], own, 0),
+            (&[(4, 6), (kind, 1)], own, own),
+            (&[(4, 6), (kind, numbers - 1)], own, own),
+            (&[(4, 6), (kind, 33 * numbers)], own, own),
+            // A lower kind's fault comes first.
+            (&[(4, 5), one], 10_004, 10_004),
+            (&[(1, 1), (4, 5), one], 10_001, 10_001),
+        ] {
+            assert_eq!(answer(1, of), first, "{of:?}");
+            assert_eq!(answer(2, of), second, "{of:?}");
+            for edition in UNKNOWN_EDITIONS {
+                assert_eq!(answer(edition, of), 10_000, "{of:?}");
+            }
+        }
+        for higher in later_kinds().filter(|&higher| higher > kind) {
+            let numbers = KINDS[usize::from(higher) - 1].numbers;
+            let both = [(4, 6), one, (higher, numbers)];
+            assert_eq!([1, 2].map(|edition| answer(edition, &both)), [own, 0]);
+            let worse = [(4, 6), (kind, 1), (higher, numbers - 1)];
+            assert_eq!([1, 2].map(|edition| answer(edition, &worse)), [own; 2]);
         }
     }
 }
 
-/// By hand: rows of abandoned land stand behind the parameters, and are limited
-/// as land stock is.
+/// Rows of each kind above 4 stand behind the parameters, and each field has its limit.
 #[test]
-fn places_of_abandoned_land() {
-    let mut rows = Rows {
-        edition: 2,
-        harvest: vec![[9, 1, 1, 1, 1]],
-        parameters: vec![[1; 6]],
-        abandoned: (0..13).map(|id| [id, 1, 1, 1, 1, 1, 1]).collect(),
-        ..Rows::default()
-    };
-    let judged = |rows: &Rows| answer(&RowLists::of(String::new(), rows));
-    assert_eq!(judged(&rows), 0);
-    rows.abandoned[12][1..].copy_from_slice(&[10_000_000, 10_000, 1_000].repeat(2));
-    assert_eq!(judged(&rows), 0);
-    // Harvest is block 0, the parameters block 1, abandoned land 2 and 3.
-    rows.abandoned[12][6] = 1_001;
-    assert_eq!(judged(&rows), 6036);
-    rows.abandoned[11][4] = 10_000_001;
-    assert_eq!(judged(&rows), 6035);
-    rows.abandoned[0][2] = 65_536;
-    assert_eq!(judged(&rows), 6024);
-    rows.abandoned[12][0] = 11;
-    assert_eq!(judged(&rows), 5036);
-    rows.abandoned.resize(33, [99; 7]);
-    assert_eq!(judged(&rows), 10_005);
-    rows.edition = 1;
-    assert_eq!(judged(&rows), 10_005);
-    rows.abandoned.clear();
-    assert_eq!(judged(&rows), 0);
-}
-
-/// By hand: savannas stand behind abandoned land, with an area and a density of
-/// conversion rows and else fractions.
-#[test]
-fn places_of_savannas() {
-    let mut rows = Rows {
-        edition: 2,
-        parameters: vec![[1; 6]],
-        abandoned: vec![[9, 1, 1, 1, 1, 1, 1]],
-        savanna: (0..32).map(|id| [id; 14]).collect(),
-        ..Rows::default()
-    };
-    let judged = |rows: &Rows| answer(&RowLists::of(String::new(), rows));
-    assert_eq!(judged(&rows), 0);
-    rows.savanna[31][1..4].copy_from_slice(&[1_000_000, 10_000, 1_000]);
-    rows.savanna[31][4..].fill(1_000);
-    assert_eq!(judged(&rows), 0);
-    // The parameters are block 0, abandoned land 1, savannas 2 to 4.
-    rows.savanna[31][13] = 1_001;
-    assert_eq!(judged(&rows), 6055);
-    rows.savanna[30][4] = 65_536;
-    assert_eq!(judged(&rows), 6054);
-    rows.savanna[24][2] = 10_001;
-    assert_eq!(judged(&rows), 6048);
-    rows.savanna[0][1] = 1_000_001;
-    assert_eq!(judged(&rows), 6024);
-    rows.savanna[31][0] = 30;
-    assert_eq!(judged(&rows), 5055);
-    rows.savanna[24][0] = 23;
-    assert_eq!(judged(&rows), 5048);
-    rows.savanna.push([99; 14]);
-    assert_eq!(judged(&rows), 10_006);
-    rows.abandoned.resize(33, [99; 7]);
-    assert_eq!(judged(&rows), 10_005);
-    rows.abandoned.clear();
-    rows.edition = 1;
-    assert_eq!(judged(&rows), 10_006);
-    rows.savanna.clear();
-    assert_eq!(judged(&rows), 0);
+fn places_of_later_kinds() {
+    for kind in later_kinds() {
+        // Harvest is block 0, the parameters block 1, the kind blocks 2 to 4.
+        let mut counts = [0; WITH_IDS.len()];
+        counts[2] = 1;
+        counts[WITH_IDS
+            .iter()
+            .position(|&other| other == kind)
+            .expect("an id")] = 32;
+        let mut rows = Rows::good_in(&mut Rng::new(46), 2, counts);
+        (0..32).for_each(|row| rows.row(kind, row)[0] = 7 + row as u32);
+        let judged = |rows: &Rows| answer(&RowLists::of(String::new(), rows));
+        assert_eq!(judged(&rows), 0);
+        let fields = fields(kind);
+        for (at, field) in fields.iter().enumerate().skip(1) {
+            for (row, place) in [(0, 24), (11, 35), (12, 36), (31, 55)] {
+                let good = rows.row(kind, row)[at];
+                for above in [field.most + 1, 65_536.max(field.most + 1), u32::MAX] {
+                    rows.row(kind, row)[at] = above;
+                    assert_eq!(judged(&rows), 6000 + place, "kind {kind} field {at}");
+                }
+                rows.row(kind, row)[at] = field.most;
+                assert_eq!(judged(&rows), 0, "kind {kind} field {at}");
+                rows.row(kind, row)[at] = good;
+            }
+        }
+        // Of two the lower place, and 5 before 6.
+        rows.row(kind, 31)[1] = u32::MAX;
+        rows.row(kind, 30)[2] = u32::MAX;
+        assert_eq!(judged(&rows), 6054);
+        rows.row(kind, 31)[0] = 37;
+        assert_eq!(judged(&rows), 5055);
+        rows.row(kind, 24)[0] = 30;
+        assert_eq!(judged(&rows), 5048);
+        counts[2] = 0;
+        let mut lists = Rows::good_in(&mut Rng::new(47), 2, counts).lists();
+        let more = vec![99; fields.len()];
+        lists[usize::from(kind) - 1].extend(more);
+        for edition in [1, 2] {
+            let made = RowLists::joined(String::new(), edition, &lists);
+            assert_eq!(answer(&made), 10_000 + u32::from(kind));
+        }
+    }
 }
 
 /// Right in 32 bits and wrong by 2^32 or more.
 #[test]
 fn sums_wrap() {
-    let mut over = [0; 6];
+    let mut over = [0; KINDS.len()];
     for index in 0..6_000 {
         let made = row_sweeps::case(row_sweeps::size() - 1, &mut Rng::for_input(45, index));
         let sum: u64 = made.lengths.iter().map(|&length| u64::from(length)).sum();
@@ -246,8 +249,9 @@ fn sums_wrap() {
         over[(sum >> 32) as usize] += 1;
         assert_eq!(answer(&made), 10_000);
     }
+    // So many lengths together are hardly ever near 2^32 each.
     assert!(
-        over[0] == 0 && over[1..].iter().all(|&times| times > 20),
+        over[0] == 0 && over[1..6].iter().all(|&times| times > 20),
         "{over:?}"
     );
 }

@@ -3,7 +3,7 @@
 use super::*;
 use crate::inputs;
 use crate::kinds::{RETURN_ROOM, ROWS_ROOM};
-use crate::make::{Rows, MOST_ROWS};
+use crate::make::{Rows, LATER, MOST_ROWS};
 use crate::rng::Rng;
 use crate::writer::write;
 
@@ -34,8 +34,8 @@ impl Memory {
 }
 
 /// Elements, from numbers of rows.
-fn lengths(counts: [u32; 6]) -> [u32; 6] {
-    [0, 1, 2, 3, 4, 5].map(|kind| KINDS[kind].numbers as u32 * counts[kind])
+fn lengths(counts: [u32; KINDS.len()]) -> [u32; KINDS.len()] {
+    std::array::from_fn(|kind| KINDS[kind].numbers as u32 * counts[kind])
 }
 
 /// "An accepted return, read and written again, is the same bytes."
@@ -50,7 +50,7 @@ fn read_then_written_is_the_same() {
         let edition = checked.counts.edition;
         accepted[usize::from(edition) - 1] += 1;
         let lengths = lengths(checked.counts.rows);
-        let mut memory = Memory::new(lengths.iter().sum::<u32>() as usize, 7);
+        let mut memory = Memory::new(lengths.iter().sum::<u32>() as usize, COUNTS_ROOM);
         assert_eq!(memory.read(&case.bytes), 0);
         assert_eq!(memory.counts[0], u32::from(edition));
         assert_eq!(memory.counts[1..], checked.counts.rows);
@@ -72,20 +72,26 @@ fn written_then_read_is_the_same() {
     for turn in 0..4 * (MOST_ROWS + 1) {
         let count = turn / 4;
         let counts = [[count, 0, 0], [0, count, 5], [31, 32, count], [count; 3]][turn % 4];
-        let [c, s, h] = counts.map(|count| count as u32);
-        let rows = Rows::good(&mut rng, counts);
-        written_and_read(&rows, [1, c, s, h, 1, 0, 0]);
-        // The same in edition 2, without abandoned land and savannas and with some.
-        for [a, v] in [[0, 0], [count, 0], [0, count], [MOST_ROWS - count, count]] {
-            let [c, s, h] = counts;
-            let rows = Rows::good_in(&mut rng, 2, [c, s, h, a, v]);
-            let [c, s, h, a, v] = [c, s, h, a, v].map(|count| count as u32);
-            written_and_read(&rows, [2, c, s, h, 1, a, v]);
+        written_and_read(&Rows::good(&mut rng, counts));
+        // The same in edition 2, without the kinds above 4, with one of them and with all.
+        for alone in 0..LATER + 2 {
+            let mut all = counts.to_vec();
+            all.extend((0..LATER).map(|nth| match alone {
+                0 => 0,
+                1 => [count, MOST_ROWS - count][nth % 2],
+                _ if nth == alone - 2 => count,
+                _ => 0,
+            }));
+            written_and_read(&Rows::good_in(&mut rng, 2, &all));
         }
     }
 }
 
-fn written_and_read(rows: &Rows, counts: [u32; 7]) {
+fn written_and_read(rows: &Rows) {
+    let mut counts = [u32::from(rows.edition); COUNTS_ROOM];
+    for (kind, count) in (1..).zip(&mut counts[1..]) {
+        *count = rows.len(kind) as u32;
+    }
     let lists = rows.lists();
     let (area, lengths) = (lists.concat(), lists.map(|list| list.len() as u32));
     let mut room = vec![0xAA; RETURN_ROOM + 10];
@@ -96,32 +102,33 @@ fn written_and_read(rows: &Rows, counts: [u32; 7]) {
     assert!(room[..bytes.len()] == bytes);
     assert!(room[bytes.len()..].iter().all(|&byte| byte == 0xAA));
 
-    let mut memory = Memory::new(ROWS_ROOM + 9, 9);
+    let mut memory = Memory::new(ROWS_ROOM + 9, COUNTS_ROOM + 2);
     assert_eq!(memory.read(&bytes), 0);
     let (front, rest) = memory.rows.split_at(area.len());
     assert_eq!(front, area);
     assert!(rest.iter().all(|&element| element == PATTERN));
-    assert_eq!(memory.counts[..7], counts);
-    assert_eq!(memory.counts[7..], [PATTERN; 2]);
+    assert_eq!(memory.counts[..COUNTS_ROOM], counts);
+    assert_eq!(memory.counts[COUNTS_ROOM..], [PATTERN; 2]);
 }
 
 /// By hand: 2, 3, 1 and 1 rows end at elements 30, 45, 50 and 56.
 #[test]
 fn short_rooms_are_refused_by_kind() {
     let bytes = Rows::good(&mut Rng::new(93), [2, 3, 1]).to_bytes();
+    let enough = COUNTS_ROOM;
     for (rows, counts, due) in [
-        (56, 7, 0),
-        (57, 8, 0),
-        (55, 7, 9004),
-        (50, 7, 9004),
-        (49, 7, 9003),
-        (45, 9, 9003),
-        (44, 7, 9002),
-        (30, 7, 9002),
-        (29, 7, 9001),
-        (0, 7, 9001),
-        (56, 6, 9000),
-        (29, 6, 9000),
+        (56, enough, 0),
+        (57, enough + 1, 0),
+        (55, enough, 9004),
+        (50, enough, 9004),
+        (49, enough, 9003),
+        (45, enough + 2, 9003),
+        (44, enough, 9002),
+        (30, enough, 9002),
+        (29, enough, 9001),
+        (0, enough, 9001),
+        (56, enough - 1, 9000),
+        (29, enough - 1, 9000),
         (0, 0, 9000),
     ] {
         let mut memory = Memory::new(rows, counts);
@@ -131,7 +138,7 @@ fn short_rooms_are_refused_by_kind() {
     // A kind without rows needs no room: the place is a kind that has some.
     let bytes = Rows::good(&mut Rng::new(94), [0, 0, 2]).to_bytes();
     for (rows, due) in [(16, 0), (15, 9004), (10, 9004), (9, 9003), (0, 9003)] {
-        assert_eq!(Memory::new(rows, 7).read(&bytes), due, "{rows}");
+        assert_eq!(Memory::new(rows, COUNTS_ROOM).read(&bytes), due, "{rows}");
     }
     // Two rows of abandoned land more end at element 30, two savannas at 58.
     let second = |a, v| Rows::good_in(&mut Rng::new(95), 2, [0, 0, 2, a, v]).to_bytes();
@@ -144,8 +151,12 @@ fn short_rooms_are_refused_by_kind() {
         (second(0, 2), &[(44, 0), (43, 9006), (16, 9006), (15, 9004)]),
     ] {
         for &(rows, due) in rooms {
-            assert_eq!(Memory::new(rows, 7).read(&bytes), due, "{rows}");
-            assert_eq!(Memory::new(rows, 6).read(&bytes), 9000, "{rows}");
+            assert_eq!(Memory::new(rows, COUNTS_ROOM).read(&bytes), due, "{rows}");
+            assert_eq!(
+                Memory::new(rows, COUNTS_ROOM - 1).read(&bytes),
+                9000,
+                "{rows}"
+            );
         }
     }
     // A refusal of the bytes comes before.

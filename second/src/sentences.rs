@@ -6,18 +6,55 @@
 mod returns;
 mod writing;
 
-pub use returns::{edition, of_return, OF_RETURNS};
-pub use writing::{of_writing, OF_WRITING};
+pub use returns::{edition, Seen, OF_RETURNS};
+pub use writing::{SeenRows, OF_WRITING};
 
-fn numbers_of(met: &[bool]) -> Vec<usize> {
-    let numbers = met.iter().enumerate();
-    numbers.filter_map(|(i, &met)| met.then_some(i)).collect()
+use crate::coverage::Sort;
+use crate::kinds::later_kinds;
+
+/// A sentence about each kind above 4, whose number stands for the `#`.
+type SortOfKind<S> = (&'static str, fn(&S, u8) -> bool);
+
+/// Sentences about what is seen of an input with its answer.
+pub struct Sentences<S: 'static> {
+    general: &'static [Sort<S>],
+    of_kinds: &'static [SortOfKind<S>],
+}
+
+impl<S> Sentences<S> {
+    pub fn names(&self) -> Vec<String> {
+        let general = self.general.iter().map(|(name, _)| name.to_string());
+        let of_kind = |kind: u8| {
+            let named = move |(name, _): &SortOfKind<S>| name.replace('#', &kind.to_string());
+            self.of_kinds.iter().map(named)
+        };
+        general.chain(later_kinds().flat_map(of_kind)).collect()
+    }
+
+    /// Which of them are met, by their places among the names.
+    pub fn met(&self, seen: &S) -> Vec<usize> {
+        let general = self.general.iter().map(|(_, holds)| holds(seen));
+        let of_kind = |kind: u8| {
+            self.of_kinds
+                .iter()
+                .map(move |(_, holds)| holds(seen, kind))
+        };
+        let met = general.chain(later_kinds().flat_map(of_kind)).enumerate();
+        met.filter_map(|(nth, met)| met.then_some(nth)).collect()
+    }
+
+    #[cfg(test)]
+    fn met_names(&self, seen: &S) -> Vec<String> {
+        let mut names = self.names();
+        let met = self.met(seen).into_iter();
+        met.map(|nth| std::mem::take(&mut names[nth])).collect()
+    }
 }
 
 #[cfg(test)]
 mod tests {
     use super::*;
-    use crate::drive::Input;
+    use crate::input::Input;
     use crate::judge::judge;
     use crate::kinds::RETURN_ROOM;
     use crate::rng::Rng;
@@ -26,20 +63,20 @@ mod tests {
     /// Nothing that edition 2 brought is left to the sweeps, or to chance.
     #[test]
     fn every_sentence_is_met_often() {
-        let mut met = [0; OF_RETURNS.len()];
-        for index in 0..20_000 {
+        let often = |names: Vec<String>, found: &dyn Fn(u64) -> Vec<usize>| {
+            let mut met = vec![0; names.len()];
+            let inputs = 10_000 * later_kinds().count() as u64;
+            let found = (0..inputs).flat_map(found);
+            found.for_each(|nth| met[nth] += 1);
+            assert!(met.iter().all(|&times| times > 20), "{names:?} {met:?}");
+        };
+        often(OF_RETURNS.names(), &|index| {
             let case = mix::case(&mut Rng::for_input(101, index));
-            let answer = judge(&case.bytes).answer();
-            case.sentences(answer).into_iter().for_each(|i| met[i] += 1);
-        }
-        assert!(met.iter().all(|&times| times > 20), "{met:?}");
-
-        let mut met = [0; OF_WRITING.len()];
-        for index in 0..20_000 {
+            case.met(judge(&case.bytes).answer())
+        });
+        often(OF_WRITING.names(), &|index| {
             let lists = rowlists::case(&mut Rng::for_input(102, index));
-            let found = lists.sentences(lists.write(&mut [0; RETURN_ROOM], &mut [0]));
-            found.into_iter().for_each(|i| met[i] += 1);
-        }
-        assert!(met.iter().all(|&times| times > 20), "{met:?}");
+            lists.met(lists.write(&mut [0; RETURN_ROOM], &mut [0]))
+        });
     }
 }

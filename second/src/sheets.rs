@@ -12,7 +12,7 @@ use crate::judge::{check, four, two, Checked, Record, Refusal};
 use crate::land::{Conversion, Period, Share};
 use crate::rounding::Tonnes;
 use crate::savanna::Savannas;
-use crate::text::Text;
+use crate::text::{Text, FIGURES};
 
 /// Every figure that isn't a plain sum or turn of another.
 #[derive(Clone, Copy, Debug, PartialEq, Eq)]
@@ -64,7 +64,7 @@ pub fn lines(bytes: &[u8], room: &mut [u8]) -> usize {
 }
 
 /// How many numbers C gets for all figures, three for each.
-pub const NUMBERS: usize = 75;
+pub const NUMBERS: usize = 3 * FIGURES;
 
 /// As C asks for the figures: 0 and their numbers at the front of `room`, or
 /// 1,000 times the refusal number plus the place and `room` as it was.
@@ -237,70 +237,67 @@ impl Worksheets {
         -self.q
     }
 
-    /// Three numbers for each figure, in the order of the lines: 1 below zero
-    /// and else 0, then the upper and the lower 64 bits of its size.
-    pub fn numbers(&self) -> [[u64; 3]; NUMBERS / 3] {
-        let above = |value: u64| [0, 0, value];
-        let signed = |value: i64| [u64::from(value < 0), 0, value.unsigned_abs()];
-        let wide = |value: u128| [0, (value >> 64) as u64, value as u64];
+    /// Each with its name and a space, in the paper's order; "requested figures print
+    /// after 01's lines".
+    #[inline]
+    fn figures(&self) -> [(&'static str, Figure); FIGURES] {
+        use Figure::{Above, Signed, Wide};
         [
-            above(self.e),
-            above(self.k),
-            above(self.l),
-            signed(self.m),
-            signed(self.o),
-            signed(self.p),
-            signed(self.q),
-            signed(self.report()),
-            wide(self.onsite),
-            wide(self.offsite),
-            wide(self.r()),
-            wide(self.decay),
-            above(self.co2),
-            above(self.ch4),
-            above(self.co),
-            above(self.n2o),
-            above(self.nox),
-            above(self.uptake),
-            above(self.uptake_co2),
-            above(self.thinner),
-            wide(self.savanna_carbon),
-            above(self.savanna_ch4),
-            above(self.savanna_co),
-            above(self.savanna_n2o),
-            above(self.savanna_nox),
+            ("E ", Above(self.e)),
+            ("K ", Above(self.k)),
+            ("L ", Above(self.l)),
+            ("M ", Signed(self.m)),
+            ("O ", Signed(self.o)),
+            ("P ", Signed(self.p)),
+            ("Q ", Signed(self.q)),
+            ("report ", Signed(self.report())),
+            ("onsite ", Wide(self.onsite)),
+            ("offsite ", Wide(self.offsite)),
+            ("R ", Wide(self.r())),
+            ("decay ", Wide(self.decay)),
+            ("co2 ", Above(self.co2)),
+            ("ch4 ", Above(self.ch4)),
+            ("co ", Above(self.co)),
+            ("n2o ", Above(self.n2o)),
+            ("nox ", Above(self.nox)),
+            ("uptake ", Above(self.uptake)),
+            ("uptake_co2 ", Above(self.uptake_co2)),
+            ("thinner ", Above(self.thinner)),
+            ("savanna_carbon ", Wide(self.savanna_carbon)),
+            ("savanna_ch4 ", Above(self.savanna_ch4)),
+            ("savanna_co ", Above(self.savanna_co)),
+            ("savanna_n2o ", Above(self.savanna_n2o)),
+            ("savanna_nox ", Above(self.savanna_nox)),
         ]
     }
 
-    /// One line for each figure, in the paper's order; "requested figures print
-    /// after 01's lines".
-    pub fn print(&self, text: &mut Text) {
-        text.line("E ", self.e);
-        text.line("K ", self.k);
-        text.line("L ", self.l);
-        text.signed_line("M ", self.m);
-        text.signed_line("O ", self.o);
-        text.signed_line("P ", self.p);
-        text.signed_line("Q ", self.q);
-        text.signed_line("report ", self.report());
-        text.wide_line("onsite ", self.onsite);
-        text.wide_line("offsite ", self.offsite);
-        text.wide_line("R ", self.r());
-        text.wide_line("decay ", self.decay);
-        text.line("co2 ", self.co2);
-        text.line("ch4 ", self.ch4);
-        text.line("co ", self.co);
-        text.line("n2o ", self.n2o);
-        text.line("nox ", self.nox);
-        text.line("uptake ", self.uptake);
-        text.line("uptake_co2 ", self.uptake_co2);
-        text.line("thinner ", self.thinner);
-        text.wide_line("savanna_carbon ", self.savanna_carbon);
-        text.line("savanna_ch4 ", self.savanna_ch4);
-        text.line("savanna_co ", self.savanna_co);
-        text.line("savanna_n2o ", self.savanna_n2o);
-        text.line("savanna_nox ", self.savanna_nox);
+    /// Three numbers for each figure, in the order of the lines: 1 below zero
+    /// and else 0, then the upper and the lower 64 bits of its size.
+    pub fn numbers(&self) -> [[u64; 3]; FIGURES] {
+        self.figures().map(|(_, figure)| match figure {
+            Figure::Above(value) => [0, 0, value],
+            Figure::Signed(value) => [u64::from(value < 0), 0, value.unsigned_abs()],
+            Figure::Wide(value) => [0, (value >> 64) as u64, value as u64],
+        })
     }
+
+    /// One line for each figure.
+    pub fn print(&self, text: &mut Text) {
+        for (name, figure) in self.figures() {
+            match figure {
+                Figure::Above(value) => text.line(name, value),
+                Figure::Signed(value) => text.signed_line(name, value),
+                Figure::Wide(value) => text.wide_line(name, value),
+            }
+        }
+    }
+}
+
+/// A figure as it is printed: never below zero, perhaps below zero, or beyond one word.
+enum Figure {
+    Above(u64),
+    Signed(i64),
+    Wide(u128),
 }
 
 /// Amount x rate x carbon fraction of a stock record. The unit code changes

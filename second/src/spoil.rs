@@ -1,5 +1,6 @@
 //! Rows that are bad in one chosen way: numbers 5 to 7 of the paper.
 
+use crate::kinds::Field;
 use crate::make::{fields, Rows, FIRST_WITH_IDS, SUMMED, WITH_IDS};
 use crate::rng::Rng;
 
@@ -88,11 +89,41 @@ pub fn above(rng: &mut Rng, width: usize, limit: u32, way: Above) -> u32 {
     }
 }
 
+/// How many values are tried in a field of rows for the writer.
+pub const VALUES: usize = 20;
+
+/// A value to try in a field of this limit: good ones, one above, and some that
+/// would be good again were the field's width all that is looked at.
+pub fn value(which: usize, limit: u32, rng: &mut Rng) -> u32 {
+    match which {
+        0 => 0,
+        1 => 1,
+        2 => limit - 1,
+        3 => limit,
+        4 => limit + 1,
+        5 => 255,
+        6 => 256,
+        7 => 257,
+        8 => 65_535,
+        9 => 65_536,
+        10 => 65_537,
+        11 => 65_536 + limit,
+        12 => 256 + limit,
+        13 => 1 << 24,
+        14 => (1 << 31) - 1,
+        15 => 1 << 31,
+        16 => (1 << 31) + limit,
+        17 => u32::MAX,
+        18 => u32::MAX - limit,
+        _ => rng.from_to(limit + 1, u32::MAX),
+    }
+}
+
 /// Breaks number 6 at one field, counted in row order.
 pub fn spoil_limit(rng: &mut Rng, rows: &mut Rows, at: (u8, usize, usize), way: Above) {
     let (kind, row, field) = at;
-    let (width, limit) = fields(kind).nth(field).expect("a field of this kind");
-    rows.row(kind, row)[field] = above(rng, width, limit, way);
+    let Field { bytes, most, .. } = fields(kind)[field];
+    rows.row(kind, row)[field] = above(rng, bytes, most, way);
 }
 
 /// Breaks number 7 and nothing else: every fraction keeps its limit.
@@ -126,9 +157,14 @@ pub fn any_limited(rng: &mut Rng, rows: &Rows) -> (u8, usize, usize) {
         1 => 4,
         _ => any_with_ids(rng, rows),
     };
-    let first = usize::from(kind != 4);
-    let field = first + rng.below(fields(kind).count() - first);
-    (kind, rng.below(rows.len(kind)), field)
+    (kind, rng.below(rows.len(kind)), any_limited_of(rng, kind))
+}
+
+/// Any field of a kind whose bytes hold more than its limit.
+pub fn any_limited_of(rng: &mut Rng, kind: u8) -> usize {
+    let fields = fields(kind).iter().enumerate();
+    let limited = fields.filter(|(_, field)| field.can_exceed());
+    rng.pick(&limited.map(|(at, _)| at).collect::<Vec<_>>())
 }
 
 /// Breaks one of the numbers 5 to 7 at a random place. The rows must hold two

@@ -1,23 +1,17 @@
 //! Inputs made one after the other, each place and each value in its turn.
 //! Only what a sweep doesn't name is left to the generator.
 
+use crate::case::Case;
 use crate::damage::{block, block_count};
+use crate::families::Families;
 use crate::make::{drawn_counts, fields, later, limited, place_of, repair_checks, seal};
-use crate::make::{zero_areas, RowCounts, Rows, BLOCK, CHECK_AT};
+use crate::make::{zero_areas, RowCounts, Rows, BLOCK, CHECK_AT, FIRST_WITH_IDS};
 use crate::make::{LIMITED, MOST_BLOCKS, MOST_ROWS, SUMMED, WITH_IDS};
 use crate::order_sweeps::{crowds, editions, orders, CROWDS, EDITIONS, ORDERS};
 use crate::rng::Rng;
 use crate::spoil::{spoil_id, spoil_limit, ABOVES, BAD_IDS};
 
-/// An input and a short word on how it was made.
-pub struct Case {
-    pub how: String,
-    pub bytes: Vec<u8>,
-}
-
-type Family = (usize, fn(usize, &mut Rng) -> Case);
-
-/// Some more than sixteen blocks have.
+/// Some more than the most blocks have.
 const LENGTHS: usize = BLOCK * MOST_BLOCKS + 81;
 const FILLINGS: usize = 5;
 /// The kinds with ids with counts 1 to 12, and the parameters.
@@ -30,7 +24,7 @@ const CROWD_TRIES: usize = 8;
 /// Ways above a limit, and at the limit.
 const WAYS: usize = ABOVES.len() + 1;
 
-const FAMILIES: [Family; 11] = [
+static FAMILIES: Families<Case> = Families(&[
     (LENGTHS * FILLINGS, lengths),
     (FORMS * CHECK_AT, every_byte),
     (FORMS * AREAS * 2, zero_ends),
@@ -42,32 +36,31 @@ const FAMILIES: [Family; 11] = [
     (2 * ORDERS, orders),
     (EDITIONS, editions),
     (2 * CROWDS * CROWD_TRIES, crowds),
-];
+]);
 
 /// How many inputs the sweeps have together.
 pub fn size() -> usize {
-    FAMILIES.iter().map(|(size, _)| size).sum()
+    FAMILIES.size()
 }
 
 /// The `index`-th input of the sweeps.
-pub fn case(mut index: usize, rng: &mut Rng) -> Case {
-    for (size, make) in FAMILIES {
-        if index < size {
-            return make(index, rng);
-        }
-        index -= size;
-    }
-    panic!("the sweeps have {} inputs", size())
+pub fn case(index: usize, rng: &mut Rng) -> Case {
+    FAMILIES.case(index, rng)
 }
 
-/// All blocks of edition 1, with none, one or both of the kinds of edition 2.
+/// All blocks of edition 1, with none, some or all of the kinds of edition 2.
 fn full(rng: &mut Rng) -> Vec<u8> {
-    let [abandoned, savanna] = rng.pick(&[[0, 0], [32, 0], [0, 32], [32, 32], [32, 32]]);
-    let counts = [32, 32, 32, abandoned, savanna];
+    let mut counts = [MOST_ROWS; WITH_IDS.len()];
+    let second = &mut counts[FIRST_WITH_IDS..];
+    match rng.below(5) {
+        0 => second.fill(0),
+        1 | 2 => second.fill_with(|| rng.pick(&[0, MOST_ROWS])),
+        _ => {}
+    }
     Rows::good_in(rng, 1 + u16::from(later(&counts)), counts).to_bytes()
 }
 
-/// Every length from 0 to some more than sixteen blocks.
+/// Every length from 0 to some more than the most blocks.
 fn lengths(index: usize, rng: &mut Rng) -> Case {
     let length = index / FILLINGS;
     let (how, bytes) = match index % FILLINGS {
@@ -86,7 +79,7 @@ fn lengths(index: usize, rng: &mut Rng) -> Case {
             // As many whole good blocks as fit, one of them parameters.
             let blocks = (length / BLOCK).min(MOST_BLOCKS);
             let rows = blocks.saturating_sub(1) * 12;
-            let counts = [0, 36, 72, 108, 144].map(|before| rows.saturating_sub(before).min(32));
+            let counts = std::array::from_fn(|nth| rows.saturating_sub(36 * nth).min(32));
             let mut bytes = Rows::good_in_either(rng, counts).to_bytes();
             let kept = bytes.len().min(length);
             bytes.resize(length, 0);
@@ -211,7 +204,7 @@ fn limits(index: usize, rng: &mut Rng) -> Case {
         counts[place] = MOST_ROWS;
     }
     let mut rows = Rows::good_in_either(rng, counts);
-    if way < ABOVES.len() {
+    if way < ABOVES.len() && fields(kind)[field].can_exceed() {
         spoil_limit(rng, &mut rows, (kind, row, field), ABOVES[way]);
     } else {
         at_limit(&mut rows, kind, row, field);
@@ -225,7 +218,7 @@ fn limits(index: usize, rng: &mut Rng) -> Case {
 
 /// Sets a field to its limit and keeps the row good.
 fn at_limit(rows: &mut Rows, kind: u8, row: usize, field: usize) {
-    let (_, limit) = fields(kind).nth(field).expect("a field of this kind");
+    let limit = fields(kind)[field].most;
     let row = rows.row(kind, row);
     if kind == 1 && SUMMED.contains(&field) {
         SUMMED.into_iter().for_each(|summed| row[summed] = 0);
@@ -266,7 +259,8 @@ mod tests {
     fn limits_are_met_and_broken() {
         for index in 0..MOST_ROWS * LIMITED * WAYS {
             let verdict = judge(&limits(index, &mut Rng::for_input(2, index as u64)).bytes);
-            if index % WAYS == ABOVES.len() {
+            let (kind, field) = limited(index / WAYS / MOST_ROWS);
+            if index % WAYS == ABOVES.len() || !fields(kind)[field].can_exceed() {
                 assert!(
                     matches!(verdict, Verdict::Accepted(_)),
                     "{index}: {verdict:?}"

@@ -3,10 +3,12 @@
 
 use crate::judge::Refusal;
 
-/// What is always enough for C: 50 bytes for each of 25 lines.
-pub const LINES_ROOM: usize = 1_250;
-/// 25 lines of at most 15 + 24 + 1 bytes come to 1,000.
-const MOST: usize = 1_000;
+/// The figures of `sheets`, a line each.
+pub const FIGURES: usize = 25;
+/// What is always enough for C: 50 bytes for each line.
+pub const LINES_ROOM: usize = 50 * FIGURES;
+/// A line has at most 15 + 24 + 1 bytes.
+const MOST: usize = 40 * FIGURES;
 
 pub struct Text {
     bytes: [u8; MOST],

@@ -1,9 +1,9 @@
 //! Good returns made for the sake of their heaviest rows: ties and near ties,
 //! subtotals of zero, and parts that doubles can't tell apart.
 
-use crate::make::{Rows, AFTER, BEFORE, MOST_ROWS, SUMMED, WITH_IDS};
+use crate::case::Case;
+use crate::make::{Rows, AFTER, BEFORE, FIRST_WITH_IDS, MOST_ROWS, SUMMED, WITH_IDS};
 use crate::rng::Rng;
-use crate::sweep::Case;
 
 /// What a row's part of a subtotal is the product of: area, difference, fraction,
 /// oxidised (for decay always 1,000) and carbon fraction.
@@ -60,7 +60,7 @@ pub fn case(rng: &mut Rng) -> Case {
     let mut counts = [0; WITH_IDS.len()].map(|_| rng.pick(&[0, 0, 1, 13]));
     counts[0] = conversion;
     if rng.one_in(2) {
-        counts[3..].fill(0);
+        counts[FIRST_WITH_IDS..].fill(0);
     }
     let mut rows = Rows::good_in_either(rng, counts);
     let first = rng.below(3);

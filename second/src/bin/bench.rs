@@ -15,7 +15,7 @@ compile_error!(
 mod run {
     use second::ffi::judge::first_judge;
     use second::judge::judge;
-    use second::kinds::COUNTS_ROOM;
+    use second::kinds::{COUNTS_ROOM, KINDS};
     use second::lent::Lent;
     use second::make::{later, RowCounts, Rows, FIRST_FULL, MOST_BLOCKS, WITH_IDS};
     use second::rng::Rng;
@@ -47,9 +47,10 @@ mod run {
             let rows: Vec<Rows> = rows.collect();
             let returns: Vec<Box<[u8]>> = rows.iter().map(|r| r.to_bytes().into()).collect();
             let blocks = returns[0].len() / 512;
-            let [c, s, h, a, v] = counts;
+            let rows_of = |kind| rows[0].len(kind).to_string();
+            let kinds: Vec<String> = (1..=KINDS.len() as u8).map(rows_of).collect();
             Load {
-                name: format!("{blocks:>2}, {c}+{s}+{h}+1+{a}+{v}"),
+                name: format!("{blocks:>2}, {}", kinds.join("+")),
                 rounds,
                 #[cfg(feature = "rows")]
                 rows,
@@ -58,17 +59,22 @@ mod run {
             }
         }
 
+        fn with(mut self, rounds: usize) -> Self {
+            self.rounds = rounds;
+            self
+        }
+
         /// A return of so many blocks, each kind's filled before the next.
         fn of_blocks(rng: &mut Rng, blocks: usize) -> Self {
             let rows = |kind: usize| (12 * (blocks - 1).saturating_sub(3 * kind)).min(32);
-            Load::new(rng, [0, 1, 2, 3, 4].map(rows), FEWER)
+            Load::new(rng, std::array::from_fn(rows), FEWER)
         }
     }
 
     pub fn main() {
         let mut rng = Rng::new(7);
         let mut loads = vec![
-            Load::new(&mut rng, [32, 32, 32, 0, 0], ROUNDS),
+            Load::of_blocks(&mut rng, FIRST_FULL).with(ROUNDS),
             Load::new(&mut rng, [0; WITH_IDS.len()], ROUNDS),
             Load::new(&mut rng, [32; WITH_IDS.len()], ROUNDS),
         ];
@@ -283,8 +289,8 @@ mod run {
         use super::*;
         use second::ffi::rows::{first_read, first_write};
         use second::kinds::{RETURN_ROOM, ROWS_ROOM};
+        use second::lists::RowLists;
         use second::reader::read;
-        use second::rowlists::RowLists;
 
         pub fn bench(load: &Load) {
             let [mut a, mut b] = [[0; ROWS_ROOM]; 2];

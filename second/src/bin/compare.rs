@@ -10,19 +10,20 @@ compile_error!(
 
 #[cfg(not(door_missing))]
 mod run {
+    use second::case::Case;
+    use second::coverage::{Coverage, Due};
     use second::drive::{exit, first_of, memory_difference, run, Arguments, Outcome, Plan};
     use second::ffi::judge::first_judge;
     use second::inputs;
-    use second::judge::{judge, Verdict};
     use second::kinds::COUNTS_ROOM;
     use second::lent::Lent;
+    use second::reader::count;
     use second::rng::Rng;
-    use second::sweep::Case;
     use std::process::ExitCode;
 
     /// The room in our memory; at most `MOST_LENT` of it is lent.
-    const ROOM: usize = 16;
-    const MOST_LENT: usize = 12;
+    const ROOM: usize = MOST_LENT + 4;
+    const MOST_LENT: usize = COUNTS_ROOM + 5;
 
     pub fn main() -> ExitCode {
         let Some(arguments) = Arguments::from_command("compare") else {
@@ -35,15 +36,18 @@ mod run {
             often: &[0, 1, 2, 3, 4, 5, 6, 7, 9],
             sorts: 100,
         };
-        let mut calls = 0;
-        let good = run(&plan, arguments, inputs::plain, |case, rng| {
-            try_one(case, rng, &mut calls)
+        let mut coverage = Coverage::default();
+        let calls = coverage.add(
+            Due::Told,
+            ["calls", "calls with the input at an odd address"],
+        );
+        let ran = run(&plan, arguments, inputs::plain, |case, rng| {
+            try_one(case, rng, |nth| coverage.count(calls, nth))
         });
-        println!("{calls} calls, some with the input at an odd address");
-        exit(good)
+        exit(ran.with(&coverage).good())
     }
 
-    fn try_one(case: &Case, rng: &mut Rng, calls: &mut usize) -> Outcome {
+    fn try_one(case: &Case, rng: &mut Rng, mut called: impl FnMut(usize)) -> Outcome {
         let mut before = [0u32; ROOM];
         before.fill_with(|| rng.word());
         let lent = rng.below(MOST_LENT + 1);
@@ -51,21 +55,15 @@ mod run {
         // "Lent room too short" is tried last; a refusal leaves the room as it
         // was, and acceptance writes the edition and the counts at its front.
         let mut room_due = before;
-        let expected = match judge(&case.bytes) {
-            Verdict::Refused(refusal) => refusal.answer(),
-            Verdict::Accepted(_) if lent < COUNTS_ROOM => 9000,
-            Verdict::Accepted(counts) => {
-                room_due[..COUNTS_ROOM].copy_from_slice(&counts.numbers());
-                0
-            }
-        };
+        let expected = count(&case.bytes, &mut room_due[..lent]);
 
-        *calls += 1;
+        called(0);
         let exact: Box<[u8]> = case.bytes.as_slice().into();
         let mut difference = ask(&exact, 0, case, (before, lent), (expected, room_due));
         // Now and then also at an odd address, the end still the allocation's.
         if difference.is_none() && rng.one_in(8) {
-            *calls += 1;
+            called(0);
+            called(1);
             let shift = 1 + rng.below(7);
             let mut shifted = vec![0xA5; shift];
             shifted.extend_from_slice(&case.bytes);

@@ -12,6 +12,8 @@ compile_error!(
 #[cfg(not(door_missing))]
 mod run {
     use second::bound::holds;
+    use second::case::Case;
+    use second::coverage::{Coverage, Due};
     use second::doubles::subtotal;
     use second::drive::{exit, first_of, memory_difference, run, Arguments, Outcome, Plan};
     use second::ffi::doubles::first_subtotal;
@@ -20,7 +22,6 @@ mod run {
     use second::lent::{Lent, Placed};
     use second::rng::Rng;
     use second::sheets::Worksheets;
-    use second::sweep::Case;
     use std::process::ExitCode;
 
     const GUARD: usize = 8;
@@ -39,29 +40,29 @@ mod run {
             often: &[0, 1, 2, 3, 4, 5, 6, 7, 9, 11],
             sorts: 100,
         };
-        let mut tally = Tally { calls: 0, held: 0 };
-        let good = run(&plan, arguments, inputs::with_figures, |case, rng| {
-            try_one(case, rng, &mut tally)
+        let mut coverage = Coverage::default();
+        let tried = [
+            "calls",
+            "doubles of accepted inputs that demand 3 was tried on",
+        ];
+        let tried = coverage.add(Due::Told, tried);
+        let ran = run(&plan, arguments, inputs::with_figures, |case, rng| {
+            try_one(case, rng, |nth| coverage.count(tried, nth))
         });
-        println!(
-            "{} calls; demand 3 tried on {} doubles of accepted inputs",
-            tally.calls, tally.held
-        );
-        exit(good)
+        exit(ran.with(&coverage).good())
     }
 
-    struct Tally {
-        calls: usize,
-        held: usize,
-    }
+    /// What is counted.
+    const CALL: usize = 0;
+    const HELD: usize = 1;
 
-    fn try_one(case: &Case, rng: &mut Rng, tally: &mut Tally) -> Outcome {
+    fn try_one(case: &Case, rng: &mut Rng, mut tried: impl FnMut(usize)) -> Outcome {
         let mut before = [0; MEMORY];
         rng.fill(&mut before);
         let placed = Placed::new(&case.bytes, rng);
         let bytes = placed.bytes();
         let mut ask = |code, lent| {
-            tally.calls += 1;
+            tried(CALL);
             ask(bytes, case, before, (code, lent))
         };
 
@@ -81,7 +82,7 @@ mod run {
         // The room may be exact or longer.
         let longer = 8 + rng.below(MOST_LENT - 7);
         let others = [0, 1, 2].map(|code| ask(code, if code == 1 { 8 } else { longer }).1);
-        let bound = demand_3(bytes, tally);
+        let bound = demand_3(bytes, tried);
         Outcome {
             answer,
             difference: first_of([drawn].into_iter().chain(others).chain([bound])),
@@ -110,7 +111,7 @@ mod run {
     }
 
     /// Demand 3 on the first program's own doubles.
-    fn demand_3(bytes: &[u8], tally: &mut Tally) -> Option<String> {
+    fn demand_3(bytes: &[u8], mut tried: impl FnMut(usize)) -> Option<String> {
         let checked = check(bytes).ok()?;
         let figures = Worksheets::of(checked);
         let exact = [figures.onsite, figures.offsite, figures.decay];
@@ -118,7 +119,7 @@ mod run {
             let mut room = [0; 8];
             let answer = first_subtotal(bytes, code, Lent::whole(&mut room));
             let double = f64::from_le_bytes(room);
-            tally.held += 1;
+            tried(HELD);
             if answer != 0 || !holds(double, exact, checked.counts.rows[0]) {
                 return Some(format!(
                     "demand 3, code {code}: {double:?} for {exact}, answer {answer}"

@@ -16,6 +16,8 @@ compile_error!(
 
 #[cfg(not(door_missing))]
 mod run {
+    use second::case::Case;
+    use second::coverage::{Counters, Coverage, Due};
     use second::drive::{exit, first_of, memory_difference, run, Arguments, Outcome, Plan};
     use second::explain::{text, EXPLAIN_ROOM};
     use second::ffi::explain::{first_explain, first_heaviest};
@@ -25,7 +27,6 @@ mod run {
     use second::lent::{Lent, Placed};
     use second::reasons::Reasons;
     use second::rng::Rng;
-    use second::sweep::Case;
     use second::text::Text;
     use std::process::ExitCode;
 
@@ -39,15 +40,28 @@ mod run {
     /// rarest.
     const LEAST: usize = 100;
 
-    /// What was tried.
-    #[derive(Default)]
+    /// What is counted of the calls.
     struct Tally {
-        texts: usize,
-        rows: usize,
-        /// Calls for a row that were refused with 11, and with 9.
-        unknown: usize,
-        short: usize,
+        coverage: Coverage,
+        texts: Counters,
+        /// Calls for a row, refused with 11, and with 9.
+        rows: Counters,
+        refused: Counters,
         reasons: Reasons,
+    }
+
+    impl Tally {
+        fn new() -> Self {
+            let (mut coverage, due) = (Coverage::default(), Due::Times(LEAST));
+            let refused = ["11", "9"].map(|number| format!("heaviest rows refused {number}"));
+            Tally {
+                reasons: Reasons::new(due, &mut coverage),
+                texts: coverage.add(Due::Told, ["texts"]),
+                rows: coverage.add(Due::Told, ["heaviest rows asked for"]),
+                refused: coverage.add(due, refused),
+                coverage,
+            }
+        }
     }
 
     pub fn main() -> ExitCode {
@@ -61,29 +75,18 @@ mod run {
             often: &[0, 1, 2, 3, 4, 5, 6, 7],
             sorts: 100,
         };
-        let mut tally = Tally::default();
-        let mut accepted = 0;
-        let good = run(&plan, arguments, inputs::explained, |case, rng| {
-            let outcome = try_one(case, rng, &mut tally);
-            accepted += usize::from(outcome.answer == 0);
-            outcome
+        let mut tally = Tally::new();
+        let ran = run(&plan, arguments, inputs::explained, |case, rng| {
+            try_one(case, rng, &mut tally)
         });
-        tally.reasons.print();
-        println!(
-            "{} texts, with rooms exact and short by one, empty or of any length",
-            tally.texts
-        );
-        let [rows, unknown, short] = [tally.rows, tally.unknown, tally.short];
-        println!("{rows} heaviest rows asked for, refused 11: {unknown}, refused 9: {short}");
-        let due = arguments.counts_due(accepted);
-        let enough = || unknown.min(short) >= LEAST && tally.reasons.reach(LEAST);
-        exit(good & (!due || enough()))
+        exit(ran.with(&tally.coverage).good())
     }
 
     fn try_one(case: &Case, rng: &mut Rng, tally: &mut Tally) -> Outcome {
         let answer = judge(&case.bytes).answer();
         let due = text(&case.bytes);
-        tally.reasons.note(&case.bytes, due.as_bytes());
+        let reasons = &tally.reasons;
+        reasons.note(&case.bytes, due.as_bytes(), &mut tally.coverage);
         let placed = Placed::new(&case.bytes, rng);
         let bytes = placed.bytes();
 
@@ -97,7 +100,7 @@ mod run {
         let mut before = [0u8; MEMORY];
         rng.fill(&mut before);
         let texts = first_of([length, other].map(|lent| {
-            tally.texts += 1;
+            tally.coverage.count(tally.texts, 0);
             ask_text(bytes, case, &due, (before, lent))
         }));
 
@@ -159,9 +162,10 @@ mod run {
         before.iter_mut().for_each(|number| *number = rng.draw());
         let (mut room, mut room_due) = (before, before);
         let expected = heaviest(bytes, code, &mut room_due[..lent]);
-        tally.rows += 1;
-        tally.unknown += usize::from(expected == 11_000);
-        tally.short += usize::from(expected == 9000);
+        tally.coverage.count(tally.rows, 0);
+        if let Some(nth) = [11_000, 9000].iter().position(|&due| due == expected) {
+            tally.coverage.count(tally.refused, nth);
+        }
         let answer = first_heaviest(bytes, code, Lent::front(&mut room, lent));
         let difference = first_of([
             (answer != expected).then(|| format!("answer {answer}, due {expected}")),

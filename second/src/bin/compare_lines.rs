@@ -3,7 +3,7 @@
 //!
 //! `compare_lines [SEED [INPUTS]]`. Every input is asked for with a room of the
 //! text's length and with one other, drawn: one shorter, none at all, one near
-//! the length or one of any length; and for its numbers with a room of 75 and
+//! the length or one of any length; and for its numbers with an exact room and
 //! one other, one shorter or longer, none or of any length. All of our memory
 //! is looked at afterwards, the guard behind the room included. The sorts of
 //! rooms and the exact halves among the figures are counted, and enough of each
@@ -16,6 +16,8 @@ compile_error!(
 
 #[cfg(not(door_missing))]
 mod run {
+    use second::case::Case;
+    use second::coverage::{Coverage, Due};
     use second::drive::{exit, first_of, memory_difference, run, Arguments, Outcome, Plan};
     use second::ffi::lines::{first_figures, first_lines};
     use second::halves::Halves;
@@ -24,7 +26,6 @@ mod run {
     use second::lent::{Lent, Placed};
     use second::rng::Rng;
     use second::sheets::{figures, lines, NUMBERS};
-    use second::sweep::Case;
     use second::text::LINES_ROOM;
     use std::process::ExitCode;
 
@@ -36,9 +37,9 @@ mod run {
     const NUMBER_MEMORY: usize = MOST_NUMBERS + GUARD;
     /// Of each figure and each way; the usual run has some 2,000.
     const LEAST_HALVES: usize = 100;
-    /// The other rooms for the text, and how many of each are due; the usual run has some 94,000.
+    /// The other rooms for the text, and in how many of a thousand inputs each is due; the usual run has 250.
     const OTHER_ROOMS: [&str; 4] = ["short by one", "empty", "near the length", "of any length"];
-    const LEAST_ROOMS: usize = 60_000;
+    const LEAST_ROOMS: usize = 160;
 
     pub fn main() -> ExitCode {
         let Some(arguments) = Arguments::from_command("compare_lines") else {
@@ -51,54 +52,41 @@ mod run {
             often: &[0, 1, 2, 3, 4, 5, 6, 7],
             sorts: 100,
         };
-        let mut calls = 0;
-        let mut rooms = [0; OTHER_ROOMS.len()];
-        let mut halves = Halves::default();
-        let good = run(&plan, arguments, inputs::with_figures, |case, rng| {
-            let outcome = try_one(case, rng, &mut calls, &mut rooms);
+        let mut coverage = Coverage::default();
+        let calls = coverage.add(Due::Told, ["calls, lines and figures"]);
+        let rooms = OTHER_ROOMS.map(|sort| format!("texts to a room {sort}"));
+        let rooms = coverage.add(Due::Thousandths(LEAST_ROOMS), rooms);
+        let halves = Halves::new(Due::Times(LEAST_HALVES), &mut coverage);
+        let ran = run(&plan, arguments, inputs::with_figures, |case, rng| {
+            let sort = rng.below(OTHER_ROOMS.len());
+            coverage.count(rooms, sort);
+            let outcome = try_one(case, rng, sort, || coverage.count(calls, 0));
             if outcome.difference.is_none() {
-                halves.note(&case.bytes);
+                halves.note(&case.bytes, &mut coverage);
             }
             outcome
         });
-        println!("{calls} calls, lines and figures, each with an exact room and one other");
-        for (sort, times) in OTHER_ROOMS.iter().zip(rooms) {
-            println!("{times:>9} texts to a room {sort}");
-        }
-        halves.print();
-        let due = arguments.counts_due(halves.accepted());
-        let tried = arguments.inputs.is_some() || rooms.iter().all(|&times| times >= LEAST_ROOMS);
-        if !tried {
-            eprintln!("fewer than {LEAST_ROOMS} of some sort of room");
-        }
-        exit(good & tried & (!due || halves.reach(LEAST_HALVES)))
+        exit(ran.with(&coverage).good())
     }
 
-    fn try_one(
-        case: &Case,
-        rng: &mut Rng,
-        calls: &mut usize,
-        tried: &mut [usize; OTHER_ROOMS.len()],
-    ) -> Outcome {
+    /// The sort of the other room is drawn, and not by the input's number: one input in four is of the sweeps.
+    fn try_one(case: &Case, rng: &mut Rng, sort: usize, mut called: impl FnMut()) -> Outcome {
         let mut before = [0u8; MEMORY];
         rng.fill(&mut before);
         // The text, from a room that is long enough: what is due of an exact one too.
         let mut text = before;
         let length = lines(&case.bytes, &mut text[..MOST_LENT]);
         let near = (length + rng.below(9)).saturating_sub(4);
-        // Drawn, and not by the input's number: one input in four is of the sweeps.
-        let sort = rng.below(OTHER_ROOMS.len());
         let other = [length - 1, 0, near, rng.below(MOST_LENT + 1)][sort];
-        tried[sort] += 1;
         let placed = Placed::new(&case.bytes, rng);
         let mut short = before;
         let answer = lines(&case.bytes, &mut short[..other]);
         let rooms = [(length, length, &text), (other, answer, &short)];
         let difference = first_of(rooms.map(|(lent, expected, due)| {
-            *calls += 1;
+            called();
             ask(placed.bytes(), case, before, (lent, expected, due))
         }))
-        .or_else(|| ask_figures(placed.bytes(), case, rng, calls));
+        .or_else(|| ask_figures(placed.bytes(), case, rng, &mut called));
         Outcome {
             answer: judge(&case.bytes).answer(),
             difference,
@@ -106,11 +94,16 @@ mod run {
     }
 
     /// The figures as numbers, in a room long enough and in one that may not be.
-    fn ask_figures(bytes: &[u8], case: &Case, rng: &mut Rng, calls: &mut usize) -> Option<String> {
+    fn ask_figures(
+        bytes: &[u8],
+        case: &Case,
+        rng: &mut Rng,
+        mut called: impl FnMut(),
+    ) -> Option<String> {
         let other = rng.below(MOST_NUMBERS + 1);
         let lent = rng.pick(&[NUMBERS - 1, NUMBERS + 1, 0, other]);
         first_of([NUMBERS, lent].map(|lent| {
-            *calls += 1;
+            called();
             let mut before = [0u64; NUMBER_MEMORY];
             before.iter_mut().for_each(|number| *number = rng.draw());
             let (mut due, mut room) = (before, before);

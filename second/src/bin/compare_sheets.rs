@@ -6,15 +6,17 @@
 //! NILOFERQ_RUNNER, whose words are split at spaces. Some inputs are sent in
 //! pieces. The exact halves among the figures are counted, and each is due.
 
+use second::case::Case;
+use second::coverage::{Coverage, Due};
 use second::drive::{exit, memory_difference, run, Arguments, Outcome, Plan};
 use second::explain::text as explain_text;
 use second::halves::Halves;
 use second::inputs;
 use second::judge::judge;
+use second::kinds::RETURN_ROOM;
 use second::make::{Rows, WITH_IDS};
 use second::rng::Rng;
 use second::sheets::text as sheets_text;
-use second::sweep::Case;
 use second::text::Text;
 use second::{mix, request};
 use std::ffi::OsString;
@@ -22,15 +24,15 @@ use std::io::{ErrorKind, Read, Write};
 use std::process::{ChildStdin, Command, ExitCode, Stdio};
 use std::time::Duration;
 
-/// "`sheets` takes one byte beyond the longest", which is 16 blocks, and so does
-/// `explain`.
-const TAKEN: usize = 8_193;
+/// "`sheets` takes one byte beyond the longest", and so does `explain`.
+const TAKEN: usize = RETURN_ROOM + 1;
 const INPUTS: usize = 2_000;
 /// For `explain`, whose text is compared on many more without the program.
 const EXPLAINED: usize = 500;
+#[rustfmt::skip]
 const LENGTHS: [usize; 21] = [
-    0, 1, 2, 511, 512, 513, 1_024, 5_119, 5_120, 5_121, 5_632, 6_656, 6_657, 7_168, 8_191, 8_192,
-    8_193, 8_194, 8_704, 9_000, 20_480,
+    0, 1, 2, 511, 512, 513, 1_024, 5_119, 5_120, 5_121, 5_632, 6_656, 6_657, 7_168, 20_480,
+    TAKEN - 2, TAKEN - 1, TAKEN, TAKEN + 1, TAKEN + 511, TAKEN + 807,
 ];
 const FILLINGS: usize = 5;
 
@@ -48,16 +50,16 @@ fn main() -> ExitCode {
         often: &[0, 1, 2, 3, 4, 5, 6, 7],
         sorts: 10,
     };
-    let mut halves = Halves::default();
-    let mut good = run(&plan, arguments, make, |case, rng| {
+    let mut coverage = Coverage::default();
+    let halves = Halves::new(Due::Times(1), &mut coverage);
+    let ran = run(&plan, arguments, make, |case, rng| {
         let outcome = try_one(sheets.command(), case, rng, sheets_text);
         if outcome.difference.is_none() {
-            halves.note(&case.bytes);
+            halves.note(&case.bytes, &mut coverage);
         }
         outcome
     });
-    halves.print();
-    good &= arguments.inputs.is_some() || halves.reach(1);
+    let good = ran.with(&coverage).good();
 
     let plan = Plan {
         name: "explain",
@@ -70,7 +72,7 @@ fn main() -> ExitCode {
     let explained = run(&plan, arguments, make_explained, |case, rng| {
         try_one(explain.command(), case, rng, explain_text)
     });
-    exit(good & explained)
+    exit(good & explained.good())
 }
 
 /// A program of the first, and what it is started with.

@@ -1,6 +1,7 @@
 //! Numbers 1 to 3: lengths, checks and headers.
 
 use super::{block, block_count, edition, has_later_kinds};
+use crate::kinds::KINDS;
 use crate::make::{last_kind, renumber, repair_checks, BLOCK, CHECK_AT, MOST_BLOCKS};
 use crate::rng::Rng;
 use std::ops::Range;
@@ -79,7 +80,12 @@ pub(super) fn break_header(rng: &mut Rng, bytes: &mut [u8]) -> String {
     let block = block(bytes, b);
     let at = rng.pick(&[0, 0, 2, 3, 4, 5]);
     block[at] = match at {
-        0 => rng.pick(&[0, last + 1, last + 2, 128, 255]),
+        // In edition 1 each later kind too.
+        0 => match rng.below(4) {
+            0 => rng.pick(&[0, 128, 255]),
+            1 => last + 1,
+            _ => last + 1 + rng.below(KINDS.len() + 2 - usize::from(last)) as u8,
+        },
         _ => match rng.below(3) {
             0 => block[at].wrapping_add(1),
             1 => block[at].wrapping_sub(1),

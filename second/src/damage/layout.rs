@@ -22,13 +22,13 @@ fn break_zero(rng: &mut Rng, bytes: &mut [u8]) -> String {
 /// Breaks number 4 in one of its ways; a way that this return has no room for
 /// becomes a non-zero byte where zero is due.
 pub(super) fn break_layout(rng: &mut Rng, bytes: &mut Vec<u8>) -> String {
-    let done = match rng.below(14) {
+    let done = match rng.below(15) {
         0 => swap_blocks(rng, bytes),
         1 => double_block(rng, bytes),
         2 => drop_parameters(rng, bytes),
         3 => after_parameters(rng, bytes),
         4 => shorten_full_block(rng, bytes),
-        5 | 12 => overfull_third(rng, bytes),
+        5 | 13 => overfull_third(rng, bytes),
         6 => empty_block(rng, bytes),
         7 => {
             let b = rng.below(block_count(bytes));
@@ -45,7 +45,8 @@ pub(super) fn break_layout(rng: &mut Rng, bytes: &mut Vec<u8>) -> String {
         }),
         9 => parameters_later(rng, bytes),
         10 => crowd_first_edition(rng, bytes),
-        11 => savannas_first(bytes),
+        11 => later_first(rng, bytes),
+        12 => later_count(rng, bytes),
         _ => None,
     };
     match done {
@@ -133,17 +134,30 @@ fn parameters_later(rng: &mut Rng, bytes: &mut [u8]) -> Option<String> {
     Some(format!("the parameters {by} blocks later"))
 }
 
-/// The blocks of savannas before those of abandoned land.
-fn savannas_first(bytes: &mut [u8]) -> Option<String> {
+/// The blocks of a kind above 4 before those of a lower one.
+fn later_first(rng: &mut Rng, bytes: &mut [u8]) -> Option<String> {
     let kinds: Vec<u8> = bytes.iter().step_by(BLOCK).copied().collect();
+    let mut later: Vec<u8> = kinds.iter().copied().filter(|&kind| kind > 4).collect();
+    later.dedup();
     // An earlier damage may have left them in another order.
-    if !kinds.is_sorted() || [5, 6].iter().any(|kind| !kinds.contains(kind)) {
+    if !kinds.is_sorted() || later.len() < 2 {
         return None;
     }
-    let [first, savannas] = [5, 6].map(|kind| kinds.partition_point(|&other| other < kind));
-    let end = kinds.partition_point(|&other| other <= 6);
-    bytes[BLOCK * first..BLOCK * end].rotate_left(BLOCK * (savannas - first));
-    Some("savannas before abandoned land".to_string())
+    let low = rng.below(later.len() - 1);
+    let [first, second] = [later[low], later[low + 1]];
+    let start = |kind: u8| kinds.partition_point(|&other| other < kind);
+    let (from, to) = (start(first), start(second + 1));
+    bytes[BLOCK * from..BLOCK * to].rotate_left(BLOCK * (start(second) - from));
+    Some(format!("kind {second} before kind {first}"))
+}
+
+/// A count outside 1 to 12 in a block of a kind above 4.
+fn later_count(rng: &mut Rng, bytes: &mut [u8]) -> Option<String> {
+    let is_later = |&b: &usize| kind(bytes, b) > last_kind(1);
+    let later: Vec<usize> = (0..block_count(bytes)).filter(is_later).collect();
+    let b = (!later.is_empty()).then(|| rng.pick(&later))?;
+    block(bytes, b)[1] = rng.pick(&[0, 13, 14, 128, 255]);
+    Some(format!("count outside 1 to 12 in block {b}"))
 }
 
 /// More blocks than edition 1 can have, by blocks that come again.
@@ -181,12 +195,16 @@ fn overfull_third(rng: &mut Rng, bytes: &mut [u8]) -> Option<String> {
     let thirds: Vec<usize> = (2..block_count(bytes))
         .filter(|&b| kind(bytes, b - 2) == kind(bytes, b))
         .collect();
-    // Often the last, which is savannas' where there are so many.
-    let &last = thirds.last()?;
-    let b = if rng.one_in(2) {
-        last
-    } else {
+    if thirds.is_empty() {
+        return None;
+    }
+    // Often a kind's that edition 1 doesn't have.
+    let is_later = |&b: &usize| kind(bytes, b) > last_kind(1);
+    let later: Vec<usize> = thirds.iter().copied().filter(is_later).collect();
+    let b = if later.is_empty() || rng.one_in(4) {
         rng.pick(&thirds)
+    } else {
+        rng.pick(&later)
     };
     let old = used(bytes, b).max(1);
     let new = 9 + rng.below(4);

@@ -1,7 +1,7 @@
 //! Random blocks.
 
 use super::{block_count, edition};
-use crate::make::{last_kind, parts, repair_check, zero_areas, Part};
+use crate::make::{fields, full_kinds, last_kind, repair_check, zero_areas};
 use crate::make::{BLOCK, FIRST_FULL, MOST_BLOCKS};
 use crate::rng::Rng;
 
@@ -48,10 +48,8 @@ pub fn random_blocks(rng: &mut Rng, depth: usize) -> Vec<u8> {
 /// Kinds that rise, at most three of each, full where the next goes on.
 fn shape(rng: &mut Rng, bytes: &mut [u8]) {
     let blocks = block_count(bytes);
-    let mut kinds: Vec<u8> = [1, 1, 1, 2, 2, 2, 3, 3, 3].to_vec();
-    if edition(bytes) == 2 {
-        kinds.extend([5, 5, 5, 6, 6, 6]);
-    }
+    let mut kinds = full_kinds(edition(bytes));
+    kinds.retain(|&kind| kind != 4);
     while kinds.len() > blocks - 1 {
         kinds.remove(rng.below(kinds.len()));
     }
@@ -75,27 +73,22 @@ fn near_limits(rng: &mut Rng, bytes: &mut [u8], rising: bool) {
     let mut id = 0u32;
     for block in bytes.chunks_mut(BLOCK) {
         let (kind, count) = (block[0], usize::from(block[1]));
-        let mut at = 8;
-        for _ in 0..count {
-            let start = at;
-            for part in parts(kind) {
-                if let Part::Field { width, limit } = *part {
-                    let value = match rng.below(64) {
-                        0 => limit.saturating_add(1),
-                        // Small, so that sums are often good.
-                        1..=24 => rng.from_to(0, limit.min(limit / 4 + 1)),
-                        25..=40 => 0,
-                        _ => rng.from_to(0, limit / 3),
-                    };
-                    block[at..at + width].copy_from_slice(&value.to_le_bytes()[..width]);
-                }
-                at += match *part {
-                    Part::Field { width, .. } | Part::Zero(width) => width,
+        for record in block[8..].chunks_mut(40).take(count) {
+            for field in fields(kind) {
+                let limit = field.most;
+                let value = match rng.below(64) {
+                    0 => limit.saturating_add(1),
+                    // Small, so that sums are often good.
+                    1..=24 => rng.from_to(0, limit.min(limit / 4 + 1)),
+                    25..=40 => 0,
+                    _ => rng.from_to(0, limit / 3),
                 };
+                let bytes = value.to_le_bytes();
+                record[field.at..field.end()].copy_from_slice(&bytes[..field.bytes]);
             }
             if rising && kind != 4 {
                 id += 1 + rng.below(1 << 20) as u32;
-                block[start..start + 4].copy_from_slice(&id.to_le_bytes());
+                record[..4].copy_from_slice(&id.to_le_bytes());
             }
         }
     }

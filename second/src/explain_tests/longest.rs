@@ -1,7 +1,7 @@
 //! How long a text can be: 300 bytes are always enough.
 
 use super::*;
-use crate::judge::tests::{filled, FULL};
+use crate::judge::tests::{full, FULL};
 
 /// By hand: an id has at most ten digits and a part twenty, so that the lines have
 /// at most 27, 42, 28, 43, 26 and 41 bytes.
@@ -28,29 +28,28 @@ fn the_longest_text_has_207_bytes() {
     assert_eq!(text_of(&rows.to_bytes()), due);
 }
 
-/// The full return in edition 2, 16 blocks.
-fn full() -> Hand {
-    let hand = Hand::second(&FULL);
-    [0, 3, 6, 10, 13].into_iter().fold(hand, filled)
-}
-
 /// Each number at its highest place and with as many digits as its values have,
 /// number 3 at block 0 too, whose edition is the first one.
 #[test]
 fn refusals_are_shorter() {
     let header = |b: usize| (0..8).fold(full(), |hand, at| hand.byte(512 * b + at, 255));
-    let last = 512 * 15;
+    let b = FULL.len() - 1;
+    let last = 512 * b;
+    let savannas = FULL
+        .iter()
+        .position(|&(kind, _)| kind == 6)
+        .expect("savannas");
     let mut unfit = full().checked();
     unfit[last..].fill(255);
     let fractions = [12, 18, 32];
     let fractions = fractions
         .iter()
         .fold(full(), |hand, &at| hand.two(2, 7, at, 1_000));
-    let ids = full().four(15, 6, 0, u32::MAX).four(15, 7, 0, u32::MAX);
+    let ids = full().four(b, 6, 0, u32::MAX).four(b, 7, 0, u32::MAX);
     for (text, length) in [
         (text_of(&unfit), 49),
         (explained(header(0)), 118),
-        (explained(header(15)), 116),
+        (explained(header(b)), 116),
         (explained(full().byte(last, 5)), 84),
         (explained(full().byte(last + 1, 255)), 72),
         (explained(full().byte(last - 511, 11)), 86),
@@ -58,7 +57,7 @@ fn refusals_are_shorter() {
         (explained(full().byte(last + 507, 255)), 45),
         (explained(ids), 49),
         (explained(full().two(2, 7, 20, 65_535)), 82),
-        (explained(full().four(13, 11, 4, u32::MAX)), 69),
+        (explained(full().four(savannas, 11, 4, u32::MAX)), 69),
         (explained(fractions), 58),
     ] {
         assert_eq!(text.len(), length, "{text}");

@@ -7,7 +7,8 @@ mod records;
 use super::*;
 use crate::inputs;
 use crate::judge::tests::Hand;
-use crate::make::Rows;
+use crate::kinds::RETURN_ROOM;
+use crate::make::{worked_day, Rows};
 use crate::rng::Rng;
 
 fn text_of(bytes: &[u8]) -> String {
@@ -16,19 +17,6 @@ fn text_of(bytes: &[u8]) -> String {
 
 fn explained(hand: Hand) -> String {
     text_of(&hand.checked())
-}
-
-/// "One day's return, whole": the one row has all of each subtotal.
-fn worked_day() -> Rows {
-    Rows {
-        conversion: vec![[
-            7, 200, 1000, 100, 400, 900, 500, 200, 900, 500, 300, 1000, 100, 300, 500,
-        ]],
-        stock: vec![[1, 0, 680, 1000, 500]],
-        harvest: vec![[1, 500, 950, 300, 0]],
-        parameters: vec![[500, 12, 60, 10, 7, 121]],
-        ..Rows::default()
-    }
 }
 
 #[test]
@@ -56,7 +44,8 @@ fn the_papers_cases() {
 
 #[test]
 fn lengths() {
-    for length in [0, 1, 511, 513, 8_191, 8_193, 8_704, 100_000] {
+    let most = RETURN_ROOM;
+    for length in [0, 1, 511, 513, most - 1, most + 1, most + 512, 100_000] {
         let due = format!("refused 1 0\nlength {length}\n");
         assert_eq!(text_of(&vec![0; length]), due);
     }

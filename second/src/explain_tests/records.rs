@@ -1,7 +1,7 @@
 //! Numbers 5 to 7.
 
 use super::*;
-use crate::make::fields;
+use crate::make::{fields, WITH_IDS};
 
 #[test]
 fn ids() {
@@ -31,7 +31,7 @@ fn field(place: u32, (number, name): (u32, &str), value: u32, limit: u32) -> Str
 }
 
 /// The names of each row's fields, in their order.
-const NAMES: [&str; 6] = [
+const NAMES: [&str; KINDS.len()] = [
     "id area before after on-site_fraction on-site_oxidised_fraction on-site_carbon_fraction \
      off-site_fraction off-site_oxidised_fraction off-site_carbon_fraction ten-year_area \
      ten-year_before ten-year_after decay_fraction decay_carbon_fraction",
@@ -43,18 +43,19 @@ const NAMES: [&str; 6] = [
      live_carbon_fraction dead_oxidised_fraction dead_carbon_fraction N/C CH4 CO N2O NOx",
 ];
 
-/// Each field one above its limit, by the maker's table, which is made by itself.
+/// Each field one above its limit, where its bytes hold that.
 #[test]
 fn fields_one_by_one() {
     for (kind, names) in (1..).zip(NAMES) {
         let names: Vec<&str> = names.split_whitespace().collect();
-        let limits: Vec<u32> = fields(kind).map(|(_, limit)| limit).collect();
-        assert_eq!(names.len(), limits.len());
-        for (number, (&name, &limit)) in names.iter().zip(&limits).enumerate() {
-            if name == "id" {
+        assert_eq!(names.len(), fields(kind).len());
+        for (number, (&name, of)) in names.iter().zip(fields(kind)).enumerate() {
+            assert_eq!(name, of.name);
+            if !of.can_exceed() {
                 continue;
             }
-            let mut rows = Rows::good_in(&mut Rng::new(151), 2, [1; 5]);
+            let limit = of.most;
+            let mut rows = Rows::good_in(&mut Rng::new(151), 2, [1; WITH_IDS.len()]);
             rows.row(kind, 0)[number] = limit + 1;
             // One block of each kind, in order.
             let place = 12 * (u32::from(kind) - 1);

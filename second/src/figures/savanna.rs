@@ -2,7 +2,7 @@
 //! and at the limits.
 
 use super::{more_steps, solve};
-use crate::make::{largest, savanna_carbon, Rows, DEAD_BURNT, GASES};
+use crate::make::{self, savanna_carbon, Rows, DEAD_BURNT, GASES};
 use crate::make::{LIVE, LIVE_BURNT, MOST_ROWS, NITROGEN, WITH_IDS};
 use crate::rng::Rng;
 
@@ -126,7 +126,7 @@ pub(super) fn large_alone(rng: &mut Rng) -> Rows {
 pub(super) fn enlarge(rng: &mut Rng, rows: &mut [Row]) {
     let [less, full] = [rng.one_in(2), rng.one_in(2)];
     for row in rows {
-        *row = largest(rng, row[0]);
+        make::enlarge(row);
         if full {
             row[NITROGEN..].fill(1_000);
         }

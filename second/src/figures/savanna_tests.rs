@@ -7,7 +7,8 @@ use crate::sheets::{exact_tonnes, sheets};
 fn carbon_is_set() {
     let mut rng = Rng::new(151);
     for _ in 0..2_000 {
-        let mut row = largest(&mut rng, 1);
+        let mut row = [1; 14];
+        make::enlarge(&mut row);
         let (digit, power) = (rng.from_to(0, 9_999), rng.below(SPARE));
         set_carbon(&mut rng, &mut row, digit, power);
         let due = u128::from(digit) * 1_000_000u128.pow(power as u32);
@@ -26,7 +27,7 @@ fn halves_are_small_and_wide() {
     for _ in 0..2_000 {
         let bytes = gas_near_half(&mut rng).to_bytes();
         let exact = exact_tonnes(check(&bytes).expect("good rows"));
-        for (gas, exact) in exact[8..].iter().enumerate() {
+        for (gas, exact) in exact[8..12].iter().enumerate() {
             let below = i128::from(exact.below);
             let off = (2 * exact.above.rem_euclid(below) - below).abs();
             half[gas] += i32::from(off == 0);
@@ -52,7 +53,7 @@ fn sums_are_the_sheets() {
         let due: u128 = rows.savanna.iter().flat_map(savanna_carbon).sum();
         assert_eq!(found, due);
         let exact = exact_tonnes(check(&rows.to_bytes()).expect("good rows"));
-        for (gas, exact) in exact[8..].iter().enumerate() {
+        for (gas, exact) in exact[8..12].iter().enumerate() {
             let (times, below) = BY[gas];
             assert_eq!(exact.above, (times * gas_sum(&rows, gas)) as i128);
             assert_eq!(u128::from(exact.below), below);

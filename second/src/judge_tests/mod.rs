@@ -2,11 +2,11 @@
 //! slip in the maker and one in the judge can't hide each other.
 
 mod blocks;
+mod later;
 mod records;
-mod savannas;
 mod second_edition;
 
-use super::{judge, Counts, Refusal, Verdict};
+use super::{judge, Counts, Refusal, Verdict, LAST_KIND, MOST_BLOCKS};
 
 /// A return under construction: whole blocks, headers right from the start.
 pub(crate) struct Hand(Vec<u8>);
@@ -77,14 +77,19 @@ impl Hand {
     }
 }
 
-/// In edition 1.
-fn accepted([c, s, h, p]: [u32; 4]) -> Verdict {
-    let (edition, rows) = (1, [c, s, h, p, 0, 0]);
+/// With these numbers of rows, and none of the kinds behind them.
+fn accepted_in(edition: u16, front: &[u32]) -> Verdict {
+    let mut rows = [0; LAST_KIND];
+    rows[..front.len()].copy_from_slice(front);
     Verdict::Accepted(Counts { edition, rows })
 }
 
-fn accepted_second(rows: [u32; 6]) -> Verdict {
-    Verdict::Accepted(Counts { edition: 2, rows })
+fn accepted<const N: usize>(rows: [u32; N]) -> Verdict {
+    accepted_in(1, &rows)
+}
+
+fn accepted_second<const N: usize>(rows: [u32; N]) -> Verdict {
+    accepted_in(2, &rows)
 }
 
 fn refused(number: u32, place: u32) -> Verdict {
@@ -96,25 +101,27 @@ pub(crate) fn filled(hand: Hand, b: usize) -> Hand {
     hand.ids(b, 12, 0).ids(b + 1, 12, 12).ids(b + 2, 8, 24)
 }
 
-/// The blocks of 32 rows of each kind.
-pub(crate) const FULL: [(u8, u8); 16] = [
-    (1, 12),
-    (1, 12),
-    (1, 8),
-    (2, 12),
-    (2, 12),
-    (2, 8),
-    (3, 12),
-    (3, 12),
-    (3, 8),
-    (4, 1),
-    (5, 12),
-    (5, 12),
-    (5, 8),
-    (6, 12),
-    (6, 12),
-    (6, 8),
-];
+/// The blocks of 32 rows of each kind but the parameters, which have one.
+pub(crate) const FULL: [(u8, u8); MOST_BLOCKS] = {
+    let (mut blocks, mut b, mut kind) = ([(4, 1); MOST_BLOCKS], 0, 1);
+    while b < MOST_BLOCKS {
+        if kind == 4 {
+            b += 1;
+        } else {
+            (blocks[b], blocks[b + 1], blocks[b + 2]) = ((kind, 12), (kind, 12), (kind, 8));
+            b += 3;
+        }
+        kind += 1;
+    }
+    blocks
+};
+
+/// The full return in edition 2.
+pub(crate) fn full() -> Hand {
+    let starts = (0..MOST_BLOCKS).filter(|&b| b == 0 || FULL[b - 1].0 < FULL[b].0);
+    let with_ids = starts.filter(|&b| FULL[b].0 != 4);
+    with_ids.fold(Hand::second(&FULL), filled)
+}
 
 fn lone() -> Hand {
     Hand::new(&[(4, 1)])

@@ -1,11 +1,6 @@
-//! Edition 2 and its kind 5.
+//! Edition 2 as such; the kinds that it brought are in `later`.
 
-use super::{accepted, filled, judge, lone, one_conversion, refused, Hand, Verdict, FULL};
-
-/// Without savannas.
-fn accepted_second([c, s, h, p, a]: [u32; 5]) -> Verdict {
-    super::accepted_second([c, s, h, p, a, 0])
-}
+use super::{accepted, accepted_second, filled, judge, lone, one_conversion, refused, Hand, FULL};
 
 /// Kind 4 is 4, count 1 is 2, one block is 5, edition 2 is 14: 25 in all.
 #[test]
@@ -16,13 +11,9 @@ fn lone_parameters_of_edition_2_have_check_25() {
 }
 
 #[test]
-fn abandoned_land_comes_after_the_parameters() {
-    let good = |blocks: &[(u8, u8)]| Hand::second(blocks).judged();
-    assert_eq!(good(&[(4, 1), (5, 1)]), accepted_second([0, 0, 0, 1, 1]));
-    let all = [(1, 1), (2, 1), (3, 1), (4, 1), (5, 1)];
-    assert_eq!(good(&all), accepted_second([1, 1, 1, 1, 1]));
-    let without = [(1, 1), (3, 1), (4, 1)];
-    assert_eq!(good(&without), accepted_second([1, 0, 1, 1, 0]));
+fn edition_2_needs_no_later_kind() {
+    let without = Hand::second(&[(1, 1), (3, 1), (4, 1)]);
+    assert_eq!(without.judged(), accepted_second([1, 0, 1, 1]));
 }
 
 #[test]
@@ -54,9 +45,8 @@ fn editions() {
 
 #[test]
 fn kinds_of_an_edition() {
-    assert_eq!(Hand::new(&[(4, 1), (5, 1)]).judged(), refused(3, 1));
-    assert_eq!(Hand::new(&[(5, 1), (4, 1)]).judged(), refused(3, 0));
-    assert_eq!(Hand::second(&[(4, 1), (7, 1)]).judged(), refused(3, 1));
+    let above = super::LAST_KIND as u8 + 1;
+    assert_eq!(Hand::second(&[(4, 1), (above, 1)]).judged(), refused(3, 1));
     assert_eq!(Hand::second(&[(0, 1), (4, 1)]).judged(), refused(3, 0));
     assert_eq!(Hand::second(&[(4, 1), (255, 1)]).judged(), refused(3, 1));
 }
@@ -87,36 +77,11 @@ fn order_of_kinds_in_edition_2() {
     at(&[(2, 1), (1, 1), (4, 1), (5, 1)], 1);
 }
 
-#[test]
-fn counts_of_abandoned_land() {
-    for count in [0, 13, 255] {
-        assert_eq!(Hand::second(&[(4, 1), (5, count)]).judged(), refused(4, 1));
-    }
-    for count in [0, 2, 12] {
-        assert_eq!(Hand::second(&[(4, count), (5, 1)]).judged(), refused(4, 0));
-    }
-    assert_eq!(
-        Hand::second(&[(4, 1), (5, 11), (5, 1)]).judged(),
-        refused(4, 1)
-    );
-    let third = |count| Hand::second(&[(4, 1), (5, 12), (5, 12), (5, count)]);
-    assert_eq!(
-        filled(third(8), 1).judged(),
-        accepted_second([0, 0, 0, 1, 32])
-    );
-    assert_eq!(third(9).judged(), refused(4, 3));
-    // With a fourth of its kind the third is at fault, as in edition 1.
-    for third in [8, 12] {
-        let four = [(4, 1), (5, 12), (5, 12), (5, third), (5, 1)];
-        assert_eq!(Hand::second(&four).judged(), refused(4, 3));
-    }
-}
-
 /// "4 then stops an edition 1 return above ten": the kinds 1 to 3 have nine good
 /// blocks at most and kind 4 has one.
 #[test]
 fn edition_1_has_ten_blocks_at_most() {
-    for blocks in 11..=16 {
+    for blocks in 11..=super::MOST_BLOCKS {
         // Parameters more than once: the first of them is not last.
         let mut more = FULL[..10].to_vec();
         more.resize(blocks, (4, 1));
@@ -130,81 +95,6 @@ fn edition_1_has_ten_blocks_at_most() {
             assert_eq!(Hand::new(&more).judged(), refused(4, place as u32));
         }
     }
-    // One block more is number 1 in either edition.
-    assert_eq!(Hand::new(&[(4, 1); 17]).judged(), refused(1, 0));
-    assert_eq!(Hand::second(&[(4, 1); 17]).judged(), refused(1, 0));
-}
-
-/// Zero is due from byte 20 of a used record on, and behind them.
-#[test]
-fn zeros_of_abandoned_land() {
-    for at in 8..508 {
-        let verdict = Hand::second(&[(4, 1), (5, 1)]).byte(512 + at, 1).judged();
-        assert_eq!(verdict == refused(4, 1), at >= 28, "offset {at}");
-    }
-}
-
-#[test]
-fn ids_of_abandoned_land() {
-    let two = |first, second| {
-        Hand::second(&[(3, 1), (4, 1), (5, 2)])
-            .four(0, 0, 0, 9)
-            .four(2, 0, 0, first)
-            .four(2, 1, 0, second)
-            .judged()
-    };
-    assert_eq!(two(0, u32::MAX), accepted_second([0, 0, 1, 1, 2]));
-    assert_eq!(two(9, 10), accepted_second([0, 0, 1, 1, 2]));
-    assert_eq!(two(0, 0), refused(5, 25));
-    assert_eq!(two(u32::MAX, 0), refused(5, 25));
-    let across = |id| {
-        Hand::second(&[(4, 1), (5, 12), (5, 1)])
-            .ids(1, 12, 100)
-            .ids(2, 1, id)
-            .judged()
-    };
-    assert_eq!(across(112), accepted_second([0, 0, 0, 1, 13]));
-    assert_eq!(across(111), refused(5, 24));
-}
-
-#[test]
-fn limits_of_abandoned_land() {
-    for (at, width, limit) in [
-        (4, 4, 10_000_000),
-        (8, 2, 10_000),
-        (10, 2, 1_000),
-        (12, 4, 10_000_000),
-        (16, 2, 10_000),
-        (18, 2, 1_000),
-    ] {
-        let with = |value: u32| {
-            let hand = Hand::second(&[(4, 1), (5, 1)]);
-            match width {
-                2 => hand.two(1, 0, at, value as u16),
-                _ => hand.four(1, 0, at, value),
-            }
-            .judged()
-        };
-        assert_eq!(with(limit), accepted_second([0, 0, 0, 1, 1]), "at {at}");
-        assert_eq!(with(limit + 1), refused(6, 12), "at {at}");
-        assert_eq!(with(u32::MAX), refused(6, 12), "at {at}");
-    }
-}
-
-/// Number 7 is about conversion rows alone, and a lower number wins from
-/// abandoned land behind them.
-#[test]
-fn abandoned_land_breaks_no_7() {
-    let base = || Hand::second(&[(1, 1), (4, 1), (5, 2)]).ids(2, 2, 0);
-    // Both fractions at their limit: 2,000 together, and no fault.
-    let full = base().two(2, 0, 10, 1_000).two(2, 0, 18, 1_000);
-    assert_eq!(full.judged(), accepted_second([1, 0, 0, 1, 2]));
-    let fractions = || base().two(0, 0, 12, 1_000).two(0, 0, 18, 1);
-    assert_eq!(fractions().judged(), refused(7, 0));
-    assert_eq!(fractions().two(2, 1, 18, 1_001).judged(), refused(6, 25));
-    assert_eq!(fractions().four(2, 1, 0, 0).judged(), refused(5, 25));
-    assert_eq!(fractions().byte(1024 + 507, 1).judged(), refused(4, 2));
-    assert_eq!(fractions().edition(2, 1).judged(), refused(3, 2));
 }
 
 /// What was number 8 is no fault in edition 2 either.

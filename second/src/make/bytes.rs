@@ -1,44 +1,32 @@
 //! From rows to the bytes of a return.
 
-use super::{parts, Part, Rows, BLOCK, CHECK_AT, MOST_BLOCKS};
+use super::{fields, Rows, BLOCK, CHECK_AT, MOST_BLOCKS};
 
 impl Rows {
     /// The return of these rows, with right headers and checks.
     pub fn to_bytes(&self) -> Vec<u8> {
         let mut bytes = Vec::with_capacity(MOST_BLOCKS * BLOCK);
-        put_kind(&mut bytes, self.edition, 1, &self.conversion);
-        put_kind(&mut bytes, self.edition, 2, &self.stock);
-        put_kind(&mut bytes, self.edition, 3, &self.harvest);
-        put_kind(&mut bytes, self.edition, 4, &self.parameters);
-        put_kind(&mut bytes, self.edition, 5, &self.abandoned);
-        put_kind(&mut bytes, self.edition, 6, &self.savanna);
+        for (kind, list) in (1..).zip(self.all()) {
+            put_kind(&mut bytes, self.edition, kind, list);
+        }
         seal(&mut bytes);
         bytes
     }
 }
 
-fn put_kind<const N: usize>(bytes: &mut Vec<u8>, edition: u16, kind: u8, rows: &[[u32; N]]) {
-    for rows in rows.chunks(12) {
-        let start = bytes.len();
-        bytes.extend([kind, rows.len() as u8, 0, 0, 0, 0]);
-        bytes.extend(edition.to_le_bytes());
-        for row in rows {
-            put_record(bytes, kind, row);
-        }
-        bytes.resize(start + BLOCK, 0);
-    }
-}
-
-fn put_record(bytes: &mut Vec<u8>, kind: u8, row: &[u32]) {
-    let mut values = row.iter();
-    for part in parts(kind) {
-        match *part {
-            Part::Field { width, .. } => {
-                let value = values.next().expect("a row has all its fields");
-                bytes.extend(&value.to_le_bytes()[..width]);
+fn put_kind(bytes: &mut Vec<u8>, edition: u16, kind: u8, list: &[u32]) {
+    let numbers = fields(kind).len();
+    for rows in list.chunks(12 * numbers) {
+        let mut block = [0; BLOCK];
+        block[..2].copy_from_slice(&[kind, (rows.len() / numbers) as u8]);
+        block[6..8].copy_from_slice(&edition.to_le_bytes());
+        for (row, record) in rows.chunks(numbers).zip(block[8..].chunks_mut(40)) {
+            for (field, value) in fields(kind).iter().zip(row) {
+                let bytes = value.to_le_bytes();
+                record[field.at..field.end()].copy_from_slice(&bytes[..field.bytes]);
             }
-            Part::Zero(width) => bytes.resize(bytes.len() + width, 0),
         }
+        bytes.extend(block);
     }
 }
 

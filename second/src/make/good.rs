@@ -1,8 +1,9 @@
 //! Random good rows.
 
-use super::savannas::good_savannas;
-use super::{fields, RowCounts, Rows, AFTER, BEFORE};
-use super::{FIRST_WITH_IDS, MOST_ROWS, SUMMED, WITH_IDS};
+use super::draw::{draw_row, good_ids, good_value};
+use super::savannas::style_savannas;
+use super::{fields, place_of, RowCounts, Rows, AFTER, BEFORE};
+use super::{FIRST_WITH_IDS, LATER, MOST_ROWS, SUMMED, WITH_IDS};
 use crate::rng::Rng;
 
 const MOST_DENSITY: u32 = 10_000;
@@ -11,27 +12,32 @@ impl Rows {
     /// Good rows of edition 1, this many of each of the first three kinds. More
     /// than 32 are good in everything but their number.
     pub fn good(rng: &mut Rng, [conversion, stock, harvest]: [usize; 3]) -> Self {
-        Self::good_in(rng, 1, [conversion, stock, harvest, 0, 0])
+        Self::good_in(rng, 1, [conversion, stock, harvest])
     }
 
-    /// As [`Rows::good`], in this edition. Rows of abandoned land and savannas are
-    /// good in everything but edition 1.
-    pub fn good_in(rng: &mut Rng, edition: u16, counts: RowCounts) -> Self {
-        let ids = counts.map(|count| good_ids(rng, count));
-        let [conversion, stock, harvest, abandoned, savanna] = &ids;
-        let thinner = rng.pick(&THINNER);
-        Rows {
-            edition,
-            conversion: conversion
-                .iter()
-                .map(|&id| good_conversion(rng, id, thinner))
-                .collect(),
-            stock: good_rows(rng, 2, stock),
-            harvest: good_rows(rng, 3, harvest),
-            parameters: vec![good_row(rng, 4, None)],
-            abandoned: good_rows(rng, 5, abandoned),
-            savanna: good_savannas(rng, savanna),
+    /// As [`Rows::good`], in this edition, and this many of the later kinds: of those
+    /// that the counts don't go to, none. These are good in everything but edition 1.
+    pub fn good_in(rng: &mut Rng, edition: u16, counts: impl AsRef<[usize]>) -> Self {
+        let counts = all_counts(counts.as_ref());
+        let of_kind = |kind: usize| place_of(kind as u8 + 1).map_or(1, |place| counts[place]);
+        let mut rows = Rows::zeros(edition, std::array::from_fn(of_kind));
+        for (kind, list) in (1..).zip(rows.all_mut()) {
+            let numbers = fields(kind).len();
+            let ids = place_of(kind).map(|place| good_ids(rng, counts[place]));
+            for (nth, row) in list.chunks_mut(numbers).enumerate() {
+                draw_row(rng, kind, row);
+                if let Some(ids) = &ids {
+                    row[0] = ids[nth];
+                }
+            }
         }
+        // What else is asked of a kind, or wanted.
+        let thinner = rng.pick(&THINNER);
+        for row in &mut rows.conversion {
+            good_conversion(rng, row, thinner);
+        }
+        style_savannas(rng, &mut rows.savanna);
+        rows
     }
 
     /// As [`Rows::good`], in edition 2 where it alone has these kinds, and else in
@@ -58,11 +64,24 @@ impl Rows {
         };
         let mut counts = WITH_IDS.map(|_| any_count(rng).max(least));
         let edition = rng.pick(&[1, 2]);
+        let later = &mut counts[FIRST_WITH_IDS..];
         if edition == 1 {
-            counts[FIRST_WITH_IDS..].fill(0);
+            later.fill(0);
+        } else if least == 0 && rng.one_in(4) {
+            // One of the later kinds alone, or none of them.
+            let alone = rng.below(LATER + 1);
+            let others = (0..LATER).filter(|&nth| nth != alone);
+            others.for_each(|nth| later[nth] = 0);
         }
         Self::good_in(rng, edition, counts)
     }
+}
+
+/// With none of the kinds that these counts don't go to.
+fn all_counts(front: &[usize]) -> RowCounts {
+    let mut counts = RowCounts::default();
+    counts[..front.len()].copy_from_slice(front);
+    counts
 }
 
 /// Whether there are rows of a kind that edition 1 doesn't have.
@@ -87,69 +106,16 @@ fn any_count(rng: &mut Rng) -> usize {
     }
 }
 
-/// A value from 0 to `limit`, both ends favoured.
-fn good_value(rng: &mut Rng, limit: u32) -> u32 {
-    match rng.below(6) {
-        0 => 0,
-        1 => limit,
-        2 => limit.min(1),
-        3 => limit.saturating_sub(1),
-        _ => rng.from_to(0, limit),
-    }
-}
-
-/// Rising ids: from 0, up to 2^32 - 1, over the middle, or far apart.
-pub fn good_ids(rng: &mut Rng, count: usize) -> Vec<u32> {
-    let length = count as u32;
-    let run = |from: u32| (0..length).map(|i| from + i).collect();
-    match rng.below(6) {
-        0 => run(0),
-        1 => run(u32::MAX - length.max(1) + 1),
-        2 => run(0x8000_0000 - length / 2),
-        3 => run(rng.from_to(0, 0xFFFF_0000)),
-        style => {
-            // Sorted without equals. One style pins both ends of the range.
-            let mut ids: Vec<u32> = (0..count).map(|_| rng.word()).collect();
-            if style == 4 {
-                let ends = [0, u32::MAX];
-                ids.iter_mut().zip(ends).for_each(|(id, end)| *id = end);
-            }
-            ids.sort_unstable();
-            ids.dedup();
-            if ids.len() < count {
-                return run(7);
-            }
-            ids
-        }
-    }
-}
-
-fn good_rows<const N: usize>(rng: &mut Rng, kind: u8, ids: &[u32]) -> Vec<[u32; N]> {
-    let row = |&id| good_row(rng, kind, Some(id));
-    ids.iter().map(row).collect()
-}
-
-pub(super) fn good_row<const N: usize>(rng: &mut Rng, kind: u8, id: Option<u32>) -> [u32; N] {
-    let mut row = [0; N];
-    for (value, (_, limit)) in row.iter_mut().zip(fields(kind)) {
-        *value = good_value(rng, limit);
-    }
-    if let Some(id) = id {
-        row[0] = id;
-    }
-    row
-}
-
 /// In which periods some of a return's rows have more after than before: in
 /// neither, in one alone, or in both.
 const THINNER: [[bool; 2]; 4] = [[false, false], [true, false], [false, true], [true, true]];
 
-fn good_conversion(rng: &mut Rng, id: u32, thinner: [bool; 2]) -> [u32; 15] {
-    let mut row: [u32; 15] = good_row(rng, 1, Some(id));
+/// Periods that are thinner or not, and fractions that hold.
+fn good_conversion(rng: &mut Rng, row: &mut [u32; 15], thinner: [bool; 2]) {
     for period in 0..2 {
         row[AFTER[period]] = good_value(rng, row[BEFORE[period]]);
         if thinner[period] && rng.one_in(3) {
-            thin(rng, &mut row, period);
+            thin(rng, row, period);
         }
     }
     // Each takes from what the ones before it left, in any order.
@@ -160,7 +126,6 @@ fn good_conversion(rng: &mut Rng, id: u32, thinner: [bool; 2]) -> [u32; 15] {
         row[at] = good_value(rng, left);
         left -= row[at];
     }
-    row
 }
 
 /// Makes the density after larger than that before, by one, by any number or up

@@ -1,33 +1,37 @@
 //! Sentences about returns.
 
-use super::numbers_of;
-use crate::kinds::EDITIONS;
+use super::Sentences;
+use crate::kinds::{later_kinds, EDITIONS, KINDS};
 use crate::make::{BLOCK, FIRST_FULL, MOST_BLOCKS};
 
-pub const OF_RETURNS: [&str; 22] = [
-    "3, an edition other than 1 or 2",
-    "3, an edition unlike block 0's",
-    "3, kind 5 in edition 1",
-    "3, kind 6 in edition 1",
-    "3, a kind above 6 in edition 2",
-    "4 in edition 2, kind 4 before a kind below 5",
-    "4 in edition 2, a last block below kind 4",
-    "4 in edition 2, kind 5 with no kind 4 before it",
-    "4 in edition 2, kind 6 with no kind 4 before it",
-    "4 in edition 2, kind 5 behind kind 6",
-    "4 in edition 2, more than one kind 4",
-    "4 in edition 2, kind 6 with a count outside 1 to 12",
-    "4 in edition 2, third of kind 6 with a count above 8",
-    "4 in edition 2, a non-zero byte behind the fields of kind 6",
-    "4 in edition 1, above ten blocks",
-    "5, kind 6",
-    "6, kind 6",
-    "1, above sixteen whole blocks",
-    "accepted, sixteen blocks",
-    "accepted, edition 2 without kinds 5 and 6",
-    "accepted, edition 2 with kind 5 and without kind 6",
-    "accepted, edition 2 with kind 6 and without kind 5",
-];
+#[rustfmt::skip]
+pub static OF_RETURNS: Sentences<Seen> = Sentences {
+    general: &[
+        ("3, an edition that there isn't", |s| s.number == 3 && !s.known()),
+        ("3, an edition unlike block 0's", |s| s.number == 3 && s.known() && s.own != s.first),
+        ("3, a kind above the last in edition 2", |s| s.header(2) && usize::from(s.kind) > KINDS.len()),
+        ("4 in edition 2, kind 4 before a kind below 5", |s| s.layout(2) && s.kind == 4 && s.next().is_some_and(|next| next < 5)),
+        ("4 in edition 2, a last block below kind 4", |s| s.layout(2) && s.kind < 4 && s.next().is_none()),
+        ("4 in edition 2, a kind above 4 behind a higher one", |s| s.layout(2) && s.kind > 4 && s.before().last() > Some(&s.kind)),
+        ("4 in edition 2, more than one kind 4", |s| s.layout(2) && s.times(4) > 1),
+        ("4 in edition 1, above ten blocks", |s| s.layout(1) && s.kinds.len() > FIRST_FULL),
+        ("1, above the most blocks and whole", |s| s.number == 1 && s.whole && s.kinds.len() > MOST_BLOCKS),
+        ("accepted, the most blocks", |s| s.number == 0 && s.kinds.len() == MOST_BLOCKS),
+        ("accepted, edition 2 without kinds above 4", |s| s.accepted(2) && s.later() == []),
+    ],
+    of_kinds: &[
+        ("3, kind # in edition 1", |s, kind| s.header(1) && s.kind == kind),
+        ("4 in edition 2, kind # with no kind 4 before it", |s, kind| s.layout(2) && s.kind == kind && !s.before().contains(&4)),
+        ("4 in edition 2, kind # with a count outside 1 to 12", |s, kind| s.layout(2) && s.kind == kind && !(1..=12).contains(&s.count())),
+        ("4 in edition 2, third of kind # with a count above 8", |s, kind| {
+            s.layout(2) && s.kind == kind && s.before().ends_with(&[kind, kind]) && s.count() > 8
+        }),
+        ("4 in edition 2, a non-zero byte behind the fields of kind #", |s, kind| s.layout(2) && s.kind == kind && s.stray()),
+        ("5, kind #", |s, kind| s.number == 5 && s.kind == kind),
+        ("6, kind #", |s, kind| s.number == 6 && s.kind == kind),
+        ("accepted, edition 2 with kind # alone above 4", |s, kind| s.accepted(2) && s.later() == [kind]),
+    ],
+};
 
 /// The edition that a return's first block says; 0 where there is none.
 pub fn edition(bytes: &[u8]) -> u32 {
@@ -37,115 +41,156 @@ pub fn edition(bytes: &[u8]) -> u32 {
     }
 }
 
-/// Which of them this return meets with this answer, whose place is a block
-/// where the number is 3 or 4, and a record where it is 5 or 6.
-pub fn of_return(bytes: &[u8], answer: u32) -> Vec<usize> {
-    let (number, place) = (answer / 1000, (answer % 1000) as usize);
-    let b = if number < 5 { place } else { place / 12 };
-    let blocks: Vec<&[u8]> = bytes.chunks(BLOCK).collect();
-    let kinds: Vec<u8> = blocks.iter().map(|block| block[0]).collect();
-    let [kind, next] = [b, b + 1].map(|b| kinds.get(b).copied());
-    let (kind, first) = (kind.unwrap_or(0), edition(bytes));
-    let (own, count) = match blocks.get(b) {
-        Some(&block) if number > 1 => (edition(block), block[1]),
-        _ => (0, 0),
-    };
-    let known = EDITIONS.contains(&own);
-    let before = &kinds[..b.min(kinds.len())];
-    let header = |edition: u32| number == 3 && [own, first] == [edition; 2];
-    let layout = |edition: u32| number == 4 && first == edition;
-    let parameters = kinds.iter().filter(|&&kind| kind == 4).count();
-    let whole = bytes.len().is_multiple_of(BLOCK);
-    let later = [5, 6].map(|kind| kinds.contains(&kind));
-    let accepted = number == 0 && first == 2;
-    numbers_of(&[
-        number == 3 && !known,
-        number == 3 && known && own != first,
-        header(1) && kind == 5,
-        header(1) && kind == 6,
-        header(2) && kind > 6,
-        layout(2) && kind == 4 && next.is_some_and(|next| next < 5),
-        layout(2) && kind < 4 && next.is_none(),
-        layout(2) && kind == 5 && !before.contains(&4),
-        layout(2) && kind == 6 && !before.contains(&4),
-        layout(2) && kind == 5 && before.last() == Some(&6),
-        layout(2) && parameters > 1,
-        layout(2) && kind == 6 && !(1..=12).contains(&count),
-        layout(2) && kind == 6 && before.ends_with(&[6, 6]) && count > 8,
-        layout(2) && kind == 6 && stray(blocks[b]),
-        layout(1) && blocks.len() > FIRST_FULL,
-        number == 5 && kind == 6,
-        number == 6 && kind == 6,
-        number == 1 && whole && blocks.len() > MOST_BLOCKS,
-        number == 0 && blocks.len() == MOST_BLOCKS,
-        accepted && later == [false, false],
-        accepted && later == [true, false],
-        accepted && later == [false, true],
-    ])
+/// A return and its answer, whose place is a block up to number 4, and a record
+/// from number 5 on.
+pub struct Seen {
+    number: u32,
+    /// The block at that place, its kind and its edition; nothing where there is none.
+    b: usize,
+    block: Vec<u8>,
+    kind: u8,
+    own: u32,
+    /// Of block 0.
+    first: u32,
+    /// Of all blocks.
+    kinds: Vec<u8>,
+    whole: bool,
 }
 
-/// Whether a used record of a savanna block has more than its 32 bytes.
-fn stray(block: &[u8]) -> bool {
-    let mut used = block[8..488].chunks(40).take(block[1].into());
-    used.any(|record| record[32..] != [0; 8])
+impl Seen {
+    pub fn of(bytes: &[u8], answer: u32) -> Self {
+        let (number, place) = (answer / 1000, (answer % 1000) as usize);
+        let b = if number < 5 { place } else { place / 12 };
+        let block = bytes.chunks(BLOCK).nth(b);
+        let block = block.filter(|_| number > 1).unwrap_or(&[]);
+        Seen {
+            number,
+            b,
+            block: block.to_vec(),
+            kind: block.first().copied().unwrap_or(0),
+            own: edition(block),
+            first: edition(bytes),
+            kinds: bytes.chunks(BLOCK).map(|block| block[0]).collect(),
+            whole: bytes.len().is_multiple_of(BLOCK),
+        }
+    }
+
+    fn known(&self) -> bool {
+        EDITIONS.contains(&self.own)
+    }
+
+    fn header(&self, edition: u32) -> bool {
+        self.number == 3 && [self.own, self.first] == [edition; 2]
+    }
+
+    fn layout(&self, edition: u32) -> bool {
+        self.number == 4 && self.first == edition
+    }
+
+    fn accepted(&self, edition: u32) -> bool {
+        self.number == 0 && self.first == edition
+    }
+
+    fn before(&self) -> &[u8] {
+        &self.kinds[..self.b.min(self.kinds.len())]
+    }
+
+    fn next(&self) -> Option<u8> {
+        self.kinds.get(self.b + 1).copied()
+    }
+
+    fn count(&self) -> u8 {
+        self.block[1]
+    }
+
+    fn times(&self, kind: u8) -> usize {
+        self.kinds.iter().filter(|&&other| other == kind).count()
+    }
+
+    /// The kinds above 4 that it has.
+    fn later(&self) -> Vec<u8> {
+        let has = |kind: &u8| self.kinds.contains(kind);
+        later_kinds().filter(has).collect()
+    }
+
+    /// Whether a used record has a byte behind its fields.
+    fn stray(&self) -> bool {
+        let end = KINDS[usize::from(self.kind) - 1].fields_end();
+        let mut used = self.block[8..488].chunks(40).take(self.count().into());
+        used.any(|record| record[end..].iter().any(|&byte| byte != 0))
+    }
 }
 
 #[cfg(test)]
 mod tests {
     use super::*;
 
-    /// Two blocks, by their kinds and editions alone.
-    #[test]
-    fn sentences_by_hand() {
-        let mut bytes = vec![0; 1024];
-        (bytes[0], bytes[6], bytes[512], bytes[518]) = (4, 2, 3, 2);
-        assert_eq!(of_return(&bytes, 4000), [5]);
-        bytes[512] = 4;
-        assert_eq!(of_return(&bytes, 4000), [5, 10]);
-        (bytes[0], bytes[512]) = (5, 4);
-        assert_eq!(of_return(&bytes, 4000), [7]);
-        (bytes[0], bytes[1]) = (6, 1);
-        assert_eq!(of_return(&bytes, 4000), [8]);
-        (bytes[0], bytes[512]) = (1, 3);
-        assert_eq!(of_return(&bytes, 4001), [6]);
-        bytes[518] = 1;
-        assert_eq!(of_return(&bytes, 3001), [1]);
-        bytes[518] = 3;
-        assert_eq!(of_return(&bytes, 3001), [0]);
-        (bytes[512], bytes[518]) = (7, 2);
-        assert_eq!(of_return(&bytes, 3001), [4]);
-        (bytes[6], bytes[512], bytes[518]) = (1, 6, 1);
-        assert_eq!(of_return(&bytes, 3001), [3]);
-        bytes[512] = 5;
-        assert_eq!(of_return(&bytes, 3001), [2]);
+    fn met(bytes: &[u8], answer: u32) -> Vec<String> {
+        OF_RETURNS.met_names(&Seen::of(bytes, answer))
     }
 
-    /// The parameters and blocks of savannas behind them.
+    /// Blocks of one record each by their kinds alone.
+    fn blocks(edition: u8, kinds: &[u8]) -> Vec<u8> {
+        let mut bytes = vec![0; 512 * kinds.len()];
+        for (block, &kind) in bytes.chunks_mut(512).zip(kinds) {
+            (block[0], block[1], block[6]) = (kind, 1, edition);
+        }
+        bytes
+    }
+
     #[test]
-    fn savannas_by_hand() {
-        let blocks = |kinds: &[u8]| {
-            let mut bytes = vec![0; 512 * kinds.len()];
-            for (block, &kind) in bytes.chunks_mut(512).zip(kinds) {
-                (block[0], block[1], block[6]) = (kind, 1, 2);
-            }
-            bytes
-        };
-        let mut two = blocks(&[4, 6]);
-        assert_eq!(of_return(&two, 0), [21]);
-        assert_eq!(of_return(&two, 5012), [15]);
-        assert_eq!(of_return(&two, 6012), [16]);
-        assert_eq!(of_return(&two, 6000), []);
-        two[512 + 8 + 31] = 1;
-        assert_eq!(of_return(&two, 4001), []);
-        two[512 + 8 + 32] = 1;
-        assert_eq!(of_return(&two, 4001), [13]);
-        two[513] = 0;
-        assert_eq!(of_return(&two, 4001), [11]);
-        assert_eq!(of_return(&blocks(&[4, 5]), 0), [20]);
-        assert_eq!(of_return(&blocks(&[3, 4]), 0), [19]);
-        assert_eq!(of_return(&blocks(&[4, 6, 5]), 4002), [9]);
-        let mut four = blocks(&[4, 6, 6, 6]);
-        four[3 * 512 + 1] = 9;
-        assert_eq!(of_return(&four, 4003), [12]);
+    fn sentences_by_hand() {
+        let parameters = "4 in edition 2, kind 4 before a kind below 5";
+        assert_eq!(met(&blocks(2, &[4, 3]), 4000), [parameters]);
+        let twice = "4 in edition 2, more than one kind 4";
+        assert_eq!(met(&blocks(2, &[4, 4]), 4000), [parameters, twice]);
+        let last = "4 in edition 2, a last block below kind 4";
+        assert_eq!(met(&blocks(2, &[1, 3]), 4001), [last]);
+        let mut mixed = blocks(2, &[1, 3]);
+        mixed[518] = 1;
+        let unlike = "3, an edition unlike block 0's";
+        assert_eq!(met(&mixed, 3001), [unlike]);
+        mixed[518] = 77;
+        let unknown = "3, an edition that there isn't";
+        assert_eq!(met(&mixed, 3001), [unknown]);
+        let above = "3, a kind above the last in edition 2";
+        assert_eq!(met(&blocks(2, &[1, 99]), 3001), [above]);
+        let without = "accepted, edition 2 without kinds above 4";
+        assert_eq!(met(&blocks(2, &[3, 4]), 0), [without]);
+        let higher = "4 in edition 2, a kind above 4 behind a higher one";
+        assert_eq!(met(&blocks(2, &[4, 6, 5]), 4002), [higher]);
+    }
+
+    /// The parameters and blocks of each kind above 4 behind them.
+    #[test]
+    fn later_kinds_by_hand() {
+        for kind in later_kinds() {
+            let named = |name: &str| [name.replace('#', &kind.to_string())];
+            assert_eq!(
+                met(&blocks(1, &[1, kind]), 3001),
+                named("3, kind # in edition 1")
+            );
+            let early = named("4 in edition 2, kind # with no kind 4 before it");
+            assert_eq!(met(&blocks(2, &[kind, 4]), 4000), early);
+            let mut two = blocks(2, &[4, kind]);
+            let alone = named("accepted, edition 2 with kind # alone above 4");
+            assert_eq!(met(&two, 0), alone);
+            assert_eq!(met(&two, 5012), named("5, kind #"));
+            assert_eq!(met(&two, 6012), named("6, kind #"));
+            assert!(met(&two, 6000).is_empty());
+            let end = KINDS[usize::from(kind) - 1].fields_end();
+            two[512 + 8 + end - 1] = 1;
+            assert!(met(&two, 4001).is_empty());
+            two[512 + 8 + end] = 1;
+            let stray = named("4 in edition 2, a non-zero byte behind the fields of kind #");
+            assert_eq!(met(&two, 4001), stray);
+            two[513] = 0;
+            let count = named("4 in edition 2, kind # with a count outside 1 to 12");
+            assert_eq!(met(&two, 4001), count);
+            let mut four = blocks(2, &[4, kind, kind, kind]);
+            four[3 * 512 + 1] = 9;
+            let third = named("4 in edition 2, third of kind # with a count above 8");
+            assert_eq!(met(&four, 4003), third);
+        }
     }
 }

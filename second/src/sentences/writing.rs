@@ -1,87 +1,136 @@
 //! Sentences about rows for the writer.
 
-use super::numbers_of;
-use crate::kinds::{EDITIONS, KINDS};
-use crate::rowlists::RowLists;
+use super::Sentences;
+use crate::kinds::{later_kinds, Kind, EDITIONS, KINDS};
+use crate::lists::RowLists;
 
-pub const OF_WRITING: [&str; 13] = [
-    "10, an unknown edition and nothing else at place 0",
-    "10, rows of kind 5 in edition 1",
-    "10, rows of kind 6 in edition 1",
-    "10, more rows than there may be of kind 5 in edition 2",
-    "10, more rows than there may be of kind 6 in edition 2",
-    "10, no whole number of rows of kind 5 in edition 2",
-    "10, no whole number of rows of kind 6 in edition 2",
-    "5, kind 6",
-    "6, kind 6",
-    "accepted, edition 2 without kinds 5 and 6",
-    "accepted, edition 2 with kind 5 and without kind 6",
-    "accepted, edition 2 with kind 6 and without kind 5",
-    "accepted, edition 2 with kinds 5 and 6",
-];
+#[rustfmt::skip]
+pub static OF_WRITING: Sentences<SeenRows> = Sentences {
+    general: &[
+        ("10, an unknown edition and nothing else at place 0", |s| s.answer == 10_000 && s.added_up() && !s.known()),
+        ("accepted, edition 2 without kinds above 4", |s| s.accepted(2) && s.later() == []),
+        ("accepted, edition 2 with all kinds above 4", |s| s.accepted(2) && s.later().len() == later_kinds().count()),
+    ],
+    of_kinds: &[
+        ("10, rows of kind # in edition 1", |s, kind| s.edition == 1 && s.list_refused(kind)),
+        ("10, more rows than there may be of kind # in edition 2", |s, kind| {
+            s.edition == 2 && s.list_refused(kind) && s.length(kind) > kind_of(kind).numbers * kind_of(kind).most_rows
+        }),
+        ("10, no whole number of rows of kind # in edition 2", |s, kind| {
+            s.edition == 2 && s.list_refused(kind) && !s.length(kind).is_multiple_of(kind_of(kind).numbers)
+        }),
+        ("5, kind #", |s, kind| s.row_refused(5, kind)),
+        ("6, kind #", |s, kind| s.row_refused(6, kind)),
+        ("accepted, edition 2 with kind # alone above 4", |s, kind| s.accepted(2) && s.later() == [kind]),
+    ],
+};
 
-/// Which of them these rows meet with this answer.
-pub fn of_writing(lists: &RowLists, answer: u32) -> Vec<usize> {
-    let sum: u64 = lists.lengths.iter().map(|&length| u64::from(length)).sum();
-    let added_up = lists.lengths.len() == KINDS.len() && sum == lists.rows.len() as u64;
-    let length = |kind: usize| lists.lengths.get(kind - 1).copied().unwrap_or(0);
-    let [abandoned, savanna] = [5, 6].map(length);
-    let [first, second] = [1, 2].map(|edition| lists.edition == edition);
-    let accepted =
-        |later: [bool; 2]| answer == 0 && second && later == [abandoned > 0, savanna > 0];
-    let at_savannas = |number: u32| answer / 1000 == number && answer % 1000 >= savannas_at(lists);
-    numbers_of(&[
-        answer == 10_000 && added_up && !EDITIONS.contains(&lists.edition),
-        answer == 10_005 && first,
-        answer == 10_006 && first,
-        answer == 10_005 && second && abandoned > 7 * 32,
-        answer == 10_006 && second && savanna > 14 * 32,
-        answer == 10_005 && second && !abandoned.is_multiple_of(7),
-        answer == 10_006 && second && !savanna.is_multiple_of(14),
-        at_savannas(5),
-        at_savannas(6),
-        accepted([false, false]),
-        accepted([true, false]),
-        accepted([false, true]),
-        accepted([true, true]),
-    ])
+fn kind_of(kind: u8) -> &'static Kind {
+    &KINDS[usize::from(kind) - 1]
 }
 
-/// The place of the first savanna row, behind the blocks of all other kinds.
-fn savannas_at(lists: &RowLists) -> u32 {
-    let others = lists.lengths.iter().zip([15, 5, 5, 6, 7]);
-    others
-        .map(|(length, numbers)| 12 * (length / numbers).div_ceil(12))
-        .sum()
+/// Rows and the answer to them.
+pub struct SeenRows {
+    edition: u32,
+    lengths: Vec<u32>,
+    /// Of all rows together.
+    area: usize,
+    answer: u32,
+}
+
+impl SeenRows {
+    pub fn of(lists: &RowLists, answer: u32) -> Self {
+        SeenRows {
+            edition: lists.edition,
+            lengths: lists.lengths.clone(),
+            area: lists.rows.len(),
+            answer,
+        }
+    }
+
+    fn known(&self) -> bool {
+        EDITIONS.contains(&self.edition)
+    }
+
+    fn added_up(&self) -> bool {
+        let sum: u64 = self.lengths.iter().map(|&length| u64::from(length)).sum();
+        self.lengths.len() == KINDS.len() && sum == self.area as u64
+    }
+
+    fn accepted(&self, edition: u32) -> bool {
+        self.answer == 0 && self.edition == edition
+    }
+
+    fn length(&self, kind: u8) -> usize {
+        let length = self.lengths.get(usize::from(kind) - 1);
+        length.map_or(0, |&length| length as usize)
+    }
+
+    /// The kinds above 4 that have rows.
+    fn later(&self) -> Vec<u8> {
+        let has = |&kind: &u8| self.length(kind) > 0;
+        later_kinds().filter(has).collect()
+    }
+
+    fn list_refused(&self, kind: u8) -> bool {
+        self.answer == 10_000 + u32::from(kind)
+    }
+
+    /// Whether a row of this kind is refused by this number.
+    fn row_refused(&self, number: u32, kind: u8) -> bool {
+        let blocks = |kind| (self.length(kind) / kind_of(kind).numbers).div_ceil(12);
+        let first: usize = (1..kind).map(blocks).sum();
+        let block = (self.answer % 1000 / 12) as usize;
+        self.answer / 1000 == number && (first..first + blocks(kind)).contains(&block)
+    }
 }
 
 #[cfg(test)]
 mod tests {
     use super::*;
 
+    /// Rows of these lengths, of the other kinds none.
+    fn met(edition: u32, of: &[(u8, usize)], answer: u32) -> Vec<String> {
+        let mut lengths = vec![0; KINDS.len()];
+        for &(kind, length) in of {
+            lengths[usize::from(kind) - 1] = length as u32;
+        }
+        let lists = RowLists {
+            how: String::new(),
+            edition,
+            rows: vec![0; of.iter().map(|(_, length)| length).sum()],
+            lengths,
+        };
+        OF_WRITING.met_names(&SeenRows::of(&lists, answer))
+    }
+
     #[test]
     fn sentences_by_hand() {
-        let met = |edition: u32, lengths: [u32; 6], answer: u32| {
-            let lists = RowLists {
-                how: String::new(),
-                edition,
-                rows: vec![0; lengths.iter().sum::<u32>() as usize],
-                lengths: lengths.to_vec(),
-            };
-            of_writing(&lists, answer)
-        };
-        assert_eq!(met(3, [0, 0, 0, 6, 0, 14], 10_000), [0]);
-        assert_eq!(met(1, [0, 0, 0, 6, 7, 14], 10_005), [1]);
-        assert_eq!(met(1, [0, 0, 0, 6, 0, 14], 10_006), [2]);
-        assert_eq!(met(2, [0, 0, 0, 6, 0, 462], 10_006), [4]);
-        assert_eq!(met(2, [0, 0, 0, 6, 0, 13], 10_006), [6]);
-        assert_eq!(met(2, [0, 0, 0, 6, 0, 0], 0), [9]);
-        assert_eq!(met(2, [0, 0, 0, 6, 7, 0], 0), [10]);
-        assert_eq!(met(2, [0, 0, 0, 6, 0, 14], 0), [11]);
-        assert_eq!(met(2, [0, 0, 0, 6, 7, 14], 0), [12]);
-        // Thirteen stock rows are blocks 0 and 1, the parameters 2, savannas 3.
-        assert_eq!(met(2, [0, 65, 0, 6, 0, 28], 5036), [7]);
-        assert_eq!(met(2, [0, 65, 0, 6, 0, 28], 6037), [8]);
-        assert_eq!(met(2, [0, 65, 0, 6, 0, 28], 6024), []);
+        let unknown = "10, an unknown edition and nothing else at place 0";
+        assert_eq!(met(77, &[(4, 6), (6, 14)], 10_000), [unknown]);
+        let without = "accepted, edition 2 without kinds above 4";
+        assert_eq!(met(2, &[(4, 6)], 0), [without]);
+        let mut all = vec![(4, 6)];
+        all.extend(later_kinds().map(|kind| (kind, kind_of(kind).numbers)));
+        let with = "accepted, edition 2 with all kinds above 4";
+        assert_eq!(met(2, &all, 0), [with]);
+        for kind in later_kinds() {
+            let named = |name: &str| [name.replace('#', &kind.to_string())];
+            let (numbers, refused) = (kind_of(kind).numbers, 10_000 + u32::from(kind));
+            let with = |length: usize| [(4, 6), (kind, length)];
+            let first = named("10, rows of kind # in edition 1");
+            assert_eq!(met(1, &with(numbers), refused), first);
+            let more = named("10, more rows than there may be of kind # in edition 2");
+            assert_eq!(met(2, &with(33 * numbers), refused), more);
+            let part = named("10, no whole number of rows of kind # in edition 2");
+            assert_eq!(met(2, &with(numbers - 1), refused), part);
+            let alone = named("accepted, edition 2 with kind # alone above 4");
+            assert_eq!(met(2, &with(numbers), 0), alone);
+            // Thirteen stock rows are blocks 0 and 1, the parameters 2, the kind 3.
+            let places = [(2, 65), (4, 6), (kind, 2 * numbers)];
+            assert_eq!(met(2, &places, 5036), named("5, kind #"));
+            assert_eq!(met(2, &places, 6037), named("6, kind #"));
+            assert!(met(2, &places, 6024).is_empty());
+        }
     }
 }

@@ -20,9 +20,10 @@ mod writing;
 
 #[cfg(not(door_missing))]
 mod run {
+    use second::coverage::{Counters, Coverage, Due};
     use second::drive::{exit, Arguments};
     use second::kinds::KINDS;
-    use second::make::{RowCounts, Rows};
+    use second::make::{Rows, WITH_IDS};
     use second::rng::Rng;
     use std::process::ExitCode;
 
@@ -33,16 +34,16 @@ mod run {
     const DRAWN: usize = 2;
     /// Editions and row counts that are tried with rooms of every length: full
     /// returns, some with kinds left out, and the parameters alone.
-    const EVERY_LENGTH: [(u16, RowCounts); 9] = [
-        (1, [32, 32, 32, 0, 0]),
-        (1, [2, 0, 3, 0, 0]),
-        (1, [0, 1, 12, 0, 0]),
-        (1, [0, 0, 0, 0, 0]),
-        (2, [32, 32, 32, 32, 32]),
-        (2, [1, 0, 0, 13, 0]),
-        (2, [0, 2, 0, 0, 13]),
-        (2, [0, 0, 0, 2, 3]),
-        (2, [0, 0, 0, 0, 0]),
+    const EVERY_LENGTH: [(u16, &[usize]); 9] = [
+        (1, &[32, 32, 32]),
+        (1, &[2, 0, 3]),
+        (1, &[0, 1, 12]),
+        (1, &[]),
+        (2, &[32; WITH_IDS.len()]),
+        (2, &[1, 0, 0, 13]),
+        (2, &[0, 2, 0, 0, 13]),
+        (2, &[0, 0, 0, 2, 3]),
+        (2, &[]),
     ];
 
     pub fn main() -> ExitCode {
@@ -55,35 +56,38 @@ mod run {
     }
 
     /// Further calls and round trips, besides the table.
-    #[derive(Default)]
     pub struct Tally {
-        pub calls: usize,
-        pub round_trips: usize,
-        /// How often each place was due of the number that has a place for each
-        /// kind: 9 when reading, 10 when writing.
-        pub places: [usize; KINDS.len() + 1],
+        pub coverage: Coverage,
+        calls: Counters,
+        round_trips: Counters,
+        /// Each place of the number that has one for each kind: 9 when reading,
+        /// 10 when writing.
+        number: u32,
+        places: Counters,
     }
 
     impl Tally {
-        pub fn note(&mut self, answer: u32, number: u32) {
-            self.calls += 1;
-            if answer / 1000 == number {
-                self.places[(answer % 1000) as usize] += 1;
+        pub fn new(number: u32) -> Self {
+            let mut coverage = Coverage::default();
+            let places = (0..=KINDS.len()).map(|place| format!("number {number} at place {place}"));
+            Tally {
+                calls: coverage.add(Due::Told, ["calls"]),
+                round_trips: coverage.add(Due::Told, ["round trips"]),
+                number,
+                places: coverage.add(Due::Once, places),
+                coverage,
             }
         }
 
-        /// Says what was tried, and whether every place came.
-        pub fn print(&self, number: u32, arguments: Arguments) -> bool {
-            println!(
-                "{} calls, {} round trips, places of number {number} from 0: {:?}",
-                self.calls, self.round_trips, self.places
-            );
-            let all = self.places.iter().all(|&times| times > 0);
-            let all = all || !arguments.shares_due(self.calls);
-            if !all {
-                eprintln!("a place of number {number} did not come");
+        pub fn note(&mut self, answer: u32) {
+            self.coverage.count(self.calls, 0);
+            if answer / 1000 == self.number {
+                self.coverage.count(self.places, (answer % 1000) as usize);
             }
-            all
+        }
+
+        pub fn note_round_trip(&mut self) {
+            self.coverage.count(self.round_trips, 0);
         }
     }
 

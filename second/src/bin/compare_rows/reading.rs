@@ -1,6 +1,7 @@
 //! Reading: returns into rooms, and what was read written again.
 
 use crate::run::{every_length, exact_and_drawn, Tally, GUARD, LONGER};
+use second::case::Case;
 use second::drive::{first_of, memory_difference, run, Arguments, Outcome, Plan};
 use second::ffi::rows::{first_read, first_write};
 use second::inputs;
@@ -10,7 +11,6 @@ use second::lent::{Lent, Placed};
 use second::make::Rows;
 use second::reader::{ends, read};
 use second::rng::Rng;
-use second::sweep::Case;
 
 pub fn compare(arguments: Arguments) -> bool {
     let plan = Plan {
@@ -20,12 +20,12 @@ pub fn compare(arguments: Arguments) -> bool {
         often: &[0, 1, 2, 3, 4, 5, 6, 7, 9],
         sorts: 100,
     };
-    let mut tally = Tally::default();
-    let good = run(&plan, arguments, inputs::with_figures, |case, rng| {
+    let mut tally = Tally::new(9);
+    let ran = run(&plan, arguments, inputs::with_figures, |case, rng| {
         try_one(case, rng, &mut tally)
     });
-    let all_places = tally.print(9, arguments);
-    good & all_places & every_length("read", arguments.seed, every_room)
+    let good = ran.with(&tally.coverage).good();
+    good & every_length("read", arguments.seed, every_room)
 }
 
 /// Elements lent for the rows and for their numbers.
@@ -106,14 +106,14 @@ fn try_one(case: &Case, rng: &mut Rng, tally: &mut Tally) -> Outcome {
     let mut difference = None;
     for (turn, lent) in rooms.into_iter().enumerate() {
         let (expected, memory, found) = call(&before, bytes, lent);
-        tally.note(expected, 9);
+        tally.note(expected);
         if turn == drawn {
             answer = expected;
         }
         let input = memory_difference("the input itself", bytes, &case.bytes);
         difference = first_of([difference, found, input]);
         if let (0, Some(counts), None) = (turn, &accepted, &difference) {
-            tally.round_trips += 1;
+            tally.note_round_trip();
             difference = written_again(&memory.rows[..lent.rows], counts, bytes);
         }
     }

@@ -6,10 +6,11 @@ use second::drive::{first_of, memory_difference, run, Arguments, Outcome, Plan};
 use second::ffi::rows::first_write;
 use second::kinds::{COUNTS_ROOM, KINDS, RETURN_ROOM};
 use second::lent::Lent;
+use second::lists::RowLists;
 use second::make::Rows;
 use second::rng::Rng;
 use second::row_sweeps;
-use second::rowlists::{self, RowLists};
+use second::rowlists;
 
 /// One input in this many comes from the sweeps.
 const SWEEP_EVERY: usize = 4;
@@ -34,12 +35,12 @@ pub fn compare(arguments: Arguments) -> bool {
             rowlists::case(rng)
         }
     };
-    let mut tally = Tally::default();
-    let good = run(&plan, arguments, make, |lists, rng| {
+    let mut tally = Tally::new(10);
+    let ran = run(&plan, arguments, make, |lists, rng| {
         try_one(lists, rng, &mut tally)
     });
-    let all_places = tally.print(10, arguments);
-    good & all_places & every_length("write", arguments.seed, every_room)
+    let good = ran.with(&tally.coverage).good();
+    good & every_length("write", arguments.seed, every_room)
 }
 
 /// Elements lent for the blocks and for their size.
@@ -104,13 +105,13 @@ fn try_one(lists: &RowLists, rng: &mut Rng, tally: &mut Tally) -> Outcome {
     let mut difference = None;
     for (turn, lent) in rooms.into_iter().enumerate() {
         let (expected, paper, found) = call(&before, lists, lent);
-        tally.note(expected, 10);
+        tally.note(expected);
         if turn == drawn {
             answer = expected;
         }
         difference = difference.or(found);
         if let (0, Some(bytes), None) = (turn, accepted, &difference) {
-            tally.round_trips += 1;
+            tally.note_round_trip();
             difference = read_again(&paper.blocks[..bytes], lists, rng);
         }
     }

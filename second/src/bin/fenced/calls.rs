@@ -4,19 +4,21 @@
 use second::doubles::subtotal;
 use second::drive::{first_of, memory_difference};
 use second::explain::explain;
-use second::fence::{Fence, Place};
+use second::fence::{Fence, Number, Place};
 use second::ffi::doubles::first_subtotal;
 use second::ffi::explain::{first_explain, first_heaviest};
 use second::ffi::judge::first_judge;
 use second::ffi::lines::{first_figures, first_lines};
 use second::ffi::rows::{first_read, first_write};
+use second::ffi::tables::{first_defaults, first_table52};
 use second::heaviest::heaviest;
 use second::judge::{judge, Verdict};
-use second::kinds::COUNTS_ROOM;
 use second::lent::Lent;
-use second::reader::read;
-use second::rowlists::RowLists;
+use second::lists::RowLists;
+use second::reader::{count, read};
 use second::sheets::{figures, lines};
+use second::table52::{defaults, Table};
+use std::fmt::Debug;
 
 /// The most areas that one function is lent.
 const AREAS: usize = 4;
@@ -31,20 +33,20 @@ fn found(answer: u32, due: u32, memory: impl IntoIterator<Item = Option<String>>
     (due / 1000, first_of([wrong].into_iter().chain(memory)))
 }
 
-pub fn judge_at(fences: &mut Fences, place: Place, bytes: &[u8], before: &[u32]) -> Found {
+/// A call with an input and a room: what the second program does with them, and the first.
+fn with_room<T: Number + PartialEq + Debug>(
+    fences: &mut Fences,
+    place: Place,
+    (bytes, before): (&[u8], &[T]),
+    second: impl FnOnce(&[u8], &mut [T]) -> u32,
+    first: impl FnOnce(&[u8], Lent<T>) -> u32,
+) -> Found {
     let mut room_due = before.to_vec();
-    let due = match judge(bytes) {
-        Verdict::Refused(refusal) => refusal.answer(),
-        Verdict::Accepted(_) if before.len() < COUNTS_ROOM => 9000,
-        Verdict::Accepted(counts) => {
-            room_due[..COUNTS_ROOM].copy_from_slice(&counts.numbers());
-            0
-        }
-    };
+    let due = second(bytes, &mut room_due);
     let [input, room, ..] = fences;
     let input = input.area(place, bytes);
     let mut room = room.area(place, before);
-    let answer = first_judge(&input, Lent::whole(&mut room));
+    let answer = first(&input, Lent::whole(&mut room));
     let memory = [
         memory_difference("the input", &input, bytes),
         memory_difference("the room", &room, &room_due),
@@ -52,18 +54,34 @@ pub fn judge_at(fences: &mut Fences, place: Place, bytes: &[u8], before: &[u32])
     found(answer, due, memory)
 }
 
+pub fn judge_at(fences: &mut Fences, place: Place, bytes: &[u8], before: &[u32]) -> Found {
+    with_room(fences, place, (bytes, before), count, first_judge)
+}
+
 pub fn figures_at(fences: &mut Fences, place: Place, bytes: &[u8], before: &[u64]) -> Found {
-    let mut room_due = before.to_vec();
-    let due = figures(bytes, &mut room_due);
-    let [input, room, ..] = fences;
-    let input = input.area(place, bytes);
-    let mut room = room.area(place, before);
-    let answer = first_figures(&input, Lent::whole(&mut room));
-    let memory = [
-        memory_difference("the input", &input, bytes),
-        memory_difference("the room", &room, &room_due),
-    ];
-    found(answer, due, memory)
+    with_room(fences, place, (bytes, before), figures, first_figures)
+}
+
+pub fn heaviest_at(
+    fences: &mut Fences,
+    place: Place,
+    bytes: &[u8],
+    (code, before): (u32, &[u64]),
+) -> Found {
+    let second = |bytes: &[u8], room: &mut [u64]| heaviest(bytes, code, room);
+    let first = |bytes: &[u8], room: Lent<u64>| first_heaviest(bytes, code, room);
+    with_room(fences, place, (bytes, before), second, first)
+}
+
+pub fn subtotal_at(
+    fences: &mut Fences,
+    place: Place,
+    bytes: &[u8],
+    (code, before): (u32, &[u8]),
+) -> Found {
+    let second = |bytes: &[u8], room: &mut [u8]| subtotal(bytes, code, room);
+    let first = |bytes: &[u8], room: Lent<u8>| first_subtotal(bytes, code, room);
+    with_room(fences, place, (bytes, before), second, first)
 }
 
 pub fn lines_at(fences: &mut Fences, place: Place, bytes: &[u8], before: &[u8]) -> Found {
@@ -114,44 +132,6 @@ fn text_at(
     (number, difference)
 }
 
-pub fn heaviest_at(
-    fences: &mut Fences,
-    place: Place,
-    bytes: &[u8],
-    (code, before): (u32, &[u64]),
-) -> Found {
-    let mut room_due = before.to_vec();
-    let due = heaviest(bytes, code, &mut room_due);
-    let [input, room, ..] = fences;
-    let input = input.area(place, bytes);
-    let mut room = room.area(place, before);
-    let answer = first_heaviest(&input, code, Lent::whole(&mut room));
-    let memory = [
-        memory_difference("the input", &input, bytes),
-        memory_difference("the room", &room, &room_due),
-    ];
-    found(answer, due, memory)
-}
-
-pub fn subtotal_at(
-    fences: &mut Fences,
-    place: Place,
-    bytes: &[u8],
-    (code, before): (u32, &[u8]),
-) -> Found {
-    let mut room_due = before.to_vec();
-    let due = subtotal(bytes, code, &mut room_due);
-    let [input, room, ..] = fences;
-    let input = input.area(place, bytes);
-    let mut room = room.area(place, before);
-    let answer = first_subtotal(&input, code, Lent::whole(&mut room));
-    let memory = [
-        memory_difference("the input", &input, bytes),
-        memory_difference("the room", &room, &room_due),
-    ];
-    found(answer, due, memory)
-}
-
 pub fn read_at(
     fences: &mut Fences,
     place: Place,
@@ -200,4 +180,35 @@ pub fn write_at(
         memory_difference("the lengths", &lengths, &lists.lengths),
     ];
     found(answer, due, memory)
+}
+
+/// An entry of table 5-2. The answers 1 and 2 have no refusal number, and are themselves.
+pub fn table52_at(
+    fences: &mut Fences,
+    place: Place,
+    table: &Table,
+    (country, zone, before): (u32, u32, &[i32]),
+) -> Found {
+    let mut room_due = before.to_vec();
+    let due = table.look_up(country, zone, &mut room_due);
+    let mut room = fences[0].area(place, before);
+    let answer = first_table52(country, zone, Lent::whole(&mut room));
+    let (number, difference) = found(
+        answer,
+        due,
+        [memory_difference("the room", &room, &room_due)],
+    );
+    (if due < 1000 { due } else { number }, difference)
+}
+
+pub fn defaults_at(fences: &mut Fences, place: Place, before: &[u32]) -> Found {
+    let mut room_due = before.to_vec();
+    let due = defaults(&mut room_due);
+    let mut room = fences[0].area(place, before);
+    let answer = first_defaults(Lent::whole(&mut room));
+    found(
+        answer,
+        due,
+        [memory_difference("the room", &room, &room_due)],
+    )
 }

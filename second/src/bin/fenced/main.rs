@@ -21,32 +21,49 @@ mod calls;
 mod cross;
 #[cfg(not(door_missing))]
 mod rooms;
-#[cfg(not(door_missing))]
-mod tally;
 
 #[cfg(not(door_missing))]
 mod run {
+    use crate::calls::{defaults_at, subtotal_at, table52_at, write_at, Fences};
     use crate::calls::{explain_at, figures_at, heaviest_at, judge_at, lines_at, read_at};
-    use crate::calls::{subtotal_at, write_at, Fences};
     use crate::cross::{cross_on_purpose, fences_stop};
     use crate::rooms::{Fit, Rooms};
-    use crate::tally::Tally;
-    use second::burned::Burned;
-    use second::drive::{exit, Arguments, Input};
+    use second::answers::Answers;
+    use second::case::Case;
+    use second::coverage::{Asked, Coverage, Due};
+    use second::drive::{exit, Arguments};
     use second::fence::Place;
     use second::halves::Halves;
+    use second::input::Input;
     use second::judge::judge;
+    use second::lists::RowLists;
     use second::rng::Rng;
     use second::row_sweeps;
-    use second::rowlists::{self, RowLists};
-    use second::sweep::Case;
-    use second::thinner::Thinner;
+    use second::rowlists;
+    use second::sorts::RowSorts;
+    use second::table52::Table;
     use second::{clashes, figures, mix, sweep, weights};
     use std::process::ExitCode;
 
     const INPUTS: usize = 2_000;
     pub const USAGE: &str = "fenced [heap] [SEED [INPUTS]], or \
         fenced cross [heap] [before|behind] [read|write]";
+
+    const JUDGED: &[u32] = &[0, 1, 2, 3, 4, 5, 6, 7, 9];
+    const BY_CODE: &[u32] = &[0, 1, 2, 3, 4, 5, 6, 7, 9, 11];
+    /// Each function, with the answers that must come in each edition.
+    const FUNCTIONS: [(&str, &[u32]); 10] = [
+        ("judge", JUDGED),
+        ("figures", JUDGED),
+        ("lines", JUDGED),
+        ("subtotal", BY_CODE),
+        ("explain", JUDGED),
+        ("heaviest", BY_CODE),
+        ("read", JUDGED),
+        ("write", &[0, 5, 6, 7, 9, 10]),
+        ("table52", &[0, 1, 2, 9]),
+        ("defaults", &[0, 9]),
+    ];
 
     pub fn main() -> ExitCode {
         let words: Vec<String> = std::env::args().skip(1).collect();
@@ -68,18 +85,14 @@ mod run {
             return ExitCode::FAILURE;
         };
         let mut fences = Fences::default();
-        let mut tallies = [
-            Tally::new("judge", &[0, 1, 2, 3, 4, 5, 6, 7, 9]),
-            Tally::new("figures", &[0, 1, 2, 3, 4, 5, 6, 7, 9]),
-            Tally::new("lines", &[0, 1, 2, 3, 4, 5, 6, 7, 9]),
-            Tally::new("subtotal", &[0, 1, 2, 3, 4, 5, 6, 7, 9, 11]),
-            Tally::new("explain", &[0, 1, 2, 3, 4, 5, 6, 7, 9]),
-            Tally::new("heaviest", &[0, 1, 2, 3, 4, 5, 6, 7, 9, 11]),
-            Tally::new("read", &[0, 1, 2, 3, 4, 5, 6, 7, 9]),
-            Tally::new("write", &[0, 5, 6, 7, 9, 10]),
-        ];
-        let mut halves = Halves::default();
-        let (mut thinner, mut burned) = (Thinner::default(), Burned::default());
+        let mut coverage = Coverage::default();
+        let answers = FUNCTIONS.map(|(name, often)| {
+            let name = format!("{name} ");
+            Answers::new(&name, often, [Due::Told, Due::Once], &mut coverage)
+        });
+        let halves = Halves::new(Due::Times(1), &mut coverage);
+        let sorts = RowSorts::new(Due::Times(1), &mut coverage);
+        let (table, mut calls) = (Table::read(), 0);
         for index in 0..arguments.inputs.unwrap_or(INPUTS) {
             let mut rng = Rng::for_input(arguments.seed, index as u64);
             let case = any_return(&mut rng);
@@ -101,14 +114,19 @@ mod run {
                             (&lent.rows, &lent.row_counts),
                         ),
                         write_at(&mut fences, place, &lists, (&lent.blocks, &lent.size)),
+                        table52_at(&mut fences, place, &table, lent.entry()),
+                        defaults_at(&mut fences, place, &lent.defaults),
                     ];
                     let returned = case.edition();
-                    let editions = [returned; 7].into_iter().chain([lists.edition]);
+                    // The last two have no return, and are counted by the input's all the same.
+                    let editions = [returned; 7].into_iter().chain([lists.edition; 3]);
                     let found = found.into_iter().zip(editions);
-                    for (tally, ((number, difference), edition)) in tallies.iter_mut().zip(found) {
-                        tally.note(edition, number);
+                    let named = FUNCTIONS.iter().zip(&answers).zip(found);
+                    for (((name, _), answers), ((number, difference), edition)) in named {
+                        calls += 1;
+                        answers.note(edition, number, &mut coverage);
                         if let Some(difference) = difference {
-                            let (name, seed) = (tally.name, arguments.seed);
+                            let seed = arguments.seed;
                             println!("{name}, input {index} of seed {seed}, {fit:?}, {place:?}:");
                             println!("  {difference}; {}; {}", case.how, lists.how);
                             return ExitCode::FAILURE;
@@ -117,22 +135,19 @@ mod run {
                 }
             }
             // A difference has ended the program before this.
-            halves.note(&case.bytes);
+            halves.note(&case.bytes, &mut coverage);
             if judge(&case.bytes).answer() == 0 {
-                thinner.note(case.thinner());
-                burned.note(&case.burned());
+                sorts.note(&case.lists(), &mut coverage);
             }
         }
-        tallies.iter().for_each(Tally::print);
-        halves.print();
-        thinner.print();
-        burned.print();
-        let calls: usize = tallies.iter().map(Tally::calls).sum();
+        coverage.print(calls);
         println!("fenced: {calls} calls at {places:?}, 0 differences");
         let usual = arguments.inputs.is_none();
-        let sorts_came = || halves.reach(1) & thinner.reach(1) & burned.reach(1);
-        let all_came = || tallies.iter().all(Tally::all_came) & sorts_came();
-        exit(!tallies.iter().any(Tally::retired_came) && (!usual || all_came()))
+        exit(coverage.reached(Asked {
+            inputs: calls,
+            shares: usual,
+            counts: usual,
+        }))
     }
 
     /// From the comparisons' makers; of the sweeps any, for they are long.

@@ -4,11 +4,12 @@ use second::explain;
 use second::heaviest::HEAVIEST_ROOM;
 use second::judge::{judge, Verdict};
 use second::kinds::{COUNTS_ROOM, KINDS, RETURN_ROOM, ROWS_ROOM};
+use second::lists::RowLists;
 use second::make::MOST_BLOCKS;
 use second::reader::ends;
 use second::rng::Rng;
-use second::rowlists::RowLists;
 use second::sheets::{text, NUMBERS as FIGURES};
+use second::table52::{COUNTRIES, DEFAULTS, TABLE52_ROOM, ZONES};
 
 /// How much longer than needed a room may be.
 const LONGER: usize = 20;
@@ -47,9 +48,18 @@ pub struct Rooms {
     pub row_counts: Vec<u32>,
     pub blocks: Vec<u8>,
     pub size: Vec<u32>,
+    /// A country and a zone of table 5-2, mostly on it.
+    pub entry: (u32, u32),
+    pub figures52: Vec<i32>,
+    pub defaults: Vec<u32>,
 }
 
 impl Rooms {
+    /// An entry with the room for it.
+    pub fn entry(&self) -> (u32, u32, &[i32]) {
+        (self.entry.0, self.entry.1, &self.figures52)
+    }
+
     pub fn drawn(bytes: &[u8], lists: &RowLists, fit: Fit, rng: &mut Rng) -> Self {
         let code = match rng.below(8) {
             0 => 3 + rng.below(2) as u32,
@@ -70,7 +80,21 @@ impl Rooms {
             row_counts: words(row_counts, rng),
             blocks: any_bytes(blocks, rng),
             size: words(size, rng),
+            entry: (number_near(COUNTRIES, rng), number_near(ZONES, rng)),
+            figures52: (0..fit.length(TABLE52_ROOM, rng))
+                .map(|_| rng.word() as i32)
+                .collect(),
+            defaults: words(fit.length(DEFAULTS.len(), rng), rng),
         }
+    }
+}
+
+/// Mostly a number below `on`.
+fn number_near(on: usize, rng: &mut Rng) -> u32 {
+    match rng.below(8) {
+        0 => rng.word(),
+        1 => (on + rng.below(2)) as u32,
+        _ => rng.below(on) as u32,
     }
 }
 

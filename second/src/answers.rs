@@ -1,0 +1,85 @@
+//! The answers that were due, counted: acceptance and each refusal number, in all and in each edition.
+
+use crate::coverage::{Counters, Coverage, Due};
+use crate::kinds::EDITIONS;
+
+/// Refusal numbers go up to 11.
+const NUMBERS: u32 = 12;
+/// "8 is never given again, its number isn't reused" (02, §3): it fails a
+/// comparison when it is due, and is a difference when the first program gives it.
+const RETIRED: u32 = 8;
+/// For each number all, and each edition.
+const COLUMNS: usize = 1 + *EDITIONS.end() as usize;
+
+pub struct Answers(Counters);
+
+impl Answers {
+    /// The answers that are often due (0 for acceptance) are so in all, and in each edition.
+    pub fn new(name: &str, often: &[u32], [all, each]: [Due; 2], coverage: &mut Coverage) -> Self {
+        let first = coverage.add(Due::Told, [""; 0]);
+        for number in 0..NUMBERS {
+            let [all, each] = match number {
+                RETIRED => [Due::Never; 2],
+                _ if often.contains(&number) => [all, each],
+                _ => [Due::Told; 2],
+            };
+            let answer = match number {
+                0 => format!("{name}accepted"),
+                _ => format!("{name}refused {number}"),
+            };
+            let in_edition = EDITIONS.map(|edition| format!("{answer}, edition {edition}"));
+            coverage.add(all, [answer.clone()]);
+            coverage.add(each, in_edition);
+        }
+        Answers(first)
+    }
+
+    pub fn note(&self, edition: u32, number: u32, coverage: &mut Coverage) {
+        let row = COLUMNS * number as usize;
+        coverage.count(self.0, row);
+        if EDITIONS.contains(&edition) {
+            coverage.count(self.0, row + edition as usize);
+        }
+    }
+}
+
+#[cfg(test)]
+mod tests {
+    use super::*;
+    use crate::coverage::Asked;
+
+    #[test]
+    fn answers_are_counted_by_edition() {
+        let mut coverage = Coverage::default();
+        let answers = Answers::new("judge ", &[0, 7], [Due::Times(2), Due::Once], &mut coverage);
+        for (edition, number) in [(1, 0), (2, 0), (77, 7), (1, 7), (2, 11)] {
+            answers.note(edition, number, &mut coverage);
+        }
+        let due = [
+            ("judge accepted", 2),
+            ("judge accepted, edition 1", 1),
+            ("judge accepted, edition 2", 1),
+            ("judge refused 7", 2),
+            ("judge refused 7, edition 1", 1),
+            ("judge refused 11", 1),
+            ("judge refused 11, edition 2", 1),
+        ];
+        assert_eq!(coverage.came(), due);
+    }
+
+    #[test]
+    fn the_retired_number_is_seen() {
+        let mut coverage = Coverage::default();
+        let answers = Answers::new("", &[], [Due::Told; 2], &mut coverage);
+        let short = Asked {
+            inputs: 3,
+            shares: false,
+            counts: false,
+        };
+        answers.note(1, 7, &mut coverage);
+        answers.note(1, 9, &mut coverage);
+        assert!(coverage.reached(short));
+        answers.note(1, RETIRED, &mut coverage);
+        assert!(!coverage.reached(short));
+    }
+}
