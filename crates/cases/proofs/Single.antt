@@ -20,10 +20,12 @@ use Rattle.form.specs.declared.Spot.the-variants.{Nowhere}
 use Rattle.form.proofs.Search.{first-none}
 use Rattle.filing.specs.Lists.{filedList, behind, filedFrom}
 use Rattle.filing.specs.Written.{recordFrom, inTurn, headOf, sealed, recordOn, usedFrom, bodyOf, blockOf, bytesOf}
-use Rattle.totals.specs.Columns.{sumOf, onsitePart}
+use Rattle.form.specs.Sums.{sumOf}
+use Rattle.totals.specs.Columns.{onsitePart}
 use Rattle.worksheets.specs.Answers.{Outcome, worked, refusal, outcomeOf}
-use Rattle.listed.specs.Listed.{listed51, listed52, listed53, listed54, listedPeriods, listed43, listed, figureCount}
-use Rattle.listed.proofs.Laws.{figureAt}
+use Rattle.wide.specs.Numbers.{value, wordsOf}
+use Rattle.wide.specs.Signs.{amount}
+use Rattle.listed.specs.Listed.{listed, figureCount, figureAt}
 use Rattle.cases.specs.Cases.{Complete, Case, caseOf, refused, largest, table, all-answered}
 
 -- case number i of the table, and what its sheets are answered
@@ -47,14 +49,14 @@ pub many-answered : outcomeOf (nth 5 .bytes) ≡ nth 5 .answer .sheets
 many-answered = ap (sheetsAt 5) all-answered
 
 abbrev figureIn : ℕ → Outcome → ℤ
-figureIn i (worked v) = figureAt (listed v) i .value
+figureIn i (worked f) = amount (figureAt (listed f) i .value)
 figureIn i (refusal n p) = pos 0
 
 abbrev agrees : ℕ → Bool
 agrees i = eqb (natAbs (figureIn i (nth landCase .answer .sheets))) (natAbs (figureIn i (nth 1 .answer .sheets)))
 
 none-agrees : first agrees figureCount ≡ Nowhere
-unfolding first listed51 listed52 listed53 listed54 listedPeriods listed43 listed
+unfolding first listed value wordsOf
 none-agrees = refl
 
 pub each-differs : (i : ℕ) → i < figureCount → figureIn i (nth landCase .answer .sheets) ≡ figureIn i (nth 1 .answer .sheets) → ⊥

@@ -20,17 +20,31 @@ use Rattle.filing.specs.Written.{recordFrom, inTurn, headOf, sealed, recordOn, 
 use Rattle.lists.specs.Rules.{badList, badLengths, notAllowed, listRules}
 use Rattle.lists.specs.Examples.{dayLengths, dayArea}
 use Rattle.rows.specs.Writing.{written}
+use Rattle.wide.specs.Numbers.{value, wordsOf}
 use Rattle.wide.specs.Rounding.{evenOf, settled}
 use Rattle.totals.specs.Abandoned.{abandonedPart}
-use Rattle.totals.specs.Columns.{sumOf, stockPart, harvestPart, clearedPart, onsitePart, offsitePart, decayPart, thinnerPart}
-use Rattle.savannas.specs.Savannas.{carbonShare, carbonPart, ch4Part, coPart, n2oPart, noxPart}
-use Rattle.savannas.specs.Sheet.{Sheet43, savannasOf}
-use Rattle.worksheets.specs.Sheets.{standard, parameterNumbers, Sheet51, Sheet52, Sheet53, Sheet54, stocksOf, conversionOf, gasesOf, abandonedOf}
+use Rattle.form.specs.Sums.{sumOf, harvestPart, clearedPart}
+use Rattle.totals.specs.Columns.{stockPart, onsitePart, offsitePart, decayPart, thinnerPart}
+use Rattle.totals.specs.Masses.{dryMatter, carbon, periods}
+use Rattle.totals.specs.Sums.{totalsOf}
+use Rattle.totals.specs.declared.Periods.{Periods}
+use Rattle.units.specs.Columns.{netDryMatter, netCarbon, netCo2, co2}
+use Rattle.burning.specs.Released.{releasedOf, burnedBy}
+use Rattle.burning.specs.Gases.{gas, gasesOf}
+use Rattle.burning.specs.declared.Gases.{Gases}
+use Rattle.savannas.specs.Savannas.{carbonShare, carbonPart, savannasOf}
+use Rattle.savannas.specs.declared.Savannas.{Savannas}
+use Rattle.ledger.specs.Ledger.{entered}
+use Rattle.ledger.specs.Derived.{stocksOf, conversionOf}
+use Rattle.ledger.specs.declared.Stocks.{Stocks}
+use Rattle.ledger.specs.declared.Conversion.{Conversion}
+use Rattle.worksheets.specs.Sheets.{standard, parameterNumbers, abandonedOf, figuresOf}
+use Rattle.worksheets.specs.declared.sheets.Abandoned.{Abandoned}
 use Rattle.worksheets.specs.Answers.{Outcome, worked, refusal, outcomeOf}
 use Rattle.doubles.specs.Subtotals.{onsiteDouble, offsiteDouble, decayDouble, addRows, subtotalsOf, answerOf}
 use Rattle.doubles.specs.declared.Answer.{Answer}
 use Rattle.doubles.specs.declared.Answer.the-variants.{Figures, Refused}
-use Rattle.cases.specs.FromRows.{rowsGiven, figuresFrom, sheets-from-rows, doubles-from-rows}
+use Rattle.cases.specs.FromRows.{rowsGiven, sheets-from-rows, doubles-from-rows}
 
 -- a complete answer: the sheets, or the refusal; and the bits of the three doubles, on site, off site and decayed, or none
 pub record Complete : Type 0 where
@@ -59,53 +73,53 @@ abbrev pub caseOf : Entry → Case
 caseOf (of-rows edition l a) = record { bytes = written edition l; answer = a }
 caseOf (of-bytes s a) = record { bytes = s; answer = a }
 
-abbrev figured : Sheet51 → Sheet52 → Sheet53 → Sheet54 → Sheet43 → List ℕ → Complete
-figured a b c l v d = record { sheets = worked (record { stocks = a; conversion = b; gases = c; abandoned = l; savannas = v }); doubles = d }
+abbrev figured : Stocks → Conversion × Periods → Gases → Abandoned → Savannas → List ℕ → Complete
+figured a b c l v d = record { sheets = worked (record { stocks = a; conversion = b .0; thinner = b .1; gases = c; abandoned = l; savannas = v }); doubles = d }
 
-abbrev pub worked-all : ℕ → Lists → Sheet51 → Sheet52 → Sheet53 → Sheet54 → Sheet43 → List ℕ → Entry
+abbrev pub worked-all : ℕ → Lists → Stocks → Conversion × Periods → Gases → Abandoned → Savannas → List ℕ → Entry
 worked-all edition rows a b c l v d = of-rows edition rows (figured a b c l v d)
 
+-- the lines of 01, in their order, and the thinner periods with 5-2
+abbrev pub sheet51 : ℕ → ℕ → ℕ → ℤ → ℤ → ℤ → ℤ → ℤ → Stocks
+sheet51 e k l m o p q r = record { e = carbon e; k = dryMatter k; l = dryMatter l; m = netDryMatter m; o = netCarbon o; p = netCarbon p; q = netCo2 q; report = netCo2 r }
+
+abbrev pub sheet52 : ℕ → ℕ → ℕ → ℕ → ℕ → ℕ → Conversion × Periods
+sheet52 n f r d c t = (record { onsite = carbon n; offsite = carbon f; r = carbon r; decay = carbon d; co2 = co2 c }, periods t)
+
+abbrev pub sheet53 : ℕ → ℕ → ℕ → ℕ → Gases
+sheet53 h c n x = record { ch4 = gas h; co = gas c; n2o = gas n; nox = gas x }
+
+abbrev pub sheet54 : ℕ → ℕ → Abandoned
+sheet54 u c = record { uptake = carbon u; co2 = co2 c }
+
 -- savannas, in the order of their lines
-abbrev pub sheet43 : ℕ → ℕ → ℕ → ℕ → ℕ → Sheet43
-sheet43 b h c n x = record { carbon = b; ch4 = h; co = c; n2o = n; nox = x }
+abbrev pub sheet43 : ℕ → ℕ → ℕ → ℕ → ℕ → Savannas
+sheet43 b h c n x = record { carbon = carbon b; gases = sheet53 h c n x }
 
 -- with none
-abbrev none43 : Sheet43
+abbrev none43 : Savannas
 none43 = sheet43 0 0 0 0 0
 
-abbrev pub worked-out : ℕ → Lists → Sheet51 → Sheet52 → Sheet53 → Sheet54 → List ℕ → Entry
+abbrev pub worked-out : ℕ → Lists → Stocks → Conversion × Periods → Gases → Abandoned → List ℕ → Entry
 worked-out edition rows a b c l d = worked-all edition rows a b c l none43 d
 
 abbrev pub refused : List ℕ → ℕ → ℕ → Entry
 refused s n p = of-bytes s (record { sheets = refusal n p; doubles = [] })
 
--- the lines of 01, in their order
-abbrev pub sheet51 : ℕ → ℕ → ℕ → ℤ → ℤ → ℤ → ℤ → ℤ → Sheet51
-sheet51 e k l m o p q r = record { e = e; k = k; l = l; m = m; o = o; p = p; q = q; report = r }
-
-abbrev pub sheet52 : ℕ → ℕ → ℕ → ℕ → ℕ → ℕ → Sheet52
-sheet52 n f r d c t = record { onsite = n; offsite = f; r = r; decay = d; co2 = c; thinner = t }
-
-abbrev pub sheet53 : ℕ → ℕ → ℕ → ℕ → Sheet53
-sheet53 h c n x = record { ch4 = h; co = c; n2o = n; nox = x }
-
-abbrev pub sheet54 : ℕ → ℕ → Sheet54
-sheet54 u c = record { uptake = u; co2 = c }
-
-abbrev none51 : Sheet51
+abbrev none51 : Stocks
 none51 = sheet51 0 0 0 (pos 0) (pos 0) (pos 0) (pos 0) (pos 0)
 
 -- nothing burned or decayed, and so many thinner periods
-abbrev thin52 : ℕ → Sheet52
+abbrev thin52 : ℕ → Conversion × Periods
 thin52 t = sheet52 0 0 0 0 0 t
 
-abbrev none52 : Sheet52
+abbrev none52 : Conversion × Periods
 none52 = thin52 0
 
-abbrev none53 : Sheet53
+abbrev none53 : Gases
 none53 = sheet53 0 0 0 0
 
-abbrev none54 : Sheet54
+abbrev none54 : Abandoned
 none54 = sheet54 0 0
 
 -- the bits of the double 0, three times
@@ -258,7 +272,7 @@ table = map caseOf entries
 abbrev worksOut : Entry → Ruling × Complete
 worksOut (of-rows edition l a) = (
   ruling (listRules edition (map length l) (flatten l)),
-  record { sheets = worked (figuresFrom (rowsGiven l 1) (rowsGiven l 2) (rowsGiven l 3) (rowsGiven l 4) (rowsGiven l 5) (rowsGiven l 6)); doubles = bitsOf (Figures (subtotalsOf (rowsGiven l 1))) },
+  record { sheets = worked (figuresOf (rowsGiven l)); doubles = bitsOf (Figures (subtotalsOf (rowsGiven l 1))) },
 )
 worksOut (of-bytes s a) = (Clean, completeOf s)
 
@@ -288,7 +302,7 @@ in-turn (e ∷ es) p =
     (in-turn es (ap (λ (l : List (Ruling × Complete)). drop 1 l) p))
 
 all-worked : map worksOut entries ≡ map wanted entries
-unfolding toBits ofInt mul add onsiteDouble offsiteDouble decayDouble addRows largest largestFires computed cut filedList behind filedFrom littleEndian recordFrom inTurn headOf sealed weighed recordOn usedFrom bodyOf blockOf bytesOf rowsBelow rowFrom number evenOf settled sumOf stockPart harvestPart clearedPart onsitePart offsitePart decayPart countedDifference thinnerPart stocksOf conversionOf gasesOf abandonedOf abandonedPart savannasOf figuresFrom rowsFrom flatten total badList badLengths notAllowed listRules carbonShare carbonPart ch4Part coPart n2oPart noxPart
+unfolding toBits ofInt mul add onsiteDouble offsiteDouble decayDouble addRows largest largestFires computed cut filedList behind filedFrom littleEndian recordFrom inTurn headOf sealed weighed recordOn usedFrom bodyOf blockOf bytesOf rowsBelow rowFrom number evenOf settled sumOf stockPart harvestPart clearedPart onsitePart offsitePart decayPart countedDifference thinnerPart stocksOf conversionOf gasesOf abandonedOf abandonedPart savannasOf rowsFrom flatten total badList badLengths notAllowed listRules carbonShare carbonPart value wordsOf totalsOf entered releasedOf burnedBy
 all-worked = refl
 
 -- every return of the table has the answer beside it, as the checker computes them

@@ -1,39 +1,26 @@
 -- What a code of the functions for C says of the rules. Assumes nothing.
---     verdict-told                    a verdict is one ruling's alone
---     bounded-bytes, bounded-lists    a refusal's number is not 0 and its place is below 1,000; bounded-then, of rules tried one list after another;
---                                     figures-small, a place of the figures
+--     bounded-bytes, bounded-lists    a refusal's number is not 0 and its place is below 1,000; bounded-then, of rules tried one list after another
+--     judge-bounded and so on         so it is for each function; in-place, for the number that it makes of its ruling
 --     code-refused, code-clean        so a code says which rule is the first broken one and where, or that none is
-use Prim.Native.Nat.{ℕ, suc, _+_, _*_, _<_, _≤_}
-use mathlib.Core.Path.{_≡_, refl}
+use Prim.Native.Nat.{ℕ, _+_, _*_, _<_, _≤_}
+use mathlib.Core.Path.{_≡_}
 use mathlib.Core.List.{List, [], _∷_, _++_}
 use native.Mathlib.Omega.{arith}
-use lib.ListN.{length}
-use Rattle.form.specs.Layout.{kinds}
-use Rattle.form.specs.Ruling.{Rule, rule, tooShort}
-use Rattle.form.specs.Verdict.{blockRules, rules, verdictBy}
+use Rattle.form.specs.Ruling.{Rule, tooShort, ruling}
+use Rattle.form.specs.Verdict.{blockRules, rules}
 use Rattle.form.specs.declared.Ruling.{Ruling}
 use Rattle.form.specs.declared.Ruling.the-variants.{Clean, Broken}
-use Rattle.form.specs.declared.Verdict.{Verdict}
-use Rattle.form.specs.declared.Verdict.the-variants.{Accepted, Refused}
-use Rattle.form.proofs.Order.{Kept, Least, this, later, AllKept, Means, ruling-least, same-ruling}
+use Rattle.form.proofs.Order.{Kept, Least, this, later, AllKept, Means, ruling-means}
 use Rattle.form.proofs.Lengths as bytes
 use Rattle.form.proofs.EachKind.{few-kinds}
-use Rattle.filing.specs.Lists.{cut, filedLists}
-use Rattle.filing.proofs.Cut.{cut-lengths}
-use Rattle.lists.specs.Rules.{badAt, listRules, blocksFrom}
-use Rattle.lists.proofs.Numbers.{good, good-few}
-use Rattle.rows.specs.Writing.{written}
-use Rattle.rows.proofs.Return.{places-from, length-written}
-use Rattle.tabled.specs.Figures.{numbersRoom, figuresAnswer}
-use Rattle.door.specs.Door.{codeOf}
-
-rulingIn : Verdict → Ruling
-rulingIn (Accepted c) = Clean
-rulingIn (Refused n p) = Broken n p
-
-pub verdict-told : (s : List ℕ) (u v : Ruling) → verdictBy s u ≡ verdictBy s v → u ≡ v
-unfolding rulingIn
-verdict-told s = same-ruling (verdictBy s) rulingIn refl (λ n p. refl)
+use Rattle.lists.specs.Rules.{listRules}
+use Rattle.tabled.specs.Figures.{figuresRules}
+use Rattle.counted.specs.Counts.{judgeRules}
+use Rattle.charted.specs.Subtotal.{subtotalRules}
+use Rattle.weighed.specs.Heaviest.{heaviestRulesC}
+use Rattle.handed.specs.Rows.{readRulesC, writeRulesC}
+use Rattle.handed.proofs.Few.{few-blocks}
+use Rattle.door.specs.Door.{codeOf, InPlace}
 
 -- ---- numbers and places
 
@@ -60,24 +47,43 @@ unfolding blockRules Kept
 bounded-bytes s _ _ (this l e h) = (omega arith, omega arith)
 bounded-bytes s n p (later k m) = let f = bytes.few-blocks s (k 0 (omega arith)) in bounded (omega (arith, few-kinds)) n p m
 
-pub figures-small : (s room : List ℕ) {n p : ℕ} → figuresAnswer s room ≡ Broken n p → p < 1000
-figures-small s room e = bounded-then (rules s) (tooShort numbersRoom room ∷ []) (bounded-bytes s) (bounded (omega arith)) _ _ (ruling-least e) .1
-
 module _ (ed : ℕ) (lengths area : List ℕ) where
-  -- where 10 is kept, three blocks of a kind at most
-  pub few-blocks : Kept (rule 10 (suc kinds) (badAt ed lengths (length area))) → (filedLists (cut lengths area) .places ≤ 720) × (length (written ed (cut lengths area)) ≤ 30720)
-  unfolding Kept
-  few-blocks k =
-      let g = good ed lengths (length area) k in
-      let n = cut-lengths lengths area (omega (arith, g .all)) in
-      let f = good-few lengths (length area) g in
-      let b : blocksFrom 1 lengths ≤ 60 = omega (arith, few-kinds) in
-      (omega (arith, rw n at (places-from 1 (cut lengths area))), omega (arith, rw n at (length-written ed (cut lengths area))))
-
   pub bounded-lists : Bounded (listRules ed lengths area)
   unfolding listRules
   bounded-lists _ _ (this h e k) = (omega arith, omega (arith, few-kinds))
-  bounded-lists n p (later k m) = let f = few-blocks k .0 in bounded (omega arith) n p m
+  bounded-lists n p (later k m) = let f = few-blocks ed lengths area k .0 in bounded (omega arith) n p m
+
+-- ---- the functions
+
+module _ (s room : List ℕ) where
+  pub judge-bounded : Bounded (judgeRules s room)
+  judge-bounded = bounded-then (rules s) _ (bounded-bytes s) (bounded (omega arith))
+
+  pub figures-bounded : Bounded (figuresRules s room)
+  figures-bounded = bounded-then (rules s) _ (bounded-bytes s) (bounded (omega arith))
+
+  module _ (code : ℕ) where
+    pub subtotal-bounded : Bounded (subtotalRules s code room)
+    subtotal-bounded = bounded-then (rules s) _ (bounded-bytes s) (bounded (omega arith))
+
+    pub heaviest-bounded : Bounded (heaviestRulesC s code room)
+    heaviest-bounded = bounded-then (rules s) _ (bounded-bytes s) (bounded (omega arith))
+
+  pub read-bounded : (counts : List ℕ) → Bounded (readRulesC s room counts)
+  read-bounded counts = bounded-then (rules s) _ (bounded-bytes s) (bounded (omega (arith, few-kinds)))
+
+pub write-bounded : (ed : ℕ) (area lengths room size : List ℕ) → Bounded (writeRulesC ed area lengths room size)
+write-bounded ed area lengths room size = bounded-then (listRules ed lengths area) _ (bounded-lists ed lengths area) (bounded (omega arith))
+
+pub defaults-bounded : (room : List ℕ) → Bounded (tooShort 6 room ∷ [])
+defaults-bounded room = bounded (omega arith)
+
+means-in-place : {rs : List Rule} → Bounded rs → (v : Ruling) → Means rs v → InPlace v
+means-in-place b Clean m = tt
+means-in-place b (Broken n p) m = b n p m .1
+
+pub in-place : (rs : List Rule) → Bounded rs → InPlace (ruling rs)
+in-place rs b = means-in-place b (ruling rs) (ruling-means rs)
 
 -- ---- codes, back to the rules
 

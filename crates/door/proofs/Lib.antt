@@ -1,6 +1,1 @@
-mod Rooms
-mod Bits
 pub mod Codes
-pub mod Named
-mod Reading
-pub mod Writing

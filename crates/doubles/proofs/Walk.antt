@@ -1,52 +1,23 @@
--- The conversion rows of an accepted return, one after the other from the first record on. Assumes nothing.
+-- The conversion rows of a return, one after the other. Assumes nothing.
 --     counted                      there are as many as the counts say
---     standing                     row i: where it stands, and that its bytes are there
 --     onward-start, -next, -end    the loop that adds the rows up: where it begins, one row more, where it ends
 use mathlib.Core.Path.{_≡_, refl, sym, ap, _∙_}
 use mathlib.Core.List.{List, []}
-use Prim.Native.Nat.{ℕ, _+_, _/_, _%_, _<_, _≤_}
-use native.Mathlib.Nat.{zero-add, le-of-eq}
+use Prim.Native.Nat.{ℕ, _+_, _<_}
+use native.Mathlib.Nat.{le-of-eq}
 use native.Mathlib.Numerals.{add-one}
-use native.Mathlib.Omega.{arith}
 use lib.ListN.{length, getD, drop, drop-of-length-le}
 use lib.Seq.{drop-cons}
-use Rattle.form.specs.Layout.{conversion, rowAt}
-use Rattle.form.specs.Block.{recordAt}
-use Rattle.form.specs.Verdict.{rows, rowCount, verdictOf}
-use Rattle.form.specs.Standing.{startBlock}
+use Rattle.form.specs.Verdict.{rows, Formed}
 use Rattle.form.specs.declared.Counts.{Counts}
-use Rattle.form.specs.declared.Verdict.the-variants.{Accepted}
-use Rattle.form.proofs.EachKind.{one-kind}
-use Rattle.form.proofs.Accepted as form
+use Rattle.standing.proofs.Accepted.{rows-length, formed-counts}
 use Rattle.doubles.specs.Subtotals.{addRows, addAll}
 use Rattle.doubles.specs.Steps.{doublePartsOf, plusOf}
 use Rattle.doubles.specs.declared.Doubles.{Doubles}
 
--- where conversion row i stands
-abbrev placeOf : ℕ → ℕ
-placeOf i = recordAt (i / 12) (i % 12)
-
-pub record Stands (s : List ℕ) (i : ℕ) : Type 0 where
-  pub row : getD (rows 1 s) i [] ≡ rowAt conversion s (placeOf i)
-  pub inside : placeOf i + 40 ≤ length s
-
--- the kind comes first, so its first block is block 0
-place : (s : List ℕ) (i : ℕ) → recordAt (startBlock 1 s + i / 12) (i % 12) ≡ placeOf i
-unfolding startBlock
-place s i = rw (zero-add (i / 12))
-
-module _ (s : List ℕ) (c : Counts) (accepted : verdictOf s ≡ Accepted c) where
-  pub counted : length (rows 1 s) ≡ c .conversion
-  counted = form.rows-length s c accepted 1 ∙ sym (ap (λ (k : Counts). k .conversion) (form.accepted-counts s c accepted))
-
-  pub standing : (i : ℕ) → i < c .conversion → Stands s i
-  standing i h =
-      let l : i < rowCount 1 s = rw (← form.rows-length s c accepted 1, counted) h in
-      let row : getD (rows 1 s) i [] ≡ rowAt conversion s (placeOf i) = form.row-is s c accepted 1 i (omega arith) one-kind l ∙ ap (rowAt conversion s) (place s i) in
-      record {
-        row = row;
-        inside = rw (← place s i) (form.inside s c accepted 1 i (omega arith) one-kind l);
-      }
+-- there are as many conversion rows as the counts say
+pub counted : (s : List ℕ) (c : Counts) → Formed s c → length (rows 1 s) ≡ c .conversion
+counted s c acc = rows-length s c acc 1 ∙ sym (ap (λ (k : Counts). k .conversion) (formed-counts s c acc))
 
 -- subtotals of the first i rows, with the rows from i on added
 unfoldable pub onward : List (List ℕ) → ℕ → Doubles → Doubles

@@ -1,4 +1,4 @@
--- The doubles of 01, and the bound of its third demand. Read in this order.
+-- The doubles of 01. Read in this order. How near they are is the crate `nearness`.
 pub mod Double
 pub mod Subtotals
 pub mod Steps

@@ -45,10 +45,10 @@ module _ (s : List ℕ) where
     pub refused-text : explained s ≡ refusedLine n p ++ linesText (valueLines (reasonOf s n p))
     refused-text = ap explainedText refused-explained ∙ ap (λ (r : Ruling). refusedText r ++ linesText (valueLines (reasonOf s n p))) (reason-told s e)
 
-    pub refused-short : length (refusedLine n p) ≤ 14
+    pub refused-short : length (refusedLine n p) ≤ 15
     refused-short =
         let h = small s n p e in
-        omega (arith, refused-length n p, decimal-length 0 n (omega arith), decimal-length 2 p (omega (arith, few-kinds)))
+        omega (arith, refused-length n p, decimal-length 1 n (omega arith), decimal-length 2 p (omega (arith, few-kinds)))
 
   -- ---- whatever is explained
   by-ruling : (u : Ruling) → ruling (rules s) ≡ u → rulingOf (explainedBy s u) ≡ u

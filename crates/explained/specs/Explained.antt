@@ -1,4 +1,5 @@
--- §7: "A small tool takes a return and says, for a refusal, the number, the place and the values that clash." "For an accepted return and one of the three subtotals it names the row
+-- §7: "A small tool takes a return and says, for a refusal, the number, the place and the values that clash." "For an accepted return and one of the three
+-- subtotals it names the row
 -- with the largest exact part, the lower id on a tie, 'none' where the subtotal is zero."
 use Prim.Native.Nat.{ℕ}
 use mathlib.Core.Bool.{cond}
@@ -11,9 +12,11 @@ use Rattle.form.specs.declared.Ruling.the-variants.{Clean, Broken}
 use Rattle.heaviest.specs.Heaviest.{heaviestOf}
 use Rattle.heaviest.specs.declared.Weight.{Weight}
 use Rattle.heaviest.specs.declared.Weights.{Weights}
+use Rattle.phrases.specs.Ascii.{codes}
 use Rattle.phrases.specs.Lines.{Line, numberLine, refusedLine, linesText, filledIn, unsigned}
 use Rattle.reasons.specs.Reasons.{refusalOf, reasonOf}
-use Rattle.wording.specs.Wording.{wordLine, valueLines}
+use Rattle.naming.specs.RowLines.{wordLine}
+use Rattle.wording.specs.Wording.{valueLines}
 use Rattle.explained.specs.declared.Explanation.{Explanation}
 use Rattle.explained.specs.declared.Explanation.the-variants.{Accepted, Refused}
 
@@ -33,21 +36,20 @@ rulingOf (Refused r) = refusalOf r
 
 -- ---- the text
 
--- "heaviest_onsite" "heaviest_offsite" "heaviest_decay"
 abbrev pub onsiteName : List ℕ
-onsiteName = 104 ∷ 101 ∷ 97 ∷ 118 ∷ 105 ∷ 101 ∷ 115 ∷ 116 ∷ 95 ∷ 111 ∷ 110 ∷ 115 ∷ 105 ∷ 116 ∷ 101 ∷ []
+onsiteName = codes "heaviest_onsite"
 
 abbrev pub offsiteName : List ℕ
-offsiteName = 104 ∷ 101 ∷ 97 ∷ 118 ∷ 105 ∷ 101 ∷ 115 ∷ 116 ∷ 95 ∷ 111 ∷ 102 ∷ 102 ∷ 115 ∷ 105 ∷ 116 ∷ 101 ∷ []
+offsiteName = codes "heaviest_offsite"
 
 abbrev pub decayName : List ℕ
-decayName = 104 ∷ 101 ∷ 97 ∷ 118 ∷ 105 ∷ 101 ∷ 115 ∷ 116 ∷ 95 ∷ 100 ∷ 101 ∷ 99 ∷ 97 ∷ 121 ∷ []
+decayName = codes "heaviest_decay"
 
 -- "`heaviest_onsite ID` .. and then `heaviest_onsite_part VALUE`; where the subtotal is zero only `heaviest_onsite none`"
 abbrev pub weightLines : List ℕ → Weight → List Line
 weightLines name w =
-    cond (eqb (w .part) 0) (wordLine name (110 ∷ 111 ∷ 110 ∷ 101 ∷ []) ∷ [])
-    (numberLine name (w .id) ∷ numberLine (name ++ (95 ∷ 112 ∷ 97 ∷ 114 ∷ 116 ∷ [])) (w .part) ∷ [])
+    cond (eqb (w .part) 0) (wordLine name (codes "none") ∷ [])
+    (numberLine name (w .id) ∷ numberLine (name ++ codes "_part") (w .part) ∷ [])
 
 -- "for `onsite`, `offsite`, `decay` in this order"
 abbrev pub weightsLines : Weights → List Line

@@ -8,7 +8,7 @@ use form::Verdict;
 use heaviest::Weight;
 use heaviest::Weights;
 use heaviest::weigh_rows;
-use phrases::put_numbers;
+use phrases::put_lines;
 use phrases::put_refused;
 use phrases::text::put;
 use reasons::reason_of;
@@ -22,8 +22,8 @@ fn put_weight(none: &[u8], names: &[u8], w: Weight, out: &mut [u8], at: usize) -
     if w.part == 0 {
         return put(none, none.len(), out, at);
     }
-    let values = [w.id as u64, w.part];
-    put_numbers(names, &values, out, at)
+    let values = [0, 0, w.id as u64, 0, 0, w.part];
+    put_lines(names, &values, out, at)
 }
 
 // On site, off site, decayed.

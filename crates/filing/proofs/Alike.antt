@@ -4,16 +4,17 @@
 --     block-alike            one block; blocks-behind, the blocks of records behind others
 use Prim.Native.Nat.{ℕ, zero, suc, _+_, _-_, _*_, _<_, _≤_}
 use mathlib.Core.Path.{_≡_, refl, sym, ap₂, _∙_}
-use mathlib.Core.Bool.{true, cond}
-use mathlib.Core.List.{List, _++_, append-assoc}
+use mathlib.Core.Bool.{Bool, true, false, cond, _&&_}
+use mathlib.Core.List.{List, [], _∷_, _++_, append-assoc}
+use lib.Dec.{eqb}
 use native.Mathlib.Nat.{add-zero, zero-add, suc-add, add-assoc}
 use native.Mathlib.Decide.{decLt}
 use native.Mathlib.Omega.{arith}
 use borrow.Author.Tests.{lt-ltb, le-ltb}
 use Rattle.form.specs.Layout.{layout}
-use Rattle.form.specs.Records.{Filed}
+use Rattle.form.specs.Records.{Filed, rowsBelow}
 use Rattle.filing.specs.Lists.{behind}
-use Rattle.filing.proofs.Choice.{either}
+use Rattle.form.proofs.Tests.{either}
 use Rattle.filing.specs.Written.{zeros, recordOf, inTurn, recordOn, usedFrom, bodyOf, blockOf}
 
 -- ---- one after the other
@@ -124,3 +125,15 @@ module _ (f g : Filed) where
       (λ k l. block-alike ed (0 + k) (0 + k) start start n (alike-part front-alike (12 * (0 + k)) 12 (omega arith) (omega arith) (omega arith)) refl))
       (turn-same h (blockOf ed g (start + a) n) (0 + a) 0 b
       (λ k l. block-alike ed (0 + a + k) (0 + k) start (start + a) n (alike-part (back-alike (12 * (0 + k) + 12)) (12 * (0 + k)) 12 (omega arith) (omega arith) (omega arith)) (omega arith)))
+
+-- ---- trial: the rows of a kind among alike places are the same rows
+pub rows-alike : {f g : Filed} (k n : ℕ) → ((j : ℕ) → j < n → Same f j g j) → rowsBelow f k n ≡ rowsBelow g k n
+unfolding rowsBelow
+rows-alike k zero h = refl
+rows-alike {f} {g} k (suc n) h =
+    let s = h n (omega arith) in
+    ap₂ (λ (x y : List (List ℕ)). x ++ y) (rows-alike k n (λ j l. h j (omega arith))) (one (f .used n) (g .used n) (s .used) (s .row))
+  where
+    one : (b d : Bool) → b ≡ d → (b ≡ true → f .row n ≡ g .row n) → cond (b && eqb (f .kind n) k) (f .row n ∷ []) [] ≡ cond (d && eqb (g .kind n) k) (g .row n ∷ []) []
+    one true d e r = rw (← e, r refl, h n (omega arith) .kind)
+    one false d e r = rw (← e)

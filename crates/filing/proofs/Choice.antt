@@ -1,16 +1,11 @@
--- A choice by a test, and tests that fail or hold together. Assumes nothing.
+-- Tests that fail or hold together. Assumes nothing.
 use Prim.Native.Nat.{ℕ, _<_, _≤_}
 use mathlib.Core.Path.{_≡_, refl, sym, ap, ap₂, _∙_}
-use mathlib.Core.Bool.{Bool, true, false, cond, not, _&&_, _||_}
+use mathlib.Core.Bool.{Bool, true, false, not, _&&_, _||_}
 use native.Mathlib.Decide.{decLt}
 use native.Mathlib.Omega.{arith}
 use lib.Dec.{ltb}
 use borrow.Author.Tests.{lt-ltb, le-ltb}
-
--- what holds of both holds of the choice
-pub either : {A : Type 0} (P : A → Type 0) (b : Bool) {x y : A} → (b ≡ true → P x) → (b ≡ false → P y) → P (cond b x y)
-either P true h g = h refl
-either P false h g = g refl
 
 -- two tests that fail
 pub or-of : {a b : Bool} → a ≡ false → b ≡ false → (a || b) ≡ false

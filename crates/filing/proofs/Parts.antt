@@ -15,7 +15,7 @@ use Rattle.filing.specs.Lists.{rowsIn, filedList}
 use Rattle.filing.specs.Written.{zeros, recordOf, inTurn, headOf, sealed, recordOn, usedFrom, bodyOf, blockOf}
 use Rattle.form.specs.Bytes.{littleEndian}
 use Rattle.filing.specs.Tables.{rowOn}
-use Rattle.filing.proofs.Choice.{either}
+use Rattle.form.proofs.Tests.{either}
 use Rattle.filing.proofs.Stands.{length-le, length-zeros, length-record}
 use Rattle.filing.proofs.Stores.{sets-then, sets-read, length-turns}
 use Rattle.form.proofs.Fields.{ends-40}

@@ -10,7 +10,7 @@ use lib.Dec.{ltb, eqb}
 use Rattle.form.specs.Block.{longest, edition, badLength}
 use Rattle.form.specs.Ruling.{ruling}
 use Rattle.form.specs.Records.{filed, recordRules}
-use Rattle.form.specs.Verdict.{blockRules, rules}
+use Rattle.form.specs.Verdict.{blockRules, formRules}
 use Rattle.form.specs.declared.Ruling.the-variants.{Clean}
 use Rattle.form.proofs.Tests.{all-fail, same-of}
 use Rattle.form.proofs.EachKind.{few-kinds}
@@ -41,7 +41,7 @@ pub block-lengths : (s : List ℕ) → ruling (blockRules s) ≡ Clean → lengt
 block-lengths s e = short s (length-kept s (ruling-clean e))
 
 -- where all rules are kept, those of the blocks are
-pub clean-length : (s : List ℕ) → ruling (rules s) ≡ Clean → (8 ≤ length s) × (length s < 2 ^ 24)
+pub clean-length : (s : List ℕ) → ruling (formRules s) ≡ Clean → (8 ≤ length s) × (length s < 2 ^ 24)
 clean-length s e =
     let f = length-kept s (ruling-clean (or-clean _ _ (sym (ruling-append (blockRules s) (recordRules (edition s 0) (filed s))) ∙ e))) in
     (some-bytes s f, short s f)

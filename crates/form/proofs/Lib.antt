@@ -8,10 +8,7 @@ pub mod Fields
 pub mod Tables
 pub mod Counting
 pub mod Places
+pub mod Numbered
 pub mod Lengths
-pub mod Stand
-pub mod StandRows
-pub mod Accepted
 pub mod Meaning
-pub mod FirstEdition
 pub mod Periods

@@ -4,16 +4,19 @@
 --     one-broken, one-kept    a rule of one place; too-short, long-enough, the last rule, the room itself
 --     ruling-least      what it refuses is broken there, at no lower place, and no earlier rule is broken anywhere; least-ruling, the other way
 --     ruling-clean      where it is clean, no rule is broken anywhere; clean-ruling, the other way
+--     kept-of, least-of the rule with a number, of rules that are all kept, and of rules of which it is the first broken one; least-has, which is among them
 --     same-ruling       an answer from which its ruling can be found again is one ruling's alone
 use Prim.Native.Nat.{ℕ, _≤_, _<_}
 use mathlib.Core.Path.{_≡_, refl, sym, ap, subst, _∙_}
-use mathlib.Core.Bool.{Bool, true, false}
+use mathlib.Core.Bool.{Bool, true, false, cond, not, _&&_, _||_, or-true}
 use mathlib.Core.List.{List, [], _∷_, _++_}
 use native.Mathlib.Omega.{arith}
-use borrow.Author.Tests.{lt-ltb, le-ltb}
+use borrow.Author.Tests.{lt-ltb, le-ltb, eq-eqb, not-true}
+use lib.Dec.{eqb}
 use lib.ListN.{length}
 use Rattle.form.specs.First.{first}
 use Rattle.form.specs.Ruling.{Rule, rule, tooShort, refuse, ruling}
+use Rattle.form.proofs.Tests.{and-true, or-none, either}
 use Rattle.form.proofs.Search.{first-zero, first-more, first-found, first-at, first-none, first-is, first-is-none}
 use Rattle.form.specs.declared.Spot.{Spot}
 use Rattle.form.specs.declared.Spot.the-variants.{At, Nowhere}
@@ -127,6 +130,50 @@ pub clean-ruling : {rs : List Rule} → AllKept rs → ruling rs ≡ Clean
 unfolding Kept ruling
 clean-ruling none = refl
 clean-ruling (more {r} {rs} h m) = sym (kept r rs (first-is-none (r .broken) _ h) (sym (clean-ruling m)))
+
+pub append-kept : (xs ys : List Rule) → AllKept (xs ++ ys) → AllKept xs × AllKept ys
+append-kept [] ys a = (none, a)
+append-kept (x ∷ xs) ys (more h a) = let r = append-kept xs ys a in (more h (r .0), r .1)
+
+-- ---- a rule is found by its number
+-- the first rule of a list that has it; where none has, a rule of no place
+abbrev pub ruleOf : ℕ → List Rule → Rule
+ruleOf n [] = rule n 0 (λ p. false)
+ruleOf n (r ∷ rs) = cond (eqb (r .number) n) r (ruleOf n rs)
+
+pub kept-of : (n : ℕ) {rs : List Rule} → AllKept rs → Kept (ruleOf n rs)
+unfolding Kept
+kept-of n none = λ k l. refl
+kept-of n (more {r} {rs} h a) = let k = kept-of n a in either Kept (eqb (r .number) n) (λ q. h) (λ q. k)
+
+-- some rule has the number; and no two rules have the same one
+abbrev pub has : ℕ → List Rule → Bool
+has n [] = false
+has n (r ∷ rs) = eqb n (r .number) || has n rs
+
+abbrev pub apart : List Rule → Bool
+apart [] = true
+apart (r ∷ rs) = not (has (r .number) rs) && apart rs
+
+-- a place where a rule is broken, and at no lower one
+pub record BrokenAt (r : Rule) (p : ℕ) : Type 0 where
+  pub inside : p < r .places
+  pub broken : r .broken p ≡ true
+  pub lowest : (k : ℕ) → k < p → r .broken k ≡ false
+
+another : (x : ℕ) {n p : ℕ} {rs : List Rule} → Least rs n p → has x rs ≡ false → eqb x n ≡ false
+another x (this {r} {rs} l e k) h = or-none (eqb x (r .number)) (has x rs) h .0
+another x (later {r} {rs} k m) h = another x m (or-none (eqb x (r .number)) (has x rs) h .1)
+
+pub least-has : {n p : ℕ} {rs : List Rule} → Least rs n p → has n rs ≡ true
+least-has (this {r} {rs} l e k) = ap (λ (b : Bool). b || has (r .number) rs) (eq-eqb (r .number) (r .number) refl)
+least-has {n} (later {r} {rs} k m) = ap (λ (b : Bool). eqb n (r .number) || b) (least-has m) ∙ or-true (eqb n (r .number))
+
+pub least-of : {rs : List Rule} {n p : ℕ} → apart rs ≡ true → Least rs n p → BrokenAt (ruleOf n rs) p
+least-of a (this {r} {rs} l e k) = rw (eq-eqb (r .number) (r .number) refl) (record { inside = l; broken = e; lowest = k })
+least-of a (later {r} {rs} k m) =
+    let b = and-true (not (has (r .number) rs)) (apart rs) a in
+    rw (another (r .number) m (not-true _ (b .0))) (least-of (b .1) m)
 
 -- an answer made of a ruling, from which the ruling can be found again, is one ruling's alone
 module _ {X : Type 0} (g : Ruling → X) (back : X → Ruling) (clean : back (g Clean) ≡ Clean) (broken : (n p : ℕ) → back (g (Broken n p)) ≡ Broken n p) where

@@ -3,7 +3,7 @@
 --     and-true        `a && b` holds: both hold; and-rest, it fails and a holds: b fails; or-none, `a || b` fails: both fail
 --     all-fail        a chain of `||` fails: each of its tests fails; same-of, by a test that two numbers differ
 --     guarded         of `a && b`: the second part by what the first says
---     taken, left     of a choice: by a test that holds, by one that fails
+--     taken, left     of a choice: by a test that holds, by one that fails; either, what holds of both
 use Prim.Native.Nat.{ℕ}
 use mathlib.Core.Path.{_≡_, refl, sym, ap, _∙_}
 use mathlib.Core.Bool.{Bool, true, false, cond, not, _&&_, _||_, true≢false, false≢true}
@@ -49,6 +49,11 @@ same-of a b e = eqb-true a b (not-false (eqb a b) e)
 pub guarded : (a : Bool) {x y : Bool} → (a ≡ true → x ≡ y) → (a && x) ≡ (a && y)
 guarded true h = h refl
 guarded false h = refl
+
+-- what holds of both holds of the choice
+pub either : {A : Type 0} (P : A → Type 0) (b : Bool) {x y : A} → (b ≡ true → P x) → (b ≡ false → P y) → P (cond b x y)
+either P true h g = h refl
+either P false h g = g refl
 
 module _ {A : Type 0} {b : Bool} where
   pub taken : {x r : A} (y : A) → b ≡ true → r ≡ x → r ≡ cond b x y

@@ -7,6 +7,7 @@ pub mod Edition
 pub mod Block
 pub mod Adding
 pub mod Records
+pub mod Sums
 pub mod Verdict
 pub mod Standing
 pub mod Computed

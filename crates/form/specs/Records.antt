@@ -135,6 +135,10 @@ module _ (f : Filed) where
   rowsBelow k zero = []
   rowsBelow k (suc n) = rowsBelow k n ++ cond (f .used n && eqb (f .kind n) k) (f .row n ∷ []) []
 
+-- the rows of a kind, in order
+abbrev pub filedRows : Filed → ℕ → List (List ℕ)
+filedRows f k = rowsBelow f k (f .places)
+
 -- a rule of one row, over all places
 abbrev pub overPlaces : ℕ → Filed → List RowRule → List Rule
 overPlaces edition f [] = []
@@ -157,3 +161,16 @@ testNumbered n = numbered n rowRules
 -- the test of 5, or of the rule of one row that has a number, at a place
 abbrev pub testOf : ℕ → ℕ → Filed → ℕ → Bool
 testOf n edition f j = cond (eqb n 5) (badId f j) (brokenBy f edition (testNumbered n) j)
+
+-- the numbers of the rules of records, in the paper's order
+abbrev pub numbersIn : List RowRule → List ℕ
+numbersIn [] = []
+numbersIn (q ∷ qs) = q .number ∷ numbersIn qs
+
+abbrev pub recordNumbers : List ℕ
+recordNumbers = 5 ∷ numbersIn rowRules
+
+-- the rules that have some numbers, over all places
+abbrev pub byNumber : ℕ → Filed → List ℕ → List Rule
+byNumber edition f [] = []
+byNumber edition f (n ∷ ns) = rule n (f .places) (testOf n edition f) ∷ byNumber edition f ns

@@ -1,8 +1,8 @@
 -- "Each number is tried over the whole input before the next, and the lowest place is given."
 use Prim.Native.Nat.{ℕ}
 use mathlib.Core.Bool.{Bool}
-use mathlib.Core.List.{List, [], _∷_}
-use lib.ListN.{length}
+use mathlib.Core.List.{List, [], _∷_, _++_}
+use lib.ListN.{length, drop}
 use lib.Dec.{ltb}
 use Rattle.form.specs.First.{first}
 use Rattle.form.specs.declared.Spot.{Spot}
@@ -22,6 +22,10 @@ rule n m p = record { number = n; places = m; broken = p }
 -- 9: "lent room too short", for n elements; place 0
 abbrev pub tooShort : ℕ → List ℕ → Rule
 tooShort n room = rule 9 1 (λ p. ltb (length room) n)
+
+-- what room that is long enough holds then: exactly these "at the front; later elements keep their values"
+abbrev pub onFront : List ℕ → List ℕ → List ℕ
+onFront x room = x ++ drop (length x) room
 
 abbrev pub refuse : ℕ → Spot → Ruling → Ruling
 refuse n (At i) rest = Broken n i

@@ -1,12 +1,14 @@
 -- "Reading: 1 to 9. Sheets and doubles: 1 to 8": the rules of the bytes alone in the paper's order, the row counts, and the verdict.
 use Prim.Native.Nat.{ℕ, zero, suc, _+_}
+use mathlib.Core.Path.{_≡_}
 use mathlib.Core.Bool.{cond}
 use mathlib.Core.List.{List, [], _∷_, _++_}
 use lib.ListN.{getD}
 use lib.Dec.{eqb}
 use Rattle.form.specs.Ruling.{Rule, rule, ruling}
 use Rattle.form.specs.Block.{blocks, kindOf, countOf, edition, badLength, badCheck, badHeader, badBlock}
-use Rattle.form.specs.Records.{filed, recordRules, rowsBelow}
+use Rattle.form.specs.Records.{filed, filedRows, recordRules}
+use Rattle.form.specs.Sums.{sumRules}
 use Rattle.form.specs.declared.Counts.{Counts}
 use Rattle.form.specs.declared.Ruling.{Ruling}
 use Rattle.form.specs.declared.Ruling.the-variants.{Clean, Broken}
@@ -21,8 +23,13 @@ blockRules s =
     ∷ rule 4 (blocks s) (badBlock s)
     ∷ []
 
+-- 1 to 7, what a block or a row says by itself: a return that keeps these has its rows where the counts say, each within its limits
+abbrev pub formRules : List ℕ → List Rule
+formRules s = blockRules s ++ recordRules (edition s 0) (filed s)
+
+-- and behind them what the rows add up to
 abbrev pub rules : List ℕ → List Rule
-rules s = blockRules s ++ recordRules (edition s 0) (filed s)
+rules s = formRules s ++ sumRules (filed s)
 
 -- the sum of the counts of a kind's blocks, among the first n
 unfoldable pub countBelow : ℕ → List ℕ → ℕ → ℕ
@@ -62,12 +69,17 @@ countIn c kind = getD (0 ∷ countList c) kind 0
 
 -- the rows of a kind, in order
 abbrev pub rows : ℕ → List ℕ → List (List ℕ)
-rows k s = rowsBelow (filed s) k (filed s .places)
+rows k s = filedRows (filed s) k
 
 -- "its answer, or one refusal number with its place"
 abbrev pub verdictBy : List ℕ → Ruling → Verdict
 verdictBy s Clean = Accepted (countsOf s)
 verdictBy s (Broken n p) = Refused n p
+
+-- a return that can be read row by row: no rule is broken but perhaps one that adds rows up, and these are the counts
+pub record Formed (s : List ℕ) (c : Counts) : Type 0 where
+  pub clean : ruling (formRules s) ≡ Clean
+  pub counts : c ≡ countsOf s
 
 unfoldable pub verdictOf : List ℕ → Verdict
 verdictOf s = verdictBy s (ruling (rules s))

@@ -4,12 +4,12 @@ pub mod layout;
 ghost use mathlib.Core.Path.{_≡_};
 ghost use mathlib.Core.Bool.{cond};
 ghost use Prim.Native.Nat.{_+_, _*_, _/_, _%_, _^_, _≤_, _<_};
-ghost use lib.ListN.{length};
+ghost use lib.ListN.{length, getD};
 ghost use lib.Dec.{eqb};
 ghost use Rattle.form.specs.Bytes.{byteAt, number, strayIn};
 ghost use Rattle.form.specs.Edition.{lastKind};
 ghost use Rattle.form.specs.Block.{recordAt, checkDue};
-ghost use Rattle.form.specs.Records.{countedDifference};
+ghost use Rattle.form.specs.Records.{countedDifference, recordNumbers};
 ghost use Rattle.form.specs.Verdict.{countIn};
 ghost use Rattle.form.specs.Standing.{blocksFor, firstBlock};
 ghost use Rattle.form.specs.Steps.{Few};
@@ -23,6 +23,9 @@ pub const PARAMETERS: usize = 4;
 pub const MOST_BLOCKS: usize = 3 * (KINDS - 1) + 1;
 
 pub const LONGEST: usize = 512 * MOST_BLOCKS;
+
+// How many rules of records there are.
+pub const RECORD_RULES: usize = 3;
 
 // A field of a record: the zero bytes before it, its width in bytes, and its limit.
 pub struct Field {
@@ -194,4 +197,16 @@ pub fn row_start(first: usize, i: usize) -> usize
     ensures { λ r. ⌜ r ≡ recordAt (first + i / 12) (i % 12) ⌝ }
 {
     512 * first + 8 + 40 * i + 32 * (i / 12)
+}
+
+// The number of a rule of records, in the paper's order. A new rule of one row is a new line.
+pub fn record_rule(i: usize) -> u8
+    requires { ⌜ i < length recordNumbers ⌝ }
+    ensures { λ r. ⌜ r ≡ getD recordNumbers i 0 ⌝ }
+{
+    match i {
+        0 => 5,
+        1 => 6,
+        _ => 7,
+    }
 }

@@ -18,9 +18,11 @@ use Rattle.form.specs.declared.Counts.{Counts}
 use Rattle.form.specs.declared.Verdict.the-variants as verdict
 use Rattle.form.proofs.Order.{ruled-before, kept-before, one-broken, one-kept}
 use Rattle.form.proofs.Meaning.{refused-ruling}
-use Rattle.form.proofs.Accepted.{accepted-ruling}
-use Rattle.totals.specs.Columns.{sumOf, onsitePart, offsitePart, decayPart}
-use Rattle.heaviest.specs.Heaviest.{partBy, heaviestBy, namedOf, wrongCode, heaviestRules, namedBy, heaviestAnswer}
+use Rattle.standing.proofs.Accepted.{accepted-ruling, formed}
+use Rattle.form.specs.Sums.{sumOf}
+use Rattle.totals.specs.Columns.{onsitePart, offsitePart, decayPart}
+use Rattle.totals.specs.Codes.{wrongCode}
+use Rattle.heaviest.specs.Heaviest.{partBy, heaviestBy, namedOf, heaviestRules, namedBy, heaviestAnswer}
 use Rattle.heaviest.specs.Largest.{Weighs}
 use Rattle.heaviest.specs.declared.Weight.{Weight}
 use Rattle.heaviest.specs.declared.Named.the-variants.{Row, None, Refused}
@@ -74,7 +76,7 @@ module _ (s : List ℕ) (code : ℕ) where
     pub row-weighs : code ≤ 2 → {i p : ℕ} → heaviestAnswer s code ≡ Row i p → (0 < p) × Weighs s (partBy code) (record { id = i; part = p })
     row-weighs h e =
         let n = named-row (heaviestBy code s) (sym (named-answer h) ∙ e) in
-        (n .0, subst (Weighs s (partBy code)) (n .1) (heaviest-weighs s c acc (partBy code)))
+        (n .0, subst (Weighs s (partBy code)) (n .1) (heaviest-weighs s c (formed s c acc) (partBy code)))
 
     pub none-at-zero : code ≤ 2 → (heaviestAnswer s code ≡ None) ↔ (sumOf (partBy code) (rows 1 s) ≡ 0)
     none-at-zero h =

@@ -16,10 +16,10 @@ use borrow.Author.Tests.{lt-ltb, le-ltb}
 use lib.ListN.{length, take, getD}
 use lib.Seq.{take-all}
 use Rattle.form.specs.Records.{idOf}
-use Rattle.form.specs.Verdict.{rows, verdictOf}
+use Rattle.form.specs.Verdict.{rows, Formed}
 use Rattle.form.specs.declared.Counts.{Counts}
-use Rattle.form.specs.declared.Verdict.the-variants.{Accepted}
-use Rattle.totals.specs.Columns.{sumOf, onsitePart, offsitePart, decayPart}
+use Rattle.form.specs.Sums.{sumOf}
+use Rattle.totals.specs.Columns.{onsitePart, offsitePart, decayPart}
 use Rattle.totals.proofs.Sums.{sum-next, sum-le, sum-below}
 use Rattle.heaviest.specs.Heaviest.{noWeight, heavier, heavierOf, heaviestIn, heaviestOf}
 use Rattle.heaviest.specs.Largest.{OneOf, Weighs}
@@ -113,7 +113,7 @@ module _ (rs : List (List ℕ)) (f : List ℕ → ℕ) where
       go e (inl q) = ap (λ (x : Weight). x .part) q
       go e (inr o) = omega (arith, in-sum (o .index) (o .seen))
 
-module _ (s : List ℕ) (c : Counts) (acc : verdictOf s ≡ Accepted c) where
+module _ (s : List ℕ) (c : Counts) (acc : Formed s c) where
   pub heaviest-weighs : (f : List ℕ → ℕ) → Weighs s f (heaviestIn f (rows 1 s))
   heaviest-weighs f = record {
     is-row = heaviest-is-row (rows 1 s) f;

@@ -11,15 +11,13 @@ use lib.ListN.{length, getD}
 use Rattle.form.specs.Layout.{kinds}
 use Rattle.form.specs.Block.{blocks}
 use Rattle.form.specs.Records.{Filed, filed, hasId, idOf, badId}
-use Rattle.form.specs.Verdict.{blockRules, rules, rowCount, rows, verdictOf}
+use Rattle.form.specs.Verdict.{rowCount, rows, Formed}
 use Rattle.form.specs.Standing.{startBlock, startPlace}
 use Rattle.form.specs.declared.Counts.{Counts}
-use Rattle.form.specs.declared.Verdict.the-variants.{Accepted}
 use Rattle.form.proofs.Tests.{and-rest}
-use Rattle.form.proofs.Order.{AllKept, Kept, more, ruling-clean}
-use Rattle.form.proofs.Stand.{lying}
-use Rattle.form.proofs.StandRows.{from-at}
-use Rattle.form.proofs.Accepted.{accepted-ruling, in-order, rows-are, rows-length}
+use Rattle.standing.proofs.Stand.{lying}
+use Rattle.standing.proofs.StandRows.{from-at}
+use Rattle.standing.proofs.Accepted.{in-order, rows-are, rows-length, id-kept}
 
 -- a record that keeps rule 5, and the one a place lower, of the same kind
 above : (f : Filed) (j : ℕ) → badId f (suc j) ≡ false → f .used (suc j) ≡ true → hasId (f .kind (suc j)) ≡ true → f .kind j ≡ f .kind (suc j)
@@ -29,15 +27,7 @@ above f j e u h k =
     let lower : suc j - 1 ≡ j = omega arith in
     leb-false _ _ (and-rest _ _ (eq-eqb _ _ k) (rw lower at (and-rest _ _ (lt-ltb 0 (suc j) (omega arith)) (and-rest _ _ h (and-rest _ _ u e)))))
 
-module _ (s : List ℕ) (c : Counts) (acc : verdictOf s ≡ Accepted c) where
-  -- rule 5 is broken at no place
-  id-kept : (j : ℕ) → j < 12 * blocks s → badId (filed s) j ≡ false
-  unfolding blockRules Kept
-  id-kept = go (ruling-clean (accepted-ruling s c acc))
-    where
-      go : AllKept (rules s) → (j : ℕ) → j < 12 * blocks s → badId (filed s) j ≡ false
-      go (more h₁ (more h₂ (more h₃ (more h₄ (more h₅ rest))))) = h₅
-
+module _ (s : List ℕ) (c : Counts) (acc : Formed s c) where
   module _ (k : ℕ) (id : hasId k ≡ true) where
     -- row i, by its place
     placed : (i : ℕ) → i < rowCount k s → getD (rows k s) i [] ≡ filed s .row (startPlace k s + i)
@@ -57,7 +47,7 @@ module _ (s : List ℕ) (c : Counts) (acc : verdictOf s ≡ Accepted c) where
         let used : filed s .used (suc (12 * b + i)) ≡ true = rw (block, position) (lt-ltb _ _ (q .used)) in
         let same : filed s .kind (12 * b + i) ≡ k = rw lower (p .kind) in
         rw (placed i (omega arith), placed (suc i) l, higher)
-        (above (filed s) (12 * b + i) (id-kept (suc (12 * b + i)) (omega arith)) used (ap hasId kind ∙ id) (same ∙ sym kind))
+        (above (filed s) (12 * b + i) (id-kept s c acc (suc (12 * b + i)) (omega arith)) used (ap hasId kind ∙ id) (same ∙ sym kind))
 
     pub ids-rise : (i j : ℕ) → i < j → j < length (rows k s) → idOf (getD (rows k s) i []) < idOf (getD (rows k s) j [])
     ids-rise i zero l h = absurd (omega arith)

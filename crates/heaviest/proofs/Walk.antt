@@ -19,7 +19,7 @@ use Rattle.form.proofs.Tables.{id-number}
 use Rattle.totals.specs.Columns.{onsitePart, offsitePart, decayPart}
 use Rattle.totals.specs.Sums.{partsOf}
 use Rattle.totals.specs.declared.Parts.{Parts}
-use Rattle.totals.proofs.Accepted.{Stands}
+use Rattle.standing.proofs.Rows.{Stands}
 use Rattle.heaviest.specs.Heaviest.{noWeight, heavier, heavierOf, heaviestFrom, heaviestIn, partBy, heaviestBy, heavierThree, heaviestRows, heaviestOf, weightBy}
 use Rattle.heaviest.specs.declared.Weight.{Weight}
 use Rattle.heaviest.specs.declared.Weights.{Weights}

@@ -4,12 +4,13 @@ use Prim.Native.Nat.{ℕ}
 use mathlib.Core.Bool.{cond}
 use mathlib.Core.List.{List, [], _∷_, _++_}
 use lib.Dec.{ltb, eqb}
-use Rattle.form.specs.Ruling.{Rule, rule, ruling}
+use Rattle.form.specs.Ruling.{Rule, ruling}
 use Rattle.form.specs.Records.{idOf}
 use Rattle.form.specs.Verdict.{rules, rows}
 use Rattle.form.specs.declared.Ruling.{Ruling}
 use Rattle.form.specs.declared.Ruling.the-variants.{Clean, Broken}
 use Rattle.totals.specs.Columns.{onsitePart, offsitePart, decayPart}
+use Rattle.totals.specs.Codes.{byCode, wrongCode}
 use Rattle.totals.specs.declared.Parts.{Parts}
 use Rattle.heaviest.specs.declared.Weight.{Weight}
 use Rattle.heaviest.specs.declared.Weights.{Weights}
@@ -37,9 +38,9 @@ heaviestFrom f best (r ∷ rs) = heaviestFrom f (heavierOf f best r) rs
 abbrev pub heaviestIn : (List ℕ → ℕ) → List (List ℕ) → Weight
 heaviestIn f rs = heaviestFrom f noWeight rs
 
--- "one of the three subtotals", by its code: 0 on-site, 1 off-site, 2 decay
+-- "one of the three subtotals", by its code
 unfoldable pub partBy : ℕ → List ℕ → ℕ
-partBy code r = cond (eqb code 0) (onsitePart r) (cond (eqb code 1) (offsitePart r) (decayPart r))
+partBy code r = byCode code (onsitePart r) (offsitePart r) (decayPart r)
 
 -- its heaviest row in a return
 abbrev pub heaviestBy : ℕ → List ℕ → Weight
@@ -49,10 +50,7 @@ heaviestBy code s = heaviestIn (partBy code) (rows 1 s)
 unfoldable pub namedOf : Weight → Named
 namedOf w = cond (eqb (w .part) 0) named.None (named.Row (w .id) (w .part))
 
--- "Refusals: those of the sheets, then 11 for a subtotal's code above 2", place 0
-abbrev pub wrongCode : ℕ → Rule
-wrongCode code = rule 11 1 (λ p. ltb 2 code)
-
+-- "Refusals: those of the sheets, then 11 for a subtotal's code above 2"
 abbrev pub heaviestRules : List ℕ → ℕ → List Rule
 heaviestRules s code = rules s ++ (wrongCode code ∷ [])
 
@@ -81,4 +79,4 @@ heaviestOf s = heaviestRows (rows 1 s)
 
 -- one of them, by its code
 abbrev pub weightBy : ℕ → Weights → Weight
-weightBy code t = cond (eqb code 0) (t .onsite) (cond (eqb code 1) (t .offsite) (t .decay))
+weightBy code t = byCode code (t .onsite) (t .offsite) (t .decay)

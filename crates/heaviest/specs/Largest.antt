@@ -6,7 +6,7 @@ use mathlib.Core.List.{List, []}
 use lib.ListN.{length, getD}
 use Rattle.form.specs.Records.{idOf}
 use Rattle.form.specs.Verdict.{rows}
-use Rattle.totals.specs.Columns.{sumOf}
+use Rattle.form.specs.Sums.{sumOf}
 use Rattle.heaviest.specs.declared.Weight.{Weight}
 
 -- one of some rows has this id and, by f, this part

@@ -1,7 +1,6 @@
 // The row that weighs most in each of the three carbon subtotals, from the caller's own bytes.
 ghost use mathlib.Core.Path.{_≡_};
-ghost use Rattle.form.specs.Verdict.{verdictOf};
-ghost use Rattle.form.specs.declared.Verdict.the-variants.{Accepted};
+ghost use Rattle.form.specs.Verdict.{Formed};
 ghost use Rattle.heaviest.specs.Heaviest.{heavier, heavierThree, heaviestOf, weightBy, namedOf, heaviestAnswer};
 use form::Counts;
 use form::Verdict;
@@ -53,7 +52,7 @@ fn weigh(best: Weights, id: u32, p: Parts) -> Weights
 
 // One pass over the rows for all three: a row's parts are worked out once.
 pub fn weigh_rows(bytes: &[u8], c: Counts) -> Weights
-    requires { ⌜ verdictOf (now bytes) ≡ Accepted c ⌝ }
+    requires { ⌜ Formed (now bytes) c ⌝ }
     ensures { λ r. ⌜ r ≡ heaviestOf (now (bytes .entry)) ⌝ }
 {
     let n = c.conversion as usize;

@@ -5,12 +5,14 @@ ghost use lib.ListN.{length};
 ghost use Rattle.form.specs.Ruling.{ruling};
 ghost use Rattle.form.specs.Block.{edition};
 ghost use Rattle.form.specs.Records.{filed, recordRules};
-ghost use Rattle.form.specs.Verdict.{blockRules, rules, rowCount, countsOf, verdictOf};
+ghost use Rattle.form.specs.Verdict.{blockRules, formRules, rowCount, countsOf, verdictOf};
 use form::Counts;
+use form::RECORD_RULES;
 use form::Ruling;
 use form::Spot;
 use form::Verdict;
 use form::byte_at;
+use form::record_rule;
 use form::two_at;
 use form::where_same;
 
@@ -39,29 +41,26 @@ fn rule_blocks(bytes: &[u8]) -> Ruling
     Ruling::Clean
 }
 
-// Rules 5 to 7. A new rule of one row is a new pair of lines, where the list of rules has it.
+// Rules 5 to 7, by their numbers.
 fn rule_records(bytes: &[u8]) -> Ruling
     requires { ⌜ length (now bytes) < 2 ^ 24 ⌝ }
     ensures { λ r. ⌜ r ≡ ruling (recordRules (edition (now (bytes .entry)) 0) (filed (now (bytes .entry)))) ⌝ }
 {
-    let id = records::first_broken(bytes, 5);
-    if let Spot::At(place) = id {
-        return Ruling::Broken { number: 5, place };
-    }
-    let field = records::first_broken(bytes, 6);
-    if let Spot::At(place) = field {
-        return Ruling::Broken { number: 6, place };
-    }
-    let fractions = records::first_broken(bytes, 7);
-    if let Spot::At(place) = fractions {
-        return Ruling::Broken { number: 7, place };
+    let mut i: usize = 0;
+    while i < RECORD_RULES {
+        let number = record_rule(i);
+        let spot = records::first_broken(bytes, number as u32);
+        if let Spot::At(place) = spot {
+            return Ruling::Broken { number, place };
+        }
+        i += 1;
     }
     Ruling::Clean
 }
 
-// The paper's order: the blocks whole before the records.
-fn rule_all(bytes: &[u8]) -> Ruling
-    ensures { λ r. ⌜ r ≡ ruling (rules (now (bytes .entry))) ⌝ }
+// Rules 1 to 7, in the paper's order: the blocks whole before the records.
+fn rule_form(bytes: &[u8]) -> Ruling
+    ensures { λ r. ⌜ r ≡ ruling (formRules (now (bytes .entry))) ⌝ }
 {
     let blocks = rule_blocks(bytes);
     if let Ruling::Broken { number, place } = blocks {
@@ -101,11 +100,11 @@ fn count_rows(bytes: &[u8]) -> Counts
     }
 }
 
-// Any bytes of any length, read in place.
+// Any bytes of any length, read in place. No rule adds rows up yet: it would be tried here, behind the counts.
 pub fn judge(bytes: &[u8]) -> Verdict
     ensures { λ r. ⌜ r ≡ verdictOf (now (bytes .entry)) ⌝ }
 {
-    match rule_all(bytes) {
+    match rule_form(bytes) {
         Ruling::Broken { number, place } => Verdict::Refused { number, place },
         Ruling::Clean => Verdict::Accepted(count_rows(bytes)),
     }

@@ -1,17 +1,21 @@
-// The figures as one list, in the order in which they are printed.
+// The figures as one list, in the order in which they are printed, and as numbers.
 ghost use mathlib.Core.Path.{_≡_};
-ghost use Rattle.worksheets.specs.Answers.{InForm, figuresSaid};
-ghost use Rattle.listed.specs.Listed.{listed, valuesOf};
+ghost use mathlib.Core.Bool.{cond};
+ghost use Prim.Native.Nat.{_+_, _≤_};
+ghost use lib.ListN.{length};
+ghost use Rattle.decimal.specs.Digits.{WrittenAt};
+ghost use Rattle.listed.specs.Listed.{listed, valuesOf, threeIn, figureNumbers, numbersRoom, TwoWords, AllTwoWords};
 use wide::signed::Signed;
 use worksheets::sheets::Figures;
 
-// How many figures there are.
+// How many figures there are, and how many numbers they are.
 pub const FIGURES: usize = 25;
 
-// Each figure's value with its sign, in the list's order. Struct literals and no calls: so its proof is one law.
-pub fn list(f: Figures) -> [Signed; FIGURES]
-    requires { ⌜ InForm f ⌝ }
-    ensures { λ r. ⌜ r ≡ valuesOf (listed (figuresSaid f)) ⌝ }
+pub const NUMBERS: usize = 3 * FIGURES;
+
+// Each figure's value with its sign, in the list's order. Struct literals and no calls: so it needs no proof by hand.
+fn list(f: Figures) -> [Signed; FIGURES]
+    ensures { λ r. ⌜ r ≡ valuesOf (listed f) ⌝ }
 {
     let size = f.stocks.e.0;
     let e = Signed { below: false, size };
@@ -46,17 +50,17 @@ pub fn list(f: Figures) -> [Signed; FIGURES]
     let uptake = Signed { below: false, size };
     let size = f.abandoned.co2.0;
     let uptake_co2 = Signed { below: false, size };
-    let size = f.conversion.thinner.0;
+    let size = f.thinner.0;
     let thinner = Signed { below: false, size };
     let size = f.savannas.carbon.0;
     let savanna_carbon = Signed { below: false, size };
-    let size = f.savannas.ch4.0;
+    let size = f.savannas.gases.ch4.0;
     let savanna_ch4 = Signed { below: false, size };
-    let size = f.savannas.co.0;
+    let size = f.savannas.gases.co.0;
     let savanna_co = Signed { below: false, size };
-    let size = f.savannas.n2o.0;
+    let size = f.savannas.gases.n2o.0;
     let savanna_n2o = Signed { below: false, size };
-    let size = f.savannas.nox.0;
+    let size = f.savannas.gases.nox.0;
     let savanna_nox = Signed { below: false, size };
     [
         e,
@@ -85,4 +89,37 @@ pub fn list(f: Figures) -> [Signed; FIGURES]
         savanna_n2o,
         savanna_nox,
     ]
+}
+
+fn sign_of(below: bool) -> u64
+    ensures { λ r. ⌜ r ≡ cond below 1 0 ⌝ }
+{
+    if below { 1 } else { 0 }
+}
+
+// A figure's sign, upper and lower word at a place; answers the next place.
+fn put_three(z: Signed, room: &mut [u64], at: usize) -> usize
+    requires { ⌜ at + 3 ≤ length (now room) ⌝ }
+    ensures { λ r. ⌜ (WrittenAt (threeIn z) (now (room .entry)) (now (room .exit)) at r) × (r ≡ at + 3) × (TwoWords z) ⌝ }
+{
+    room[at] = sign_of(z.below);
+    room[at + 1] = z.size.hi;
+    room[at + 2] = z.size.lo;
+    at + 3
+}
+
+// Figure after figure, from the front of the room.
+pub fn put_numbers(f: Figures, room: &mut [u64]) -> usize
+    requires { ⌜ numbersRoom ≤ length (now room) ⌝ }
+    ensures { λ r. ⌜ WrittenAt (figureNumbers f) (now (room .entry)) (now (room .exit)) 0 r ⌝ }
+    ensures { λ _. ⌜ AllTwoWords (listed f) ⌝ }
+{
+    let values = list(f);
+    let mut i: usize = 0;
+    let mut at: usize = 0;
+    while i < FIGURES {
+        at = put_three(values[i], room, at);
+        i += 1;
+    }
+    at
 }

@@ -13,10 +13,9 @@ use borrow.Author.Tests.{lt-ltb, le-ltb, le-leb, eq-eqb, ne-eqb, ltb-false, eqb-
 use Rattle.form.specs.Layout.{field, Layout, kinds, parametersKind, layout, numbersOf, aboveLimit, fieldAt}
 use Rattle.form.specs.Edition.{lastKind, known}
 use Rattle.form.specs.Records.{RowTest, idOf, overspent, badId, brokenBy, testNumbered}
-use Rattle.form.proofs.Tests.{and-rest, or-none}
+use Rattle.form.proofs.Tests.{and-rest, or-none, either}
 use Rattle.form.proofs.EachKind.{parameters-kind}
 use Rattle.filing.specs.Lists.{total, rowsIn, rowOf, blocksOf, filedList}
-use Rattle.filing.proofs.Choice.{either}
 use Rattle.lists.specs.Rules.{badList, badLengths, notAllowed, badAt, Good, blocksFrom}
 
 -- number i of row j

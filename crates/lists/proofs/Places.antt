@@ -21,7 +21,7 @@ use Rattle.form.specs.declared.Spot.{Spot}
 use Rattle.form.specs.declared.Spot.the-variants.{At, Nowhere}
 use Rattle.form.proofs.Search.{first-at, first-none, first-is, first-is-none, first-found, first-rest}
 use Rattle.filing.specs.Lists.{Lists, rowsIn, blocksOf, filedList, behind, filedFrom}
-use Rattle.filing.proofs.Choice.{either}
+use Rattle.form.proofs.Tests.{either}
 use Rattle.lists.specs.Rules.{shifted, firstOf}
 
 -- ---- a record's rules read only what stands at its place and, for its id, at the place before

@@ -1,4 +1,4 @@
--- "Writing: 10, then 5 to 9": the rules of the row lists alone, 10 by kind and 5 to 8 where the records would stand.
+-- "Writing: 10, then 5 to 9": the rules of the row lists alone, 10 by kind, and those of filed records where the records would stand: 5 to 7, then those that add rows up.
 use Prim.Native.Nat.{ℕ, zero, suc, _+_, _-_, _%_, _≤_, _<_}
 use mathlib.Core.Path.{_≡_}
 use mathlib.Core.Bool.{Bool, false, not, _&&_, _||_}
@@ -9,7 +9,8 @@ use Rattle.form.specs.Layout.{kinds, parametersKind, numbersOf}
 use Rattle.form.specs.Edition.{lastKind, known}
 use Rattle.form.specs.Ruling.{Rule, rule}
 use Rattle.form.specs.First.{first}
-use Rattle.form.specs.Records.{Filed, recordRules, testOf}
+use Rattle.form.specs.Records.{Filed, testOf}
+use Rattle.form.specs.Sums.{filedRules}
 use Rattle.form.specs.declared.Spot.{Spot}
 use Rattle.form.specs.declared.Spot.the-variants.{At, Nowhere}
 use Rattle.filing.specs.Lists.{cut, total, rowsIn, blocksOf, filedLists}
@@ -35,7 +36,7 @@ badAt edition lengths m zero = not (known edition) || badLengths lengths m
 badAt edition lengths m (suc k) = notAllowed edition (suc k) (getD lengths k 0) || badList (suc k) (getD lengths k 0)
 
 unfoldable pub listRules : ℕ → List ℕ → List ℕ → List Rule
-listRules edition lengths area = rule 10 (suc kinds) (badAt edition lengths (length area)) ∷ recordRules edition (filedLists (cut lengths area))
+listRules edition lengths area = rule 10 (suc kinds) (badAt edition lengths (length area)) ∷ filedRules edition (filedLists (cut lengths area))
 
 -- ---- as the code has them
 

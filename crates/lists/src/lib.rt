@@ -10,12 +10,14 @@ ghost use Rattle.filing.specs.Lists.{cut, total, rowsIn, rowOf, blocksOf, filed
 ghost use Rattle.lists.specs.Rules.{badList, badLengths, notAllowed, badAt, Good, FewRows, blocksFrom, shifted, firstOf};
 use form::KINDS;
 use form::PARAMETERS;
+use form::RECORD_RULES;
 use form::Ruling;
 use form::Spot;
 use form::blocks_for;
 use form::last_kind;
 use form::layout::field;
 use form::layout::numbers;
+use form::record_rule;
 
 // How many rows of a kind some numbers are.
 fn count(kind: usize, n: usize) -> usize
@@ -208,22 +210,19 @@ fn first_broken(number: u32, edition: u32, lengths: &[u32], area: &[u32]) -> Spo
     Spot::Nowhere
 }
 
-// Rules 5 to 7 of lists that 10 has found good.
+// Rules 5 to 7, by their numbers, of lists that 10 has found good.
 pub fn rule_records(edition: u32, lengths: &[u32], area: &[u32]) -> Ruling
     requires { ⌜ Good (now lengths) (length (now area)) ⌝ }
     ensures { λ r. ⌜ r ≡ ruling (recordRules edition (filedLists (cut (now (lengths .entry)) (now (area .entry))))) ⌝ }
 {
-    let id = first_broken(5, edition, lengths, area);
-    if let Spot::At(place) = id {
-        return Ruling::Broken { number: 5, place };
-    }
-    let field = first_broken(6, edition, lengths, area);
-    if let Spot::At(place) = field {
-        return Ruling::Broken { number: 6, place };
-    }
-    let fractions = first_broken(7, edition, lengths, area);
-    if let Spot::At(place) = fractions {
-        return Ruling::Broken { number: 7, place };
+    let mut i: usize = 0;
+    while i < RECORD_RULES {
+        let number = record_rule(i);
+        let spot = first_broken(number as u32, edition, lengths, area);
+        if let Spot::At(place) = spot {
+            return Ruling::Broken { number, place };
+        }
+        i += 1;
     }
     Ruling::Clean
 }

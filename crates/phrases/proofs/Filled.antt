@@ -1,6 +1,5 @@
 -- Lines made by filling values in between names. Assumes nothing.
 --     filled-flat, filled-text  names without a space, filled in with their values, are their lines: as `line` has them, and as `linesText` has them
---     form-at, amount-at, unsigned-at   a value that a loop reads is in its one form, and is that of the list
 --     Left                      while k bytes of the names and i values are written: what is written, with what is left, is the whole text
 --     none-written, letter-written, value-written, all-written   the turns of a loop that does so; value-there, letter-fits, value-fits: what a turn needs
 use Prim.Native.Nat.{ℕ, zero, suc, _+_, _<_, _≤_}
@@ -20,7 +19,7 @@ use Rattle.decimal.proofs.DigitLaws.{written-more}
 use Rattle.wide.specs.Numbers.{value}
 use Rattle.wide.specs.Signs.{amount, Canonical}
 use Rattle.wide.specs.declared.signed.Signed.{Signed}
-use Rattle.phrases.specs.Lines.{Line, ended, line, linesText, spaces, filledIn, amounts, AllCanonical, unsigned}
+use Rattle.phrases.specs.Lines.{Line, ended, line, linesText, spaces, filledIn}
 
 pub spaces-append : (s t : List ℕ) → spaces (s ++ t) ≡ spaces s + spaces t
 unfolding spaces
@@ -62,22 +61,6 @@ module _ {A : Type 0} (name : A → List ℕ) (number : A → ℤ) where
   pub filled-flat : (xs : List A) → spaces (flatMap name xs) ≡ 0
       → filledIn (flatMap (λ (x : A). name x ++ 32 ∷ []) xs) (map number xs) ≡ flatMap (λ (x : A). line (name x) (number x)) xs
   filled-flat xs h = filled-text xs h ∙ flat-text xs
-
--- the values that a loop reads: any place of an array, or of a slice
-abbrev nothing : Signed
-nothing = record { below = false; size = record { lo = 0; hi = 0 } }
-
-pub form-at : (values : List Signed) (i : ℕ) → AllCanonical values → Canonical (getD values i nothing)
-form-at [] i h = λ e. absurd (false≢true e)
-form-at (s ∷ values) zero h = h .0
-form-at (s ∷ values) (suc i) h = form-at values i (h .1)
-
-pub amount-at : (values : List Signed) (i : ℕ) → amount (getD values i nothing) ≡ getD (amounts values) i (pos 0)
-unfolding value
-amount-at values i = sym (List·getD-map amount values i nothing)
-
-pub unsigned-at : (numbers : List ℕ) (i : ℕ) → pos (getD numbers i 0) ≡ getD (unsigned numbers) i (pos 0)
-unsigned-at numbers i = sym (List·getD-map pos numbers i 0)
 
 pub record Left (vs : List ℤ) (names room : List ℕ) (from k i at : ℕ) (out : List ℕ) : Type 0 where
   pub done : List ℕ

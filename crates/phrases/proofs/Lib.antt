@@ -1,3 +1,6 @@
+pub mod Bounds
 pub mod Filled
+pub mod LineTexts
 pub mod Room
+pub mod ThreeLaws
 pub mod WordLaws

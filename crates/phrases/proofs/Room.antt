@@ -18,6 +18,7 @@ use lib.Seq.{sets, take-suc, take-at, length-take-le, sets-eq}
 use lib.IntN.{ℤ, pos}
 use Rattle.decimal.specs.Digits.{decimal, WrittenAt}
 use Rattle.decimal.proofs.DigitLaws.{sets-append}
+use Rattle.phrases.specs.Ascii.{codes}
 use Rattle.phrases.specs.Lines.{endedBy, refusedLine}
 use Rattle.phrases.specs.Room.{putOf, textAfter}
 use Rattle.phrases.specs.declared.Put.{Put}
@@ -32,10 +33,10 @@ put-more d text at i l =
 
 -- "refused ", the number, a space, the place and a line feed
 pub as-refused : (n p : ℕ) (y z : ℤ) {d e : List ℕ} {i j : ℕ} → y ≡ pos n → z ≡ pos p
-    → WrittenAt (((114 ∷ 101 ∷ 102 ∷ 117 ∷ 115 ∷ 101 ∷ 100 ∷ 32 ∷ []) ++ endedBy 32 y) ++ endedBy 10 z) d e i j → WrittenAt (refusedLine n p) d e i j
+    → WrittenAt ((codes "refused " ++ endedBy 32 y) ++ endedBy 10 z) d e i j → WrittenAt (refusedLine n p) d e i j
 unfolding refusedLine
 as-refused n p y z {d} {e} {i} {j} u v w =
-    let q = ap (λ (x : List ℕ). 114 ∷ 101 ∷ 102 ∷ 117 ∷ 115 ∷ 101 ∷ 100 ∷ 32 ∷ x) (append-assoc (decimal n) (32 ∷ []) (endedBy 10 (pos p))) in
+    let q = ap (λ (x : List ℕ). codes "refused " ++ x) (append-assoc (decimal n) (32 ∷ []) (endedBy 10 (pos p))) in
     subst (λ (x : List ℕ). WrittenAt x d e i j) (rw (u, v) q) w
 
 pub ended-length : (b : ℕ) {z : ℤ} {n : ℕ} → z ≡ pos n → length (endedBy b z) ≡ length (decimal n) + 1

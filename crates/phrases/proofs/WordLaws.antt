@@ -16,6 +16,7 @@ use lib.ListN.{length, drop, getD, length-append, drop-of-length-le}
 use lib.Seq.{drop-cons, length-sets}
 use Rattle.decimal.specs.Digits.{WrittenAt}
 use Rattle.decimal.proofs.DigitLaws.{written-more}
+use Rattle.phrases.specs.Ascii.{codes}
 use Rattle.phrases.specs.Lines.{spaces}
 use Rattle.phrases.specs.Words.{spacedOut, upToSpace, startOf, wordAt}
 use Rattle.phrases.proofs.Filled.{spaces-append}
@@ -123,6 +124,6 @@ module _ (words room : List ℕ) (from at k to : ℕ) (out : List ℕ) (c : Copi
     }
 
 -- how it is used: any word of a literal text, here "ab c "
-word-of : (i : ℕ) → wordAt i (97 ∷ 98 ∷ 32 ∷ 99 ∷ 32 ∷ []) ≡ getD ((97 ∷ 98 ∷ []) ∷ (99 ∷ []) ∷ []) i []
+word-of : (i : ℕ) → wordAt i (codes "ab c ") ≡ getD (codes "ab" ∷ codes "c" ∷ []) i []
 unfolding flatMap spaces
-word-of i = word-is ((97 ∷ 98 ∷ []) ∷ (99 ∷ []) ∷ []) i refl
+word-of i = word-is (codes "ab" ∷ codes "c" ∷ []) i refl

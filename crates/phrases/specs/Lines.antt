@@ -8,6 +8,7 @@ use lib.IntN.{ℤ, pos}
 use Rattle.wide.specs.Signs.{amount, Canonical}
 use Rattle.wide.specs.declared.signed.Signed.{Signed}
 use Rattle.decimal.specs.Digits.{decimal, marked, WrittenAt}
+use Rattle.phrases.specs.Ascii.{codes}
 
 -- a value with a byte behind it, or the line feed, and a line, from its name in ASCII and its value
 abbrev pub endedBy : ℕ → ℤ → List ℕ
@@ -21,7 +22,7 @@ line name z = name ++ 32 ∷ ended z
 
 -- "A refusal prints one line: `refused`, number, place, with single spaces."
 unfoldable pub refusedLine : ℕ → ℕ → List ℕ
-refusedLine n p = line (114 ∷ 101 ∷ 102 ∷ 117 ∷ 115 ∷ 101 ∷ 100 ∷ 32 ∷ decimal n) (pos p)
+refusedLine n p = line (codes "refused " ++ decimal n) (pos p)
 
 -- lines as a name and a value, both as text: what a definition lists
 pub record Line : Type 0 where
@@ -51,19 +52,16 @@ filledIn (b ∷ bs) vs =
     let on = filledIn bs vs in
     b ∷ cond (eqb b 32) valued on
 
--- the values that a text is filled in with: those of numbers with a sign, each in its one form, of which an array has 25, or of plain numbers
-abbrev pub amounts : List Signed → List ℤ
-amounts values = map amount values
-
-abbrev pub AllCanonical : List Signed → Type 0
-AllCanonical [] = Unit {0}
-AllCanonical (s ∷ values) = Canonical s × AllCanonical values
-
-abbrev pub valueCount : ℕ
-valueCount = 25
-
+-- plain numbers as values
 abbrev pub unsigned : List ℕ → List ℤ
 unsigned numbers = map pos numbers
+
+-- one plain number, or two, behind names that each have a space behind them
+abbrev pub oneFilled : List ℕ → ℕ → List ℕ
+oneFilled name n = filledIn name (unsigned (n ∷ []))
+
+abbrev pub twoFilled : List ℕ → ℕ → ℕ → List ℕ
+twoFilled names m n = filledIn names (unsigned (m ∷ n ∷ []))
 
 -- a text at a place, of at most n bytes
 abbrev pub WrittenIn : ℕ → List ℕ → List ℕ → List ℕ → ℕ → ℕ → Type 0

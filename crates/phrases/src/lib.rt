@@ -2,19 +2,17 @@
 pub mod text;
 
 ghost use mathlib.Core.Path.{_≡_};
-ghost use Prim.Native.Nat.{_+_, _≤_};
+ghost use Prim.Native.Nat.{_+_, _*_, _≤_};
 ghost use lib.ListN.{length, take, drop};
 ghost use Rattle.decimal.specs.Digits.{WrittenAt};
-ghost use Rattle.phrases.specs.Lines.{AllCanonical, amounts, unsigned, spaces, filledIn, refusedLine, valueCount};
+ghost use Rattle.phrases.specs.Lines.{WrittenIn, spaces, filledIn, oneFilled, twoFilled, refusedLine};
 ghost use Rattle.phrases.specs.Words.{startOf, upToSpace, wordAt};
+ghost use Rattle.phrases.specs.Threes.{ofThrees};
 ghost use Rattle.phrases.specs.Room.{putOf, textAfter};
 use text::plain;
 use text::put_byte;
 use text::put_value;
-use wide::signed::Signed;
-
-// How many values an array of them has: as many as the longest text needs. By value, for a lent slice of structs has no plan in the prover.
-pub const VALUES: usize = 25;
+use text::value_at;
 
 // How a text was put into lent room.
 pub enum Put {
@@ -22,30 +20,11 @@ pub enum Put {
     Short,
 }
 
-// Lines: the names, each with a space behind it, and after each space the next value and a line feed.
-pub fn put_values(names: &[u8], values: [Signed; VALUES], out: &mut [u8], at: usize) -> usize
-    requires { ⌜ (AllCanonical values) × (spaces (now names) ≤ valueCount) × (at + length (filledIn (now names) (amounts values)) ≤ length (now out)) ⌝ }
-    ensures { λ r. ⌜ WrittenAt (filledIn (now (names .entry)) (amounts values)) (now (out .entry)) (now (out .exit)) at r ⌝ }
-{
-    let mut k: usize = 0;
-    let mut i: usize = 0;
-    let mut to = at;
-    while k < names.len() {
-        let b = names[k];
-        to = put_byte(b, out, to);
-        if b == 32 {
-            to = put_value(values[i], 10, out, to);
-            i += 1;
-        }
-        k += 1;
-    }
-    to
-}
-
-// The same lines with plain numbers, as many as there are spaces or more.
-pub fn put_numbers(names: &[u8], numbers: &[u64], out: &mut [u8], at: usize) -> usize
-    requires { ⌜ (spaces (now names) ≤ length (now numbers)) × (at + length (filledIn (now names) (unsigned (now numbers))) ≤ length (now out)) ⌝ }
-    ensures { λ r. ⌜ WrittenAt (filledIn (now (names .entry)) (unsigned (now (numbers .entry)))) (now (out .entry)) (now (out .exit)) at r ⌝ }
+// Lines: the names, each with a space behind it, and after each space the next value and a line feed. A value is three numbers;
+// there are as many as spaces or more, and a plain number n is 0, 0, n.
+pub fn put_lines(names: &[u8], threes: &[u64], out: &mut [u8], at: usize) -> usize
+    requires { ⌜ (3 * spaces (now names) ≤ length (now threes)) × (at + length (filledIn (now names) (ofThrees (now threes))) ≤ length (now out)) ⌝ }
+    ensures { λ r. ⌜ WrittenAt (filledIn (now (names .entry)) (ofThrees (now (threes .entry)))) (now (out .entry)) (now (out .exit)) at r ⌝ }
 {
     let mut k: usize = 0;
     let mut j: usize = 0;
@@ -54,12 +33,30 @@ pub fn put_numbers(names: &[u8], numbers: &[u64], out: &mut [u8], at: usize) -> 
         let b = names[k];
         to = put_byte(b, out, to);
         if b == 32 {
-            to = put_value(plain(numbers[j]), 10, out, to);
+            to = put_value(value_at(threes, j), 10, out, to);
             j += 1;
         }
         k += 1;
     }
     to
+}
+
+// One line with a plain number, by its name with a space behind it.
+pub fn put_one(name: &[u8], n: u64, out: &mut [u8], at: usize) -> usize
+    requires { ⌜ (spaces (now name) ≤ 1) × (at + (length (now name) + 21) ≤ length (now out)) ⌝ }
+    ensures { λ r. ⌜ WrittenIn (length (now (name .entry)) + 21) (oneFilled (now (name .entry)) n) (now (out .entry)) (now (out .exit)) at r ⌝ }
+{
+    let values = [0, 0, n];
+    put_lines(name, &values, out, at)
+}
+
+// Two such lines, by their names.
+pub fn put_two(names: &[u8], m: u32, n: u32, out: &mut [u8], at: usize) -> usize
+    requires { ⌜ (spaces (now names) ≤ 2) × (at + (length (now names) + 42) ≤ length (now out)) ⌝ }
+    ensures { λ r. ⌜ WrittenIn (length (now (names .entry)) + 42) (twoFilled (now (names .entry)) m n) (now (out .entry)) (now (out .exit)) at r ⌝ }
+{
+    let values = [0, 0, m as u64, 0, 0, n as u64];
+    put_lines(names, &values, out, at)
 }
 
 // The one line of a refusal.

@@ -1,12 +1,14 @@
 // Parts of a text, each to a place in room that is known to be long enough.
-ghost use Prim.Native.Nat.{_+_, _≤_, _<_};
+ghost use Prim.Native.Nat.{_+_, _*_, _≤_, _<_};
 ghost use mathlib.Core.List.{[], _∷_};
-ghost use lib.ListN.{length, take};
+ghost use lib.ListN.{length, take, getD};
 ghost use lib.IntN.{pos};
 ghost use Rattle.wide.specs.Signs.{amount, Canonical, Holds};
 ghost use Rattle.decimal.specs.Digits.{WrittenAt};
 ghost use Rattle.phrases.specs.Lines.{endedBy};
+ghost use Rattle.phrases.specs.Threes.{ofThrees};
 use decimal::write_signed;
+use wide::Wide;
 use wide::of;
 use wide::signed::Signed;
 use wide::signed::with_sign;
@@ -46,4 +48,15 @@ pub fn plain(n: u64) -> Signed
     ensures { λ r. ⌜ Holds r (pos n) ⌝ }
 {
     with_sign(false, of(n))
+}
+
+// Value i of numbers that are three to a value.
+pub fn value_at(threes: &[u64], i: usize) -> Signed
+    requires { ⌜ 3 * i + 2 < length (now threes) ⌝ }
+    ensures { λ r. ⌜ Holds r (getD (ofThrees (now (threes .entry))) i (pos 0)) ⌝ }
+{
+    let below = threes[3 * i] != 0;
+    let hi = threes[3 * i + 1];
+    let lo = threes[3 * i + 2];
+    with_sign(below, Wide { lo, hi })
 }

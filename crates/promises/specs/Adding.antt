@@ -10,7 +10,7 @@ use Rattle.form.specs.Verdict.{verdictOf}
 use Rattle.form.specs.declared.Counts.{Counts}
 use Rattle.form.specs.declared.Verdict.the-variants.{Accepted}
 use Rattle.form.proofs.Adding.{sheet-due}
-use Rattle.form.proofs.Accepted.{check-right}
+use Rattle.standing.proofs.Accepted.{formed, check-right}
 
 -- the sheet of block b, kept so: both sums after n bytes, of which the next is the one at offset 507 - n; after all 508 the total is the check
 pub record AddingSheet (s : List ℕ) (b : ℕ) : Type 0 where
@@ -27,4 +27,4 @@ adding-sheet s b = record { first-running = refl; first-total = refl; next-runni
 
 -- so each block of an accepted return has its sheet's last total for its check
 pub accepted-adds-up : (s : List ℕ) (c : Counts) → verdictOf s ≡ Accepted c → (b : ℕ) → b < blocks s → checkSaid s b ≡ sheetAfter s b 508 .total
-accepted-adds-up s c accepted b l = check-right s c accepted b l ∙ sym (sheet-due s b)
+accepted-adds-up s c accepted b l = check-right s c (formed s c accepted) b l ∙ sym (sheet-due s b)

@@ -10,14 +10,14 @@ use Rattle.form.specs.Verdict.{blockRules, rules, rows, countsOf, verdictBy, ve
 use Rattle.form.specs.declared.Ruling.{Ruling}
 use Rattle.form.specs.declared.Ruling.the-variants.{Broken}
 use Rattle.form.specs.declared.Verdict.the-variants as verdict
-use Rattle.form.proofs.EachKind.{few-kinds}
-use Rattle.form.proofs.Meaning.{small}
+use Rattle.form.proofs.Meaning.{broken-at}
 use Rattle.filing.specs.Lists.{cut}
 use Rattle.lists.specs.Rules.{listRules}
 use Rattle.rows.specs.Reading.{readRules, readAnswer, roomAfter}
 use Rattle.rows.specs.Writing.{written, writeRules, writtenBy, writeAnswer, bytesAfter}
 use Rattle.rows.specs.declared.Written.the-variants as write
-use Rattle.worksheets.specs.Sheets.{Sheets, figuresOf}
+use Rattle.worksheets.specs.Sheets.{byKind, figuresOf}
+use Rattle.worksheets.specs.declared.sheets.Figures.{Figures}
 use Rattle.worksheets.specs.Answers.{worked, refusal, outcomeBy, outcomeOf}
 use Rattle.doubles.specs.Subtotals.{subtotalsOf, answerBy, answerOf}
 use Rattle.doubles.specs.declared.Answer.the-variants as doubles
@@ -29,14 +29,15 @@ use Rattle.phrases.specs.Room.{textAfter}
 use Rattle.phrases.specs.declared.Put.the-variants.{Short}
 use Rattle.report.specs.Lines.{lineOf, textOf, printed}
 use Rattle.tabled.specs.Figures.{figuresRules, figuresAnswer, figuresAfter}
-use Rattle.door.specs.Door.{codeOf, judgeRules, judgeCall, countsAfter, subtotalRules, subtotalCall, bitsAfter}
-use Rattle.door.specs.Rows.{readRulesC, readCall, rowsAfter, writeRulesC, writeCall, blocksAfter, sizeAfter}
-use Rattle.door.specs.Defaults.{defaultsCall, defaultsAfter}
-use Rattle.door.specs.Heaviest.{heaviestRulesC, heaviestCall, heaviestAfter}
-use Rattle.door.proofs.Codes.{verdict-told, bounded, bounded-then, bounded-bytes, bounded-lists}
-use Rattle.door.proofs.Named.{named-told}
-use Rattle.door.proofs.Writing.{written-told}
-use Rattle.steps.proofs.Told.{figures-told, doubles-told}
+use Rattle.counted.specs.Counts.{judgeRules, judgeCall, countsAfter}
+use Rattle.charted.specs.Subtotal.{subtotalRules, subtotalCall, bitsAfter}
+use Rattle.weighed.specs.Heaviest.{heaviestRulesC, heaviestCall, heaviestAfter}
+use Rattle.weighed.proofs.Named.{named-told}
+use Rattle.offered.specs.Defaults.{defaultsCall, defaultsAfter}
+use Rattle.handed.specs.Rows.{readRulesC, readCall, rowsAfter, writeRulesC, writeCall, blocksAfter, sizeAfter}
+use Rattle.door.specs.Door.{codeOf}
+use Rattle.door.proofs.Codes.{judge-bounded, subtotal-bounded, heaviest-bounded, figures-bounded, defaults-bounded, read-bounded, write-bounded}
+use Rattle.steps.proofs.Told.{verdict-told, written-told, figures-told, doubles-told}
 use Rattle.promises.specs.Order.{numbers, ByOrder, by-order, Coded, by-code}
 
 -- ---- the orders
@@ -47,7 +48,8 @@ sheets-numbers s = refl
 
 -- "8 is never given again"
 pub never-8 : (s : List ℕ) (p : ℕ) → verdictOf s ≡ verdict.Refused 8 p → ⊥
-never-8 s p e = omega (arith, small s 8 p e .0)
+unfolding blockRules
+never-8 s p e = absurd (omega (arith, broken-at s 8 e refl .inside))
 
 -- "Reading: 1 to 9", but 8
 pub read-numbers : (s room : List ℕ) → numbers (readRules s room) ≡ 1 ∷ 2 ∷ 3 ∷ 4 ∷ 5 ∷ 6 ∷ 7 ∷ 9 ∷ []
@@ -76,7 +78,7 @@ unfolding readAnswer
 read-by-order s room = by-order (verdictBy s) (verdict-told s) (readRules s room)
 
 -- figures: the sheets, or a refusal
-pub figures-by-order : (s : List ℕ) → ByOrder (rules s) (λ n p. outcomeOf s ≡ refusal n p) (outcomeOf s ≡ worked (figuresOf s))
+pub figures-by-order : (s : List ℕ) → ByOrder (rules s) (λ n p. outcomeOf s ≡ refusal n p) (outcomeOf s ≡ worked (figuresOf (byKind s)))
 unfolding verdictOf
 figures-by-order s = by-order (λ (u : Ruling). outcomeBy s (verdictBy s u)) (figures-told s) (rules s)
 
@@ -125,29 +127,29 @@ c-write-numbers edition rows lengths room size = refl
 
 -- "It gets back 0; or it gets back 1,000 times the refusal number plus the place"
 pub c-judge-by-order : (s counts : List ℕ) → ByOrder (judgeRules s counts) (Coded (codeOf (judgeCall s counts))) (codeOf (judgeCall s counts) ≡ 0)
-c-judge-by-order s counts = by-code (bounded-then (rules s) _ (bounded-bytes s) (bounded (omega arith)))
+c-judge-by-order s counts = by-code (judge-bounded s counts)
 
 pub c-subtotal-by-order : (s : List ℕ) (code : ℕ) (room : List ℕ)
     → ByOrder (subtotalRules s code room) (Coded (codeOf (subtotalCall s code room))) (codeOf (subtotalCall s code room) ≡ 0)
-c-subtotal-by-order s code room = by-code (bounded-then (rules s) _ (bounded-bytes s) (bounded (omega arith)))
+c-subtotal-by-order s code room = by-code (subtotal-bounded s room code)
 
 pub c-heaviest-by-order : (s : List ℕ) (code : ℕ) (room : List ℕ)
     → ByOrder (heaviestRulesC s code room) (Coded (codeOf (heaviestCall s code room))) (codeOf (heaviestCall s code room) ≡ 0)
-c-heaviest-by-order s code room = by-code (bounded-then (heaviestRules s code) _ (bounded-then (rules s) _ (bounded-bytes s) (bounded (omega arith))) (bounded (omega arith)))
+c-heaviest-by-order s code room = by-code (heaviest-bounded s room code)
 
 pub c-figures-by-order : (s room : List ℕ) → ByOrder (figuresRules s room) (Coded (codeOf (figuresAnswer s room))) (codeOf (figuresAnswer s room) ≡ 0)
-c-figures-by-order s room = by-code (bounded-then (rules s) _ (bounded-bytes s) (bounded (omega arith)))
+c-figures-by-order s room = by-code (figures-bounded s room)
 
 -- the default parameters: only the room can be too short
 pub c-defaults-by-order : (room : List ℕ) → ByOrder (tooShort 6 room ∷ []) (Coded (codeOf (defaultsCall room))) (codeOf (defaultsCall room) ≡ 0)
-c-defaults-by-order room = by-code (bounded (omega arith))
+c-defaults-by-order room = by-code (defaults-bounded room)
 
 pub c-read-by-order : (s rows counts : List ℕ) → ByOrder (readRulesC s rows counts) (Coded (codeOf (readCall s rows counts))) (codeOf (readCall s rows counts) ≡ 0)
-c-read-by-order s rows counts = by-code (bounded-then (rules s) _ (bounded-bytes s) (bounded (omega (arith, few-kinds))))
+c-read-by-order s rows counts = by-code (read-bounded s rows counts)
 
 pub c-write-by-order : (edition : ℕ) (rows lengths room size : List ℕ)
     → ByOrder (writeRulesC edition rows lengths room size) (Coded (codeOf (writeCall edition rows lengths room size))) (codeOf (writeCall edition rows lengths room size) ≡ 0)
-c-write-by-order edition rows lengths room size = by-code (bounded-then (listRules edition lengths rows) _ (bounded-lists edition lengths rows) (bounded (omega arith)))
+c-write-by-order edition rows lengths room size = by-code (write-bounded edition rows lengths room size)
 
 -- ---- "nothing lent has changed"
 pub c-judge-unchanged : (s counts : List ℕ) (n p : ℕ) → countsAfter s counts (Broken n p) ≡ counts
@@ -186,5 +188,5 @@ pub refused-text : (s : List ℕ) (n p : ℕ) → outcomeOf s ≡ refusal n p �
 refused-text s n p e = ap textOf e
 
 -- and that of an answer is a line for each figure of the list
-pub worked-text : (s : List ℕ) (v : Sheets) → outcomeOf s ≡ worked v → printed s ≡ flatMap lineOf (listed v)
-worked-text s v e = ap textOf e
+pub worked-text : (s : List ℕ) (f : Figures) → outcomeOf s ≡ worked f → printed s ≡ flatMap lineOf (listed f)
+worked-text s f e = ap textOf e

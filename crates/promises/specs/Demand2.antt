@@ -1,12 +1,14 @@
 -- DEMAND 2. "Figures are the 1996 Workbook's columns, kept as exact whole numbers and rounded once, at the final tonne. Good rows written as a return read back as
 -- those rows; an accepted return, read and written again, is the same bytes."
 use Prim.Native.Nat.{ℕ, suc, _+_, _-_, _*_, _^_, _<_, _≤_}
-use mathlib.Core.Path.{_≡_, refl, subst}
+use mathlib.Core.Path.{_≡_, refl, sym, ap, subst, _∙_}
 use mathlib.Core.Bool.{cond}
 use mathlib.Core.List.{List}
+use native.Mathlib.Omega.{arith}
 use lib.ListN.{length, getD}
 use lib.Dec.{ltb, lit<}
 use lib.IntN.{pos, negℤ, _-ℤ_, _*ℤ_}
+use Rattle.form.specs.Ruling.{onFront}
 use Rattle.form.specs.Layout.{kinds}
 use Rattle.form.specs.Bytes.{byteAt}
 use Rattle.form.specs.Records.{areaOf, before, after, onsite, onsiteOxidised, onsiteCarbon, offsite, offsiteOxidised, offsiteCarbon, tenYearArea, tenYearBefore, tenYearAfter, decay, decayCarbon, countedDifference, difference, tenYearDifference}
@@ -15,18 +17,34 @@ use Rattle.form.specs.Verdict.{rows, countsOf, countIn, verdictOf}
 use Rattle.form.specs.declared.Counts.{Counts}
 use Rattle.form.specs.declared.Verdict.the-variants.{Accepted}
 use Rattle.filing.specs.Lists.{rowsIn}
-use Rattle.rows.specs.Reading.{readAnswer, onFront, roomAfter, lengthsOf}
+use Rattle.rows.specs.Reading.{readAnswer, roomAfter, lengthsOf}
 use Rattle.rows.specs.Writing.{writeAnswer, bytesAfter}
 use Rattle.rows.specs.declared.Written.the-variants.{Done}
 use Rattle.trips.proofs.Again.{returned, read-accepted, read-edition, read-counts, read-rows, leftBehind, write-done, write-same}
-use Rattle.wide.proofs.SignLaws.{nearest-turned}
-use Rattle.totals.specs.Columns.{sumOf, rate, stockAmount, stockCarbon, commercial, tonnesPerM3, fuelwood, otherUse, stockPart, harvestPart, clearedPart, onsitePart, offsitePart, decayPart, thinnerPart}
+use Rattle.standing.proofs.Accepted.{formed}
+use Rattle.wide.specs.Numbers.{value}
+use Rattle.wide.specs.Signs.{amount, nearestZ}
+use Rattle.wide.proofs.Laws.{value-words}
+use Rattle.wide.proofs.SignLaws.{nearest-turned, form-holds}
+use Rattle.form.specs.Sums.{sumOf, commercial, tonnesPerM3, fuelwood, otherUse, harvestPart, clearedPart}
+use Rattle.totals.specs.Columns.{rate, stockAmount, stockCarbon, stockPart, onsitePart, offsitePart, decayPart, thinnerPart, thinnerTotal}
+use Rattle.totals.specs.Sums.{totalsOf}
 use Rattle.totals.proofs.Accepted.{columns-small}
 use Rattle.totals.specs.Abandoned.{youngArea, youngRate, youngCarbon, olderArea, olderRate, olderCarbon, abandonedPart}
-use Rattle.savannas.specs.Savannas.{burnedArea, biomass, reallyBurned, live, liveOxidised, liveCarbon, deadOxidised, deadCarbon, nitrogenRatio, ch4Ratio, coRatio, n2oRatio, noxRatio, carbonShare, carbonPart, ch4Part, coPart, n2oPart, noxPart}
-use Rattle.savannas.specs.Sheet.{savannasOf}
-use Rattle.worksheets.specs.Sheets.{Sheets, figuresOf, given, stocksOf, conversionOf, gasesOf, abandonedOf}
-use Rattle.promises.specs.Rounding.{Rounded, rounds}
+use Rattle.savannas.specs.Savannas.{burnedArea, biomass, reallyBurned, live, liveOxidised, liveCarbon, deadOxidised, deadCarbon, nitrogenRatio, ch4Ratio, coRatio, n2oRatio, noxRatio, carbonShare, carbonPart, savannasOf}
+use Rattle.savannas.specs.declared.Savannas.{Savannas}
+use Rattle.burning.specs.Released.{releasedOf, burnedBy}
+use Rattle.burning.specs.Gases.{gasesOf}
+use Rattle.burning.specs.declared.Gases.{Gases}
+use Rattle.ledger.specs.Ledger.{entered}
+use Rattle.ledger.specs.Derived.{stocksOf, conversionOf}
+use Rattle.ledger.specs.declared.Stocks.{Stocks}
+use Rattle.ledger.specs.declared.Conversion.{Conversion}
+use Rattle.worksheets.specs.Sheets.{byKind, given, abandonedOf, figuresOf}
+use Rattle.worksheets.specs.declared.sheets.Parameters.{Parameters}
+use Rattle.worksheets.specs.declared.sheets.Abandoned.{Abandoned}
+use Rattle.steps.proofs.Figures.{part, product, products}
+use Rattle.promises.specs.Rounding.{Rounded, rounds, rounds-net, rounds-plain}
 
 -- "its difference counts as 0": what a period counts with, by its densities before and after, in every column below and in the doubles
 pub thinner-counts-0 : (b a : ℕ) → b < a → countedDifference b a ≡ 0
@@ -39,85 +57,96 @@ else-the-difference = plain
 abbrev pub carbonOf : List ℕ → ℕ
 carbonOf r = burnedArea r * biomass r * reallyBurned r * (live r * liveOxidised r * liveCarbon r + (1000 - live r) * deadOxidised r * deadCarbon r)
 
--- "5-1", as 01 has it, with the differences that count; the parameter row gives N
-pub record Sheet5-1 (s : List ℕ) (v : Sheets) : Type 0 where
-  pub E : v .stocks .e ≡ sumOf (λ r. stockAmount r * rate r * stockCarbon r) (rows 2 s)
-  pub K : v .stocks .k ≡ sumOf (λ r. commercial r * tonnesPerM3 r + 1000 * (fuelwood r + otherUse r)) (rows 3 s)
-  pub L : v .stocks .l ≡ sumOf (λ r. areaOf r * difference r * offsite r) (rows 1 s)
-  pub M : v .stocks .m ≡ pos (100 * v .stocks .k) -ℤ pos (v .stocks .l)
-  pub O : v .stocks .o ≡ v .stocks .m *ℤ pos (given s .n)
-  pub P : v .stocks .p ≡ pos (100 * v .stocks .e) -ℤ v .stocks .o
-  pub Q : Rounded (pos 11 *ℤ v .stocks .p) 3000000 (v .stocks .q)
-  pub report : v .stocks .report ≡ negℤ (v .stocks .q)
-  pub report-rounded : Rounded (negℤ (pos 11 *ℤ v .stocks .p)) 3000000 (v .stocks .report)
+-- "5-1", as 01 has it, with the differences that count; the parameter row gives N. A mass is the number `value` of its two words, or `amount` with a sign
+pub record Sheet5-1 (s : List ℕ) (v : Stocks) : Type 0 where
+  pub E : value (v .e .0) ≡ sumOf (λ r. stockAmount r * rate r * stockCarbon r) (rows 2 s)
+  pub K : value (v .k .0) ≡ sumOf (λ r. commercial r * tonnesPerM3 r + 1000 * (fuelwood r + otherUse r)) (rows 3 s)
+  pub L : value (v .l .0) ≡ sumOf (λ r. areaOf r * difference r * offsite r) (rows 1 s)
+  pub M : amount (v .m .0) ≡ pos (100 * value (v .k .0)) -ℤ pos (value (v .l .0))
+  pub O : amount (v .o .0) ≡ amount (v .m .0) *ℤ pos (given (byKind s) .n)
+  pub P : amount (v .p .0) ≡ pos (100 * value (v .e .0)) -ℤ amount (v .o .0)
+  pub Q : Rounded (pos 11 *ℤ amount (v .p .0)) 3000000 (amount (v .q .0))
+  pub report : amount (v .report .0) ≡ negℤ (amount (v .q .0))
+  pub report-rounded : Rounded (negℤ (pos 11 *ℤ amount (v .p .0))) 3000000 (amount (v .report .0))
 
 -- "5-2"
-pub record Sheet5-2 (s : List ℕ) (v : Sheets) : Type 0 where
-  pub onsite : v .conversion .onsite ≡ sumOf (λ r. areaOf r * difference r * onsite r * onsiteOxidised r * onsiteCarbon r) (rows 1 s)
-  pub offsite : v .conversion .offsite ≡ sumOf (λ r. areaOf r * difference r * offsite r * offsiteOxidised r * offsiteCarbon r) (rows 1 s)
-  pub R : v .conversion .r ≡ v .conversion .onsite + v .conversion .offsite
-  pub decay : v .conversion .decay ≡ sumOf (λ r. tenYearArea r * tenYearDifference r * decay r * 1000 * decayCarbon r) (rows 1 s)
-  pub CO2 : Rounded (pos (11 * (v .conversion .r + v .conversion .decay))) (3 * 10 ^ 9) (pos (v .conversion .co2))
-  -- "the number of (row, period) pairs with after above before"
-  pub thinner : v .conversion .thinner ≡ sumOf (λ r. cond (ltb (before r) (after r)) 1 0 + cond (ltb (tenYearBefore r) (tenYearAfter r)) 1 0) (rows 1 s)
+pub record Sheet5-2 (s : List ℕ) (v : Conversion) : Type 0 where
+  pub onsite : value (v .onsite .0) ≡ sumOf (λ r. areaOf r * difference r * onsite r * onsiteOxidised r * onsiteCarbon r) (rows 1 s)
+  pub offsite : value (v .offsite .0) ≡ sumOf (λ r. areaOf r * difference r * offsite r * offsiteOxidised r * offsiteCarbon r) (rows 1 s)
+  pub R : value (v .r .0) ≡ value (v .onsite .0) + value (v .offsite .0)
+  pub decay : value (v .decay .0) ≡ sumOf (λ r. tenYearArea r * tenYearDifference r * decay r * 1000 * decayCarbon r) (rows 1 s)
+  pub CO2 : Rounded (pos (11 * (value (v .r .0) + value (v .decay .0)))) (3 * 10 ^ 9) (pos (value (v .co2 .0)))
+
+-- "the number of (row, period) pairs with after above before"
+abbrev pub thinnerPairs : List ℕ → ℕ
+thinnerPairs s = sumOf (λ r. cond (ltb (before r) (after r)) 1 0 + cond (ltb (tenYearBefore r) (tenYearAfter r)) 1 0) (rows 1 s)
 
 -- "5-3, from on-site carbon only"; the parameter row gives the ratios
-pub record Sheet5-3 (s : List ℕ) (v : Sheets) : Type 0 where
-  pub CH4 : Rounded (pos (4 * v .conversion .onsite * given s .ch4)) (3 * 10 ^ 12) (pos (v .gases .ch4))
-  pub CO : Rounded (pos (7 * v .conversion .onsite * given s .co)) (3 * 10 ^ 12) (pos (v .gases .co))
-  pub N2O : Rounded (pos (11 * v .conversion .onsite * given s .nc * given s .n2o)) (7 * 10 ^ 15) (pos (v .gases .n2o))
-  pub NOx : Rounded (pos (23 * v .conversion .onsite * given s .nc * given s .nox)) (7 * 10 ^ 15) (pos (v .gases .nox))
+pub record Sheet5-3 (c : ℕ) (p : Parameters) (v : Gases) : Type 0 where
+  pub CH4 : Rounded (pos (4 * c * p .ch4)) (3 * 10 ^ 12) (pos (value (v .ch4 .0)))
+  pub CO : Rounded (pos (7 * c * p .co)) (3 * 10 ^ 12) (pos (value (v .co .0)))
+  pub N2O : Rounded (pos (11 * c * p .nc * p .n2o)) (7 * 10 ^ 15) (pos (value (v .n2o .0)))
+  pub NOx : Rounded (pos (23 * c * p .nc * p .nox)) (7 * 10 ^ 15) (pos (value (v .nox .0)))
 
 -- 5-4, as the request for it has it: "the sum of the two products over the rows, then CO2 by 11/3, rounded once"
-pub record Sheet5-4 (s : List ℕ) (v : Sheets) : Type 0 where
-  pub uptake : v .abandoned .uptake ≡ sumOf (λ r. youngArea r * youngRate r * youngCarbon r + olderArea r * olderRate r * olderCarbon r) (rows 5 s)
-  pub CO2 : Rounded (pos (11 * v .abandoned .uptake)) 30000 (pos (v .abandoned .co2))
+pub record Sheet5-4 (s : List ℕ) (v : Abandoned) : Type 0 where
+  pub uptake : value (v .uptake .0) ≡ sumOf (λ r. youngArea r * youngRate r * youngCarbon r + olderArea r * olderRate r * olderCarbon r) (rows 5 s)
+  pub CO2 : Rounded (pos (11 * value (v .uptake .0))) 30000 (pos (value (v .co2 .0)))
 
 -- 4-3, as the request for it has it: the row's own ratios; "each gas summed exactly over the rows and rounded once"
-pub record Sheet4-3 (s : List ℕ) (v : Sheets) : Type 0 where
-  pub carbon : v .savannas .carbon ≡ sumOf carbonOf (rows 6 s)
-  pub CH4 : Rounded (pos (4 * sumOf (λ r. carbonOf r * ch4Ratio r) (rows 6 s))) (3 * 10 ^ 15) (pos (v .savannas .ch4))
-  pub CO : Rounded (pos (7 * sumOf (λ r. carbonOf r * coRatio r) (rows 6 s))) (3 * 10 ^ 15) (pos (v .savannas .co))
-  pub N2O : Rounded (pos (11 * sumOf (λ r. carbonOf r * nitrogenRatio r * n2oRatio r) (rows 6 s))) (7 * 10 ^ 18) (pos (v .savannas .n2o))
-  pub NOx : Rounded (pos (23 * sumOf (λ r. carbonOf r * nitrogenRatio r * noxRatio r) (rows 6 s))) (7 * 10 ^ 18) (pos (v .savannas .nox))
+pub record Sheet4-3 (s : List ℕ) (v : Savannas) : Type 0 where
+  pub carbon : value (v .carbon .0) ≡ sumOf carbonOf (rows 6 s)
+  pub CH4 : Rounded (pos (4 * sumOf (λ r. carbonOf r * ch4Ratio r) (rows 6 s))) (3 * 10 ^ 15) (pos (value (v .gases .ch4 .0)))
+  pub CO : Rounded (pos (7 * sumOf (λ r. carbonOf r * coRatio r) (rows 6 s))) (3 * 10 ^ 15) (pos (value (v .gases .co .0)))
+  pub N2O : Rounded (pos (11 * sumOf (λ r. carbonOf r * nitrogenRatio r * n2oRatio r) (rows 6 s))) (7 * 10 ^ 18) (pos (value (v .gases .n2o .0)))
+  pub NOx : Rounded (pos (23 * sumOf (λ r. carbonOf r * nitrogenRatio r * noxRatio r) (rows 6 s))) (7 * 10 ^ 18) (pos (value (v .gases .nox .0)))
 
 -- the figures are the columns: of every list of bytes, so of every accepted return
-pub figures-5-1 : (s : List ℕ) → Sheet5-1 s (figuresOf s)
-unfolding stocksOf sumOf stockPart harvestPart clearedPart
+pub figures-5-1 : (s : List ℕ) → Sheet5-1 s (figuresOf (byKind s) .stocks)
+unfolding stocksOf entered totalsOf stockPart harvestPart clearedPart
 figures-5-1 s =
-    let x = pos 11 *ℤ figuresOf s .stocks .p in
+    let x = pos 11 *ℤ amount (figuresOf (byKind s) .stocks .p .0) in
+    let q = figuresOf (byKind s) .stocks .q in
     record {
-      E = refl;
-      K = refl;
-      L = refl;
-      M = refl;
-      O = refl;
-      P = refl;
-      Q = rounds x 3000000 (lit< tt);
-      report = refl;
-      report-rounded = subst (Rounded (negℤ x) 3000000) (nearest-turned x 3000000 (lit< tt)) (rounds (negℤ x) 3000000 (lit< tt));
+      E = value-words _ .number;
+      K = value-words _ .number;
+      L = value-words _ .number;
+      M = form-holds _ .number;
+      O = form-holds _ .number;
+      P = form-holds _ .number;
+      Q = rounds-net x 3000000 (lit< tt);
+      report = form-holds _ .number;
+      report-rounded = subst (Rounded (negℤ x) 3000000) (nearest-turned x 3000000 (lit< tt) ∙ ap negℤ (sym (form-holds (nearestZ x 3000000) .number)) ∙ sym (form-holds (negℤ (amount (q .0))) .number)) (rounds (negℤ x) 3000000 (lit< tt));
     }
 
-pub figures-5-2 : (s : List ℕ) → Sheet5-2 s (figuresOf s)
-unfolding conversionOf sumOf onsitePart offsitePart decayPart thinnerPart
-figures-5-2 s = record { onsite = refl; offsite = refl; R = refl; decay = refl; CO2 = rounds _ _ (lit< tt); thinner = refl }
+pub figures-5-2 : (s : List ℕ) → Sheet5-2 s (figuresOf (byKind s) .conversion)
+unfolding conversionOf entered totalsOf onsitePart offsitePart decayPart
+figures-5-2 s = record { onsite = value-words _ .number; offsite = value-words _ .number; R = value-words _ .number; decay = value-words _ .number; CO2 = rounds-plain _ (lit< tt) (part 11 _) }
+
+pub figures-thinner : (s : List ℕ) → value (figuresOf (byKind s) .thinner .0) ≡ thinnerPairs s
+unfolding thinnerPart
+figures-thinner s = value-words (thinnerPairs s) .number
 
 -- two periods of each of 32 rows
-pub few-thinner : (s : List ℕ) (c : Counts) → verdictOf s ≡ Accepted c → figuresOf s .conversion .thinner ≤ 64
-unfolding conversionOf
-few-thinner s c accepted = columns-small s c accepted .6
+pub few-thinner : (s : List ℕ) (c : Counts) → verdictOf s ≡ Accepted c → value (figuresOf (byKind s) .thinner .0) ≤ 64
+few-thinner s c accepted = omega (arith, columns-small s c (formed s c accepted) .6, value-words (thinnerTotal (rows 1 s)) .number)
 
-pub figures-5-3 : (s : List ℕ) → Sheet5-3 s (figuresOf s)
-unfolding gasesOf conversionOf
-figures-5-3 s = record { CH4 = rounds _ _ (lit< tt); CO = rounds _ _ (lit< tt); N2O = rounds _ _ (lit< tt); NOx = rounds _ _ (lit< tt) }
+pub figures-5-3 : (s : List ℕ) → Sheet5-3 (value (figuresOf (byKind s) .conversion .onsite .0)) (given (byKind s)) (figuresOf (byKind s) .gases)
+unfolding conversionOf entered totalsOf releasedOf gasesOf
+figures-5-3 s = record {
+  CH4 = rounds-plain _ (lit< tt) (product 4 _ _);
+  CO = rounds-plain _ (lit< tt) (product 7 _ _);
+  N2O = rounds-plain _ (lit< tt) (products 11 _ _ _);
+  NOx = rounds-plain _ (lit< tt) (products 23 _ _ _);
+}
 
-pub figures-5-4 : (s : List ℕ) → Sheet5-4 s (figuresOf s)
-unfolding abandonedOf sumOf abandonedPart
-figures-5-4 s = record { uptake = refl; CO2 = rounds _ _ (lit< tt) }
+pub figures-5-4 : (s : List ℕ) → Sheet5-4 s (figuresOf (byKind s) .abandoned)
+unfolding abandonedOf abandonedPart
+figures-5-4 s = record { uptake = value-words _ .number; CO2 = rounds-plain _ (lit< tt) refl }
 
-pub figures-4-3 : (s : List ℕ) → Sheet4-3 s (figuresOf s)
-unfolding savannasOf sumOf carbonShare carbonPart ch4Part coPart n2oPart noxPart
-figures-4-3 s = record { carbon = refl; CH4 = rounds _ _ (lit< tt); CO = rounds _ _ (lit< tt); N2O = rounds _ _ (lit< tt); NOx = rounds _ _ (lit< tt) }
+pub figures-4-3 : (s : List ℕ) → Sheet4-3 s (figuresOf (byKind s) .savannas)
+unfolding savannasOf burnedBy gasesOf carbonShare carbonPart
+figures-4-3 s = record { carbon = value-words _ .number; CH4 = rounds-plain _ (lit< tt) (part 4 _); CO = rounds-plain _ (lit< tt) (part 7 _); N2O = rounds-plain _ (lit< tt) (part 11 _); NOx = rounds-plain _ (lit< tt) (part 23 _) }
 
 -- ---- "Good rows written as a return read back as those rows"
 -- Whatever write answers other than a refusal: the bytes that it left at the front of its room, read to any room that is long enough for the rows, are

@@ -1,24 +1,29 @@
 -- "Edition 1 returns read as before": for edition 1 each rule that the request for abandoned land changed says what 01 says, and nothing else is in the answer.
 use Prim.Native.Nat.{ℕ, _≤_}
 use mathlib.Core.Path.{_≡_}
-use mathlib.Core.List.{List}
+use mathlib.Core.List.{List, _++_}
 use lib.ListN.{length}
 use Rattle.form.specs.Ruling.{ruling}
 use Rattle.form.specs.Block.{edition}
+use Rattle.form.specs.Records.{filed}
+use Rattle.form.specs.Sums.{sumRules}
 use Rattle.form.specs.Verdict.{rules, verdictOf}
 use Rattle.form.specs.FirstEdition.{rules01}
 use Rattle.form.specs.declared.Counts.{Counts}
 use Rattle.form.specs.declared.Verdict.the-variants.{Accepted}
-use Rattle.form.proofs.FirstEdition.{as-before, ten-blocks}
-use Rattle.worksheets.specs.Sheets.{figuresOf}
+use Rattle.standing.proofs.FirstEdition.{as-before, ten-blocks}
+use Rattle.totals.specs.Masses.{carbon}
+use Rattle.units.specs.Columns.{co2}
+use Rattle.burning.specs.Gases.{gas}
+use Rattle.worksheets.specs.Sheets.{byKind, figuresOf}
 use Rattle.steps.proofs.Editions.{edition-told, no-land, no-uptake, no-savanna, no-fire}
 
 -- the answer tells the edition, which stands in block 0
 pub tells-edition : (s : List ℕ) (c : Counts) → verdictOf s ≡ Accepted c → c .edition ≡ edition s 0
 tells-edition = edition-told
 
--- bytes that say edition 1: refused or accepted by 01's own rules, in their order; so with 01's number and place
-pub first-as-before : (s : List ℕ) → edition s 0 ≡ 1 → length s ≤ 5120 → ruling (rules s) ≡ ruling (rules01 s)
+-- bytes that say edition 1: refused or accepted by 01's own rules, in their order, and behind them by those that add rows up, of which there is none so far; so with 01's number and place
+pub first-as-before : (s : List ℕ) → edition s 0 ≡ 1 → length s ≤ 5120 → ruling (rules s) ≡ ruling (rules01 s ++ sumRules (filed s))
 first-as-before = as-before
 
 -- "4 then stops an edition 1 return above ten"
@@ -27,9 +32,10 @@ first-ten-blocks = ten-blocks
 
 -- and it has no abandoned land
 pub first-no-land : (s : List ℕ) → edition s 0 ≡ 1 → (c : Counts) → verdictOf s ≡ Accepted c
-    → (c .abandoned ≡ 0) × (figuresOf s .abandoned .uptake ≡ 0) × (figuresOf s .abandoned .co2 ≡ 0)
-first-no-land s e c acc = let u = no-uptake s c acc e in (no-land s c acc e, u .0, u .1)
+    → (c .abandoned ≡ 0) × (figuresOf (byKind s) .abandoned ≡ record { uptake = carbon 0; co2 = co2 0 })
+first-no-land s e c acc = (no-land s c acc e, no-uptake s c acc e)
 
 -- nor savannas
-pub first-no-savanna : (s : List ℕ) → edition s 0 ≡ 1 → (c : Counts) → verdictOf s ≡ Accepted c → (c .savanna ≡ 0) × (figuresOf s .savannas ≡ record { carbon = 0; ch4 = 0; co = 0; n2o = 0; nox = 0 })
+pub first-no-savanna : (s : List ℕ) → edition s 0 ≡ 1 → (c : Counts) → verdictOf s ≡ Accepted c
+    → (c .savanna ≡ 0) × (figuresOf (byKind s) .savannas ≡ record { carbon = carbon 0; gases = record { ch4 = gas 0; co = gas 0; n2o = gas 0; nox = gas 0 } })
 first-no-savanna s e c acc = (no-savanna s c acc e, no-fire s c acc e)

@@ -12,6 +12,7 @@ use Rattle.form.specs.declared.Verdict.the-variants as verdict
 use Rattle.totals.specs.Columns.{onsitePart, offsitePart, decayPart}
 use Rattle.heaviest.specs.Heaviest.{heaviestOf}
 use Rattle.heaviest.specs.Largest.{Weighs}
+use Rattle.standing.proofs.Accepted.{formed}
 use Rattle.heaviest.proofs.Largest.{onsite-weighs, offsite-weighs, decay-weighs}
 use Rattle.phrases.specs.Lines.{refusedLine, linesText}
 use Rattle.reasons.specs.Reasons.{reasonOf}
@@ -50,7 +51,9 @@ pub record ThreeRows (s : List ℕ) : Type 0 where
   pub decay-row : Weighs s decayPart (heaviestOf s .decay)
 
 pub explained-rows : (s : List ℕ) (c : Counts) → verdictOf s ≡ verdict.Accepted c → ThreeRows s
-explained-rows s c e = record { named = accepted-explained s e; onsite-row = onsite-weighs s c e; offsite-row = offsite-weighs s c e; decay-row = decay-weighs s c e }
+explained-rows s c e =
+    let f = formed s c e in
+    record { named = accepted-explained s e; onsite-row = onsite-weighs s c f; offsite-row = offsite-weighs s c f; decay-row = decay-weighs s c f }
 
 -- the text: "first `refused NUMBER PLACE` as `sheets` does", then the lines of the values; or the lines of the three rows
 pub explained-refusal : (s : List ℕ) (n p : ℕ) → verdictOf s ≡ verdict.Refused n p → explained s ≡ refusedLine n p ++ linesText (valueLines (reasonOf s n p))

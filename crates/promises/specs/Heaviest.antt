@@ -6,22 +6,22 @@ use mathlib.Core.List.{List, [], _∷_}
 use native.Mathlib.Decide.{decLt}
 use native.Mathlib.Omega.{arith}
 use lib.ListN.{length, getD}
-use Rattle.form.specs.Ruling.{tooShort, ruling}
+use Rattle.form.specs.Ruling.{tooShort, ruling, onFront}
 use Rattle.form.specs.Records.{idOf}
 use Rattle.form.specs.Verdict.{rows, verdictOf}
 use Rattle.form.specs.declared.Counts.{Counts}
 use Rattle.form.specs.declared.Ruling.the-variants.{Clean, Broken}
 use Rattle.form.specs.declared.Verdict.the-variants.{Accepted}
 use Rattle.form.proofs.Order.{kept-before, long-enough}
-use Rattle.rows.specs.Reading.{onFront}
-use Rattle.totals.specs.Columns.{sumOf, onsitePart, offsitePart, decayPart, onsiteTotal, offsiteTotal, decayTotal}
+use Rattle.form.specs.Sums.{sumOf}
+use Rattle.totals.specs.Columns.{onsitePart, offsitePart, decayPart, onsiteTotal, offsiteTotal, decayTotal}
 use Rattle.heaviest.specs.Heaviest.{partBy, heaviestRules, heaviestAnswer}
 use Rattle.heaviest.specs.declared.Named.{Named}
 use Rattle.heaviest.specs.declared.Named.the-variants.{Row, None, Refused}
 use Rattle.heaviest.proofs.Answers.{part-0, part-1, part-2, named-answer, row-weighs, none-at-zero}
 use Rattle.door.specs.Door.{codeOf}
-use Rattle.door.specs.Heaviest.{namedNumbers, heaviestCall, heaviestAfter}
-use Rattle.door.proofs.Named.{named-told}
+use Rattle.weighed.specs.Heaviest.{namedNumbers, heaviestCall, heaviestAfter}
+use Rattle.weighed.proofs.Named.{named-told, last-room}
 
 -- "the row with the largest exact part, the lower id on a tie", by its id and that part: of the conversion rows of a return, where `partOf` is a row's part
 pub record Heaviest (s : List ℕ) (partOf : List ℕ → ℕ) (id part : ℕ) : Type 0 where
@@ -65,13 +65,13 @@ module _ (s : List ℕ) (c : Counts) (accepted : verdictOf s ≡ Accepted c) whe
   names code h partOf e = subst (λ (f : List ℕ → ℕ). Names s f (sumOf f (rows 1 s)) (heaviestAnswer s code)) e (names-by code h (heaviestAnswer s code) refl)
 
   -- ---- the answers of `heaviest`: code 0 on-site, 1 off-site, 2 decay
-  pub onsite-heaviest : Names s onsitePart (onsiteTotal s) (heaviestAnswer s 0)
+  pub onsite-heaviest : Names s onsitePart (onsiteTotal (rows 1 s)) (heaviestAnswer s 0)
   onsite-heaviest = names 0 (omega arith) onsitePart part-0
 
-  pub offsite-heaviest : Names s offsitePart (offsiteTotal s) (heaviestAnswer s 1)
+  pub offsite-heaviest : Names s offsitePart (offsiteTotal (rows 1 s)) (heaviestAnswer s 1)
   offsite-heaviest = names 1 (omega arith) offsitePart part-1
 
-  pub decay-heaviest : Names s decayPart (decayTotal s) (heaviestAnswer s 2)
+  pub decay-heaviest : Names s decayPart (decayTotal (rows 1 s)) (heaviestAnswer s 2)
   decay-heaviest = names 2 (omega arith) decayPart part-2
 
   -- ---- from C: 0, and the same answer at the front of the room
@@ -79,7 +79,7 @@ module _ (s : List ℕ) (c : Counts) (accepted : verdictOf s ≡ Accepted c) whe
       → (codeOf (heaviestCall s code room) ≡ 0) × (heaviestAfter s code room (heaviestCall s code room) ≡ onFront (namedNumbers (heaviestAnswer s code)) room)
   c-heaviest-told code room h m =
       let k : ruling (heaviestRules s code) ≡ Clean = named-told s code (ruling (heaviestRules s code)) Clean (named-answer s code accepted h) in
-      rw (kept-before (heaviestRules s code) (tooShort 3 room ∷ []) k ∙ long-enough 3 room m) (refl, refl)
+      rw (last-room s code room ∙ kept-before (heaviestRules s code) (tooShort 3 room ∷ []) k ∙ long-enough 3 room m) (refl, refl)
 
 -- ---- only one answer is so
 heavier-no-more : {s : List ℕ} {f : List ℕ → ℕ} {i j p q : ℕ} → Heaviest s f i p → Heaviest s f j q → p ≤ q

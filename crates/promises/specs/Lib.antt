@@ -10,9 +10,8 @@
 --     Heaviest    the row that is named has the largest part in a subtotal, and the lower id on a tie; none is named where the subtotal is zero
 --     Explained   why a return was refused: the refusal's number and place by the order, and the values that clash there
 --     ShutOut     wrong answers that the contracts refuse
---     Answers     whatever meets an entry point's contract is the answer that the demands speak of; no contract asks anything of its caller
---     OneAnswer   so each admits one answer
---     Functions   each entry point meets its contract
+-- These pages speak of the definitions. That whatever meets an entry point's contract is the answer they speak of, that each contract admits one answer and asks
+-- nothing of its caller, and that each entry point meets its contract, is the crate `contracts`.
 -- The worked day and 01's table (a) to (j), which the checker computes, are the crate `cases`; the steps of the proofs are in `steps` and in the proofs/ of the crates that they are about.
 pub mod Order
 pub mod Demand1
@@ -25,6 +24,3 @@ pub mod Table52
 pub mod Heaviest
 pub mod Explained
 pub mod ShutOut
-pub mod Answers
-pub mod OneAnswer
-pub mod Functions

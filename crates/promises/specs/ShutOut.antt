@@ -9,17 +9,21 @@ use lib.Ieee.{binary64, toBits}
 use Rattle.form.specs.Verdict.{rows, countsOf, verdictOf}
 use Rattle.form.specs.declared.Counts.{Counts}
 use Rattle.form.specs.declared.Verdict.the-variants.{Accepted, Refused}
-use Rattle.form.proofs.Accepted.{accepted-counts}
+use Rattle.standing.proofs.Accepted.{formed, formed-counts}
 use Rattle.lists.specs.Examples.{dayLengths, dayArea}
 use Rattle.rows.specs.Reading.{readAnswer, roomAfter}
 use Rattle.rows.specs.Writing.{writeAnswer, bytesAfter}
 use Rattle.rows.specs.declared.Written.the-variants.{Done}
-use Rattle.totals.specs.Columns.{sumOf, onsitePart}
-use Rattle.worksheets.specs.Sheets.{Sheets}
+use Rattle.form.specs.Sums.{sumOf}
+use Rattle.totals.specs.Columns.{onsitePart}
+use Rattle.wide.specs.Numbers.{value}
+use Rattle.wide.specs.Signs.{amount}
+use Rattle.wide.proofs.Laws.{value-words}
+use Rattle.worksheets.specs.declared.sheets.Figures.{Figures}
 use Rattle.worksheets.specs.Answers.{worked, refusal, outcomeBy, outcomeOf}
-use Rattle.listed.specs.Listed.{listed, figureCount}
-use Rattle.listed.proofs.Laws.{figureAt}
-use Rattle.doubles.specs.Double.{double, Near}
+use Rattle.listed.specs.Listed.{listed, figureCount, figureAt}
+use Rattle.doubles.specs.Double.{double}
+use Rattle.nearness.specs.Near.{Near}
 use Rattle.doubles.specs.Subtotals.{times, partOf}
 use Rattle.steps.proofs.Told.{worked-not-refused}
 use Rattle.steps.proofs.Doubles.{near-zero, in-order, from-the-last}
@@ -34,7 +38,7 @@ pub judge-not-always-refused : ((s : List ℕ) → (n : ℕ) × (p : ℕ) × (ve
 judge-not-always-refused h = not-always-refused (λ s. let r = h s in (r .0, r .1, ap (outcomeBy s) (r .2)))
 
 -- "one with a fixed figure": no figure of the printed list, by its place, is the same for every return; the worked day with a row each of grass, abandoned land and savanna, and the lone block of zero values differ in each
-pub no-fixed-figure : (i : ℕ) → i < figureCount → (x : ℤ) → ((s : List ℕ) (v : Sheets) → outcomeOf s ≡ worked v → figureAt (listed v) i .value ≡ x) → ⊥
+pub no-fixed-figure : (i : ℕ) → i < figureCount → (x : ℤ) → ((s : List ℕ) (v : Figures) → outcomeOf s ≡ worked v → amount (figureAt (listed v) i .value) ≡ x) → ⊥
 no-fixed-figure i l x always = each-differs i l (always (nth landCase .bytes) _ land-answered ∙ sym (always (nth 1 .bytes) _ lone-answered))
 
 -- "one that writes nothing": the day written to a room of nines, and its rows read to one
@@ -49,11 +53,11 @@ read-reads h =
     omega arith
 
 -- "one that totals only the first row or block": 32 rows of 10^19 each, in three blocks
-pub not-the-first-row : ((s : List ℕ) (v : Sheets) → outcomeOf s ≡ worked v → v .conversion .onsite ≡ onsitePart (getD (rows 1 s) 0 [])) → ⊥
-not-the-first-row h = let e : _≡_ {A = ℕ} 320000000000000000000 (10 ^ 19) = h (nth 5 .bytes) _ many-answered ∙ first-row in omega arith
+pub not-the-first-row : ((s : List ℕ) (v : Figures) → outcomeOf s ≡ worked v → value (v .conversion .onsite .0) ≡ onsitePart (getD (rows 1 s) 0 [])) → ⊥
+not-the-first-row h = let e : _≡_ {A = ℕ} 320000000000000000000 (10 ^ 19) = sym (value-words 320000000000000000000 .number) ∙ h (nth 5 .bytes) _ many-answered ∙ first-row in omega arith
 
-pub not-the-first-block : ((s : List ℕ) (v : Sheets) → outcomeOf s ≡ worked v → v .conversion .onsite ≡ sumOf onsitePart (take 12 (rows 1 s))) → ⊥
-not-the-first-block h = let e : _≡_ {A = ℕ} 320000000000000000000 (12 * 10 ^ 19) = h (nth 5 .bytes) _ many-answered ∙ first-block in omega arith
+pub not-the-first-block : ((s : List ℕ) (v : Figures) → outcomeOf s ≡ worked v → value (v .conversion .onsite .0) ≡ sumOf onsitePart (take 12 (rows 1 s))) → ⊥
+not-the-first-block h = let e : _≡_ {A = ℕ} 320000000000000000000 (12 * 10 ^ 19) = sym (value-words 320000000000000000000 .number) ∙ h (nth 5 .bytes) _ many-answered ∙ first-block in omega arith
 
 -- "A double of always zero breaks demand 3 as soon as a subtotal isn't zero."
 pub zero-double : (n exact : ℕ) → n ≤ 32 → Near n (double 0) exact → exact ≡ 0
@@ -61,7 +65,7 @@ zero-double n exact h near = near-zero n exact h near
 
 -- "An invented n or row count breaks demand 2": the counts are the sums of the kinds' counts
 pub no-invented-count : (s : List ℕ) (c : Counts) → verdictOf s ≡ Accepted c → c ≡ countsOf s
-no-invented-count s c e = accepted-counts s c e
+no-invented-count s c e = formed-counts s c (formed s c e)
 
 -- "Doubles near the exact value with other bits break the named order of operations": the factors of one row from the last to the first have other bits
 pub order-matters : partOf 999999 9999 999 999 999 ≡ times (times (times (times (double 999) 999) 999) 9999) 999999 → ⊥

@@ -7,13 +7,14 @@ use mathlib.Core.List.{List}
 use borrow.Author.Tests.{lt-ltb, le-ltb}
 use lib.IntN.{ℤ, pos}
 use lib.ListN.{length}
-use Rattle.table52.specs.declared.Figure.{Figure}
-use Rattle.table52.specs.declared.Figure.the-variants.{Given, NotGiven}
+use Rattle.entries52.specs.declared.Figure.{Figure}
+use Rattle.entries52.specs.declared.Figure.the-variants.{Given, NotGiven}
 use Rattle.table52.specs.declared.Lookup.the-variants.{Found, NoCountry, NoZone}
 use Rattle.table52.specs.declared.lent.Told.the-variants as told
-use Rattle.table52.specs.Table.{Printed, countries, zones}
-use Rattle.table52.specs.Lookup.{entryOf, entryAt, lookedUp}
-use Rattle.table52.specs.Rule.{deviation}
+use Rattle.entries52.specs.Table.{Printed, countries, zones}
+use Rattle.entries52.specs.Entries.{entryOf, entryAt}
+use Rattle.table52.specs.Lookup.{lookedUp}
+use Rattle.entries52.specs.Rule.{deviation}
 use Rattle.table52.specs.Lent.{givenOf, numberOf, withEntry}
 use Rattle.table52.proofs.Answers.{no-country, no-zone, found, zero-rate, blank-rate, told-one, room-kept}
 use Rattle.table52.proofs.Rule.{rule-obeyed}

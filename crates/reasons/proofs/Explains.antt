@@ -3,75 +3,89 @@
 --     reason-told    its number and its place are the refusal's
 --     no-fourth      a block that is refused is never told to be the fourth of its kind
 use Prim.Native.Nat.{ℕ, _<_}
-use mathlib.Core.Path.{_≡_, refl, subst}
+use mathlib.Core.Path.{_≡_, refl, sym, ap, ap₂, subst, _∙_}
 use mathlib.Core.Bool.{false}
 use mathlib.Core.List.{List}
 use native.Mathlib.Omega.{arith}
 use borrow.Author.Tests.{ltb-true, eqb-true, eqb-false, not-true}
 use lib.Dec.{eqb}
+use lib.ListN.{length}
 use Rattle.form.specs.Layout.{layout}
 use Rattle.form.specs.Block.{blocks, badCheck, checkSaid, checkDue, badBlock}
 use Rattle.form.specs.Records.{filed, brokenBy, overspent}
 use Rattle.form.specs.Verdict.{verdictOf}
 use Rattle.form.specs.declared.Ruling.the-variants.{Broken}
 use Rattle.form.specs.declared.Verdict.the-variants.{Refused}
-use Rattle.form.proofs.Tests.{and-true}
+use Rattle.form.proofs.Tests.{and-true, either}
 use Rattle.faults.specs.declared.Fault.the-variants.{Fourth}
 use Rattle.faults.specs.Faults.{faultOf, Faulty, fourth}
 use Rattle.faults.proofs.First.{first-fault}
 use Rattle.faults.proofs.Fourth.{never-fourth}
 use Rattle.reasons.specs.declared.Header.{Header}
-use Rattle.reasons.specs.declared.Reason.the-variants.{BadBlock}
+use Rattle.reasons.specs.declared.Reason.{Reason}
+use Rattle.reasons.specs.declared.Reason.the-variants.{BadLength, BadBlock}
 use Rattle.reasons.specs.Above.{aboveFrom}
-use Rattle.reasons.specs.Reasons.{refusalOf, reasonOf}
+use Rattle.reasons.specs.Reasons.{refusalOf, checkReason, headerReason, blockReason, idReason, limitReason, fractionsReason, reasonOf}
 use Rattle.reasons.specs.Explains.{Explains, length-1, check-2, header-3, block-4, ids-5, field-6, fractions-7}
 use Rattle.reasons.proofs.Above.{above-there}
 use Rattle.reasons.proofs.Rows.{id-parts, id-order}
-use Rattle.reasons.proofs.Refused.{RefusedAt, length-bad, check-bad, header-bad, block-bad, id-below, field-above, fractions-above, refused-at}
+use Rattle.reasons.proofs.Refused.{at-length, at-check, at-header, at-block, at-id, at-field, at-fractions, last-number}
 
-module _ (s : List ℕ) where
-  explains-at : {n p : ℕ} → RefusedAt s n p → Explains s (reasonOf s n p)
-  unfolding reasonOf badCheck brokenBy
-  explains-at (length-bad e) = length-1 e
-  explains-at (check-bad {p} h l e) = check-2 p l (eqb-false (checkSaid s p) (checkDue s p) (not-true (eqb (checkSaid s p) (checkDue s p)) e))
-  explains-at (header-bad {p} h l e) = header-3 p l e
-  explains-at (block-bad {p} h l e o) = block-4 p (faultOf s p) l (first-fault s p e)
-  explains-at (id-below {p} h l e) = let w = id-parts (filed s) p e in ids-5 p l (w .1) (w .0) (w .2) (id-order (filed s) p e)
-  explains-at (field-above {p} h l e) =
-      field-6 p (aboveFrom 0 (layout (filed s .kind p)) (filed s .row p)) l (above-there (layout (filed s .kind p)) (filed s .row p) (and-true (filed s .used p) _ e .1))
-  explains-at (fractions-above {p} h l e) =
-      let w = and-true (eqb (filed s .kind p) 1) (overspent (filed s .row p)) (and-true (filed s .used p) _ e .1) in
-      fractions-7 p l (eqb-true (filed s .kind p) 1 (w .0)) (ltb-true 1000 _ (w .1))
-
-  pub explains : {n p : ℕ} → verdictOf s ≡ Refused n p → Explains s (reasonOf s n p)
-  explains e = explains-at (refused-at s e)
-
-  told-at : {n p : ℕ} → RefusedAt s n p → refusalOf (reasonOf s n p) ≡ Broken n p
+module _ (s : List ℕ) {n p : ℕ} (e : verdictOf s ≡ Refused n p) where
+  -- what is shown of the reason of each number is so of the refusal's
+  by-number : (P : Reason → Type 0) → (n ≡ 1 → P (BadLength (length s))) → (n ≡ 2 → P (checkReason s p)) → (n ≡ 3 → P (headerReason s p)) → (n ≡ 4 → P (blockReason s p))
+      → (n ≡ 5 → P (idReason s p)) → (n ≡ 6 → P (limitReason s p)) → (n ≡ 7 → P (fractionsReason s p)) → P (reasonOf s n p)
   unfolding reasonOf
-  told-at (length-bad e) = refl
-  told-at (check-bad h l e) = refl
-  told-at (header-bad h l e) = refl
-  told-at (block-bad h l e o) = refl
-  told-at (id-below h l e) = refl
-  told-at (field-above h l e) = refl
-  told-at (fractions-above h l e) = refl
+  by-number P one two three four five six seven =
+      either P (eqb n 1) (λ q. one (eqb-true n 1 q)) (λ a.
+      either P (eqb n 2) (λ q. two (eqb-true n 2 q)) (λ b.
+      either P (eqb n 3) (λ q. three (eqb-true n 3 q)) (λ c.
+      either P (eqb n 4) (λ q. four (eqb-true n 4 q)) (λ d.
+      either P (eqb n 5) (λ q. five (eqb-true n 5 q)) (λ f.
+      either P (eqb n 6) (λ q. six (eqb-true n 6 q)) (λ g. seven (last-number s e a b c d f g)))))))
 
-  pub reason-told : {n p : ℕ} → verdictOf s ≡ Refused n p → refusalOf (reasonOf s n p) ≡ Broken n p
-  reason-told e = told-at (refused-at s e)
+  pub explains : Explains s (reasonOf s n p)
+  unfolding badCheck brokenBy
+  explains =
+      by-number (Explains s)
+      (λ q. length-1 (at-length s e q .broken))
+      (λ q. let w = at-check s e q in check-2 p (w .inside) (eqb-false (checkSaid s p) (checkDue s p) (not-true (eqb (checkSaid s p) (checkDue s p)) (w .broken))))
+      (λ q. let w = at-header s e q in header-3 p (w .inside) (w .broken))
+      (λ q. let w = at-block s e q in block-4 p (faultOf s p) (w .inside) (first-fault s p (w .broken)))
+      (λ q. let w = at-id s e q in let i = id-parts (filed s) p (w .broken) in ids-5 p (w .inside) (i .1) (i .0) (i .2) (id-order (filed s) p (w .broken)))
+      (λ q.
+      let w = at-field s e q in
+      let k = layout (filed s .kind p) in
+      field-6 p (aboveFrom 0 k (filed s .row p)) (w .inside) (above-there k (filed s .row p) (and-true (filed s .used p) _ (w .broken) .1)))
+      (λ q.
+      let w = at-fractions s e q in
+      let b = and-true (eqb (filed s .kind p) 1) (overspent (filed s .row p)) (and-true (filed s .used p) _ (w .broken) .1) in
+      fractions-7 p (w .inside) (eqb-true (filed s .kind p) 1 (b .0)) (ltb-true 1000 _ (b .1)))
+
+  pub reason-told : refusalOf (reasonOf s n p) ≡ Broken n p
+  reason-told =
+      by-number (λ r. refusalOf r ≡ Broken n p)
+      (λ q. ap₂ Broken (sym q) (omega (arith, at-length s e q .inside)))
+      told
+      told
+      told
+      told
+      told
+      told
+    where
+      told : {m : ℕ} → n ≡ m → Broken m p ≡ Broken n p
+      told q = ap (λ (x : ℕ). Broken x p) (sym q)
 
   -- ---- `fourth` is never the first fault of a return
   fourth-only : {b : ℕ} → b < blocks s → ((k : ℕ) → k < b → badBlock s k ≡ false) → Faulty s b Fourth → ⊥
   fourth-only {b} l o (fourth falls ends four) = never-fourth s b l o falls four
 
-  no-fourth-at : {n p b : ℕ} {h : Header} → RefusedAt s n p → reasonOf s n p ≡ BadBlock b h Fourth → ⊥
+  pub no-fourth : {b : ℕ} {h : Header} → reasonOf s n p ≡ BadBlock b h Fourth → ⊥
   unfolding reasonOf
-  no-fourth-at (length-bad e) q = let z : _≡_ {A = ℕ} 0 1 = cc in absurd (omega arith)
-  no-fourth-at (check-bad h l e) q = let z : _≡_ {A = ℕ} 0 1 = cc in absurd (omega arith)
-  no-fourth-at (header-bad h l e) q = let z : _≡_ {A = ℕ} 0 1 = cc in absurd (omega arith)
-  no-fourth-at (block-bad {p} h l e o) q = let f : faultOf s p ≡ Fourth = cc in fourth-only l o (subst (Faulty s p) f (first-fault s p e))
-  no-fourth-at (id-below h l e) q = let z : _≡_ {A = ℕ} 0 1 = cc in absurd (omega arith)
-  no-fourth-at (field-above h l e) q = let z : _≡_ {A = ℕ} 0 1 = cc in absurd (omega arith)
-  no-fourth-at (fractions-above h l e) q = let z : _≡_ {A = ℕ} 0 1 = cc in absurd (omega arith)
-
-  pub no-fourth : {n p b : ℕ} {h : Header} → verdictOf s ≡ Refused n p → reasonOf s n p ≡ BadBlock b h Fourth → ⊥
-  no-fourth e = no-fourth-at (refused-at s e)
+  no-fourth {b} {h} d =
+      let z : Broken n p ≡ Broken 4 b = sym reason-told ∙ ap refusalOf d in
+      let q : n ≡ 4 = cc in
+      let w = at-block s e q in
+      let g : blockReason s p ≡ BadBlock b h Fourth = subst (λ (x : ℕ). reasonOf s x p ≡ BadBlock b h Fourth) q d in
+      let f : faultOf s p ≡ Fourth = cc in
+      fourth-only (w .inside) (w .lowest) (subst (Faulty s p) f (first-fault s p (w .broken)))

@@ -1,2 +1,2 @@
 mod Filled
-pub mod Short
+mod Short

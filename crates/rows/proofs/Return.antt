@@ -12,7 +12,8 @@ use lib.Seq.{sets, length-sets, drop-cons}
 use Rattle.form.specs.First.{first}
 use Rattle.form.specs.Layout.{kinds}
 use Rattle.form.specs.Ruling.{rule, ruling}
-use Rattle.form.specs.Records.{recordRules}
+use Rattle.form.specs.Records.{Filed, recordRules}
+use Rattle.form.specs.Sums.{sumRules, filedRules}
 use Rattle.form.specs.declared.Spot.the-variants.{At, Nowhere}
 use Rattle.form.specs.declared.Ruling.{Ruling}
 use Rattle.form.specs.declared.Ruling.the-variants.{Clean, Broken}
@@ -25,7 +26,7 @@ use Rattle.filing.proofs.Alike.{blocks-behind}
 use Rattle.filing.proofs.Cut.{cut-length, cut-lengths, total-none}
 use Rattle.lists.proofs.Scan.{in-lengths, part-is, part-long, part-next}
 use Rattle.lists.specs.Rules.{badAt, listRules, Good, blocksFrom}
-use Rattle.rows.specs.Writing.{written, writtenBy, writeAnswer, bytesAfter, answerFrom5, answerFrom9}
+use Rattle.rows.specs.Writing.{written, roomRule, writtenBy, writeAnswer, bytesAfter, answerFrom5, answerFrom9}
 use Rattle.rows.specs.declared.Written.{Written}
 use Rattle.rows.specs.declared.Written.the-variants.{Done, Refused}
 
@@ -143,11 +144,16 @@ module _ (e : ℕ) (lengths area room : List ℕ) {n : ℕ} (en : n ≡ length (
   on-front h s = s ∙ sets-front room (written e (cut lengths area)) (omega arith)
 
 module _ (e : ℕ) (lengths area room : List ℕ) where
+  f : Filed
+  f = filedLists (cut lengths area)
+
   pub record-broken : {n p : ℕ} → ruling (recordRules e (filedLists (cut lengths area))) ≡ Broken n p → Refused n p ≡ answerFrom5 e lengths area room
-  record-broken b = ap (writtenBy e (cut lengths area)) (sym (ruled-before (recordRules e (filedLists (cut lengths area))) _ b))
+  unfolding f
+  record-broken b = ap (writtenBy e (cut lengths area)) (sym (ruled-before (filedRules e f) (roomRule e (cut lengths area) room ∷ []) (ruled-before (recordRules e f) (sumRules f) b)))
 
   pub records-kept : {r : Written} → ruling (recordRules e (filedLists (cut lengths area))) ≡ Clean → r ≡ answerFrom9 e lengths area room → r ≡ answerFrom5 e lengths area room
-  records-kept c q = q ∙ ap (writtenBy e (cut lengths area)) (sym (kept-before (recordRules e (filedLists (cut lengths area))) _ c))
+  unfolding f ruling
+  records-kept c q = q ∙ ap (writtenBy e (cut lengths area)) (sym (kept-before (filedRules e f) (roomRule e (cut lengths area) room ∷ []) (kept-before (recordRules e f) (sumRules f) c)))
 
   pub list-broken : {kind : ℕ} → first (badAt e lengths (length area)) (suc kinds) ≡ At kind → Refused 10 kind ≡ writeAnswer e lengths area room
   unfolding writeAnswer listRules

@@ -14,7 +14,7 @@ use Rattle.form.specs.Layout.{kinds, numbersOf}
 use Rattle.form.specs.Ruling.{rule, ruling}
 use Rattle.form.specs.Block.{blocks}
 use Rattle.form.specs.Records.{Filed, filed}
-use Rattle.form.specs.Verdict.{rules, rowCount, rows, countsOf, countIn, verdictBy, verdictOf}
+use Rattle.form.specs.Verdict.{rules, rowCount, rows, countsOf, countIn, verdictBy, verdictOf, Formed}
 use Rattle.form.specs.Standing.{blocksFor, startBlock, startPlace, rowsFrom}
 use Rattle.form.specs.declared.Counts.{Counts}
 use Rattle.form.specs.declared.Spot.the-variants.{At, Nowhere}
@@ -22,8 +22,8 @@ use Rattle.form.specs.declared.Verdict.the-variants.{Accepted, Refused}
 use Rattle.form.proofs.Search.{first-none}
 use Rattle.form.proofs.Order.{ruled, kept, ruled-before, kept-before}
 use Rattle.form.proofs.Meaning.{refused-ruling}
-use Rattle.form.proofs.Stand.{start-le, start-all}
-use Rattle.form.proofs.Accepted.{accepted-ruling, accepted-counts, in-order, lies, rows-are, few-rows}
+use Rattle.standing.proofs.Stand.{start-le, start-all}
+use Rattle.standing.proofs.Accepted.{accepted-ruling, formed, formed-counts, in-order, lies, rows-are, few-rows}
 use Rattle.filing.specs.Written.{inTurn}
 use Rattle.filing.specs.Tables.{rowOn}
 use Rattle.filing.proofs.Stores.{length-turns}
@@ -38,7 +38,7 @@ unfolding flatten rowsFrom inTurn
 flat-from f j zero = refl
 flat-from f j (suc n) = ap (λ (x : List ℕ). f .row j ++ x) (flat-from f (suc j) n)
 
-module _ (s : List ℕ) (c : Counts) (acc : verdictOf s ≡ Accepted c) (k : ℕ) (h : k < kinds) where
+module _ (s : List ℕ) (c : Counts) (acc : Formed s c) (k : ℕ) (h : k < kinds) where
   pub rows-turn : inTurn (rowOn (suc k) s) (startPlace (suc k) s) (rowCount (suc k) s) ≡ rowsOf s (suc k)
   unfolding rowOn
   rows-turn =
@@ -98,7 +98,7 @@ module _ (s : List ℕ) (room : List ℕ) where
     pub all-read : first (outgrown s (length room)) (suc kinds) ≡ Nowhere → Accepted c ≡ readAnswer s room
     unfolding readAnswer ruling
     all-read e =
-        ap Accepted (accepted-counts s c acc) ∙ ap (verdictBy s) (kept (rule 9 (suc kinds) (outgrown s (length room))) [] e refl ∙ sym last)
+        ap Accepted (formed-counts s c (formed s c acc)) ∙ ap (verdictBy s) (kept (rule 9 (suc kinds) (outgrown s (length room))) [] e refl ∙ sym last)
 
 -- the room is long enough for all rows
 pub enough : (s : List ℕ) (m : ℕ) → first (outgrown s m) (suc kinds) ≡ Nowhere → length (areaTo s kinds) ≤ m

@@ -2,10 +2,10 @@
 use Prim.Native.Nat.{ℕ, zero, suc, _*_}
 use mathlib.Core.Bool.{Bool}
 use mathlib.Core.List.{List, [], _∷_, _++_, flatten}
-use lib.ListN.{length, drop}
+use lib.ListN.{length}
 use lib.Dec.{ltb}
 use Rattle.form.specs.Layout.{kinds, numbersOf}
-use Rattle.form.specs.Ruling.{Rule, rule, ruling}
+use Rattle.form.specs.Ruling.{Rule, rule, ruling, onFront}
 use Rattle.form.specs.Verdict.{rules, rows, countList, verdictBy}
 use Rattle.form.specs.declared.Counts.{Counts}
 use Rattle.form.specs.declared.Verdict.{Verdict}
@@ -31,10 +31,6 @@ readRules s room = rules s ++ (rule 9 (suc kinds) (outgrown s (length room)) ∷
 -- "A read answers the .. row counts" and the edition, or "a refusal gives number and place"
 unfoldable pub readAnswer : List ℕ → List ℕ → Verdict
 readAnswer s room = verdictBy s (ruling (readRules s room))
-
--- exactly these at the front; later elements keep their values
-abbrev pub onFront : List ℕ → List ℕ → List ℕ
-onFront x room = x ++ drop (length x) room
 
 -- what the room holds after an answer
 abbrev pub roomAfter : List ℕ → List ℕ → Verdict → List ℕ

@@ -2,14 +2,13 @@
 use Prim.Native.Nat.{ℕ}
 use mathlib.Core.List.{List, [], _∷_, _++_}
 use lib.ListN.{length}
-use Rattle.form.specs.Ruling.{Rule, tooShort, ruling}
-use Rattle.form.specs.Records.{recordRules}
+use Rattle.form.specs.Ruling.{Rule, tooShort, ruling, onFront}
+use Rattle.form.specs.Sums.{filedRules}
 use Rattle.form.specs.declared.Ruling.{Ruling}
 use Rattle.form.specs.declared.Ruling.the-variants.{Clean, Broken}
 use Rattle.filing.specs.Lists.{Lists, cut, filedLists}
 use Rattle.filing.specs.Written.{bytesOf}
 use Rattle.lists.specs.Rules.{listRules}
-use Rattle.rows.specs.Reading.{onFront}
 use Rattle.rows.specs.declared.Written.{Written}
 use Rattle.rows.specs.declared.Written.the-variants.{Done, Refused}
 
@@ -42,7 +41,7 @@ bytesAfter edition lengths area room (Refused n p) = room
 abbrev pub answerFrom5 : ℕ → List ℕ → List ℕ → List ℕ → Written
 answerFrom5 edition lengths area room =
     let l = cut lengths area in
-    writtenBy edition l (ruling (recordRules edition (filedLists l) ++ (roomRule edition l room ∷ [])))
+    writtenBy edition l (ruling (filedRules edition (filedLists l) ++ (roomRule edition l room ∷ [])))
 
 abbrev pub answerFrom9 : ℕ → List ℕ → List ℕ → List ℕ → Written
 answerFrom9 edition lengths area room = let l = cut lengths area in writtenBy edition l (ruling (roomRule edition l room ∷ []))

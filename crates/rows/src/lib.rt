@@ -5,7 +5,7 @@ ghost use lib.ListN.{length};
 ghost use lib.Seq.{sets};
 ghost use Rattle.form.specs.First.{first};
 ghost use Rattle.form.specs.Layout.{kinds};
-ghost use Rattle.form.specs.Verdict.{verdictOf};
+ghost use Rattle.form.specs.Verdict.{verdictOf, Formed};
 ghost use Rattle.form.specs.declared.Verdict.the-variants.{Accepted};
 ghost use Rattle.filing.specs.Lists.{cut};
 ghost use Rattle.lists.specs.Rules.{Good, blocksFrom};
@@ -95,7 +95,7 @@ pub fn write(edition: u32, lengths: &[u32], rows: &[u32], room: &mut [u8]) -> Wr
 
 // The lowest kind whose rows no longer fit room for m numbers.
 fn first_outgrown(bytes: &[u8], counts: Counts, m: usize) -> Spot
-    requires { ⌜ verdictOf (now bytes) ≡ Accepted counts ⌝ }
+    requires { ⌜ Formed (now bytes) counts ⌝ }
     ensures { λ r. ⌜ r ≡ first (outgrown (now (bytes .entry)) m) (suc kinds) ⌝ }
 {
     let mut need: usize = 0;
@@ -112,7 +112,7 @@ fn first_outgrown(bytes: &[u8], counts: Counts, m: usize) -> Spot
 
 // Each kind's rows from its first place on, behind those of the kinds before it.
 fn read_rows(bytes: &[u8], counts: Counts, room: &mut [u32])
-    requires { ⌜ (verdictOf (now bytes) ≡ Accepted counts) × (length (areaTo (now bytes) kinds) ≤ length (now room)) ⌝ }
+    requires { ⌜ Formed (now bytes) counts × (length (areaTo (now bytes) kinds) ≤ length (now room)) ⌝ }
     ensures { λ _. ⌜ now (room .exit) ≡ sets (now (room .entry)) 0 (areaTo (now (bytes .entry)) kinds) ⌝ }
 {
     let mut first: usize = 0;

@@ -9,16 +9,17 @@ use lib.ListN.{getD}
 use lib.Dec.{lit<, lit≤}
 use Rattle.form.specs.Bytes.{number}
 use Rattle.form.specs.Layout.{field, savanna, rowFrom, rowAt, aboveLimit}
-use Rattle.form.proofs.Accepted.{limit-of}
-use Rattle.savannas.specs.Savannas.{burnedArea, biomass, reallyBurned, live, liveOxidised, liveCarbon, deadOxidised, deadCarbon, nitrogenRatio, ch4Ratio, coRatio, n2oRatio, noxRatio, carbonShare, carbonPart, ch4Part, coPart, n2oPart, noxPart}
+use Rattle.standing.proofs.Accepted.{limit-of}
+use Rattle.burning.specs.Released.{Thousandths}
+use Rattle.savannas.specs.Savannas.{burnedArea, biomass, reallyBurned, live, liveOxidised, liveCarbon, deadOxidised, deadCarbon, carbonShare, carbonPart, ratiosOf}
 
 -- three numbers of a row that the code multiplies
 pub burns : (a b c : ℕ) → a ≤ 1000000 → b ≤ 10000 → c ≤ 1000 → a * b * c ≤ 10 ^ 13
 burns a b c ha hb hc = grw (bound, ha, hb, hc) (lit≤ tt)
 
--- live and dead are 1,000 together
-pub shares : (l a b c d : ℕ) → l ≤ 1000 → a ≤ 1000 → b ≤ 1000 → c ≤ 1000 → d ≤ 1000 → l * a * b + (1000 - l) * c * d ≤ 10 ^ 9
-shares l a b c d hl ha hb hc hd = grw (bound, ha, hb, hc, hd) (omega arith)
+-- two fractions' carbon
+pub shares : (l a b m c d : ℕ) → l ≤ 1000 → a ≤ 1000 → b ≤ 1000 → m ≤ 1000 → c ≤ 1000 → d ≤ 1000 → l * a * b + m * c * d ≤ 2 * 10 ^ 9
+shares l a b m c d hl ha hb hm hc hd = grw (bound, hl, ha, hb, hm, hc, hd) (lit≤ tt)
 
 module _ (r : List ℕ) (h : aboveLimit savanna r ≡ false) where
   fits : (i : ℕ) → i < 14 → getD r i 0 ≤ getD savanna i (field 0 0 0) .limit
@@ -30,32 +31,16 @@ module _ (r : List ℕ) (h : aboveLimit savanna r ≡ false) where
   pub living : (live r ≤ 1000) × (liveOxidised r ≤ 1000) × (liveCarbon r ≤ 1000) × (deadOxidised r ≤ 1000) × (deadCarbon r ≤ 1000)
   living = (fits 4 (lit< tt), fits 5 (lit< tt), fits 6 (lit< tt), fits 7 (lit< tt), fits 8 (lit< tt))
 
-  pub ratios : (nitrogenRatio r ≤ 1000) × (ch4Ratio r ≤ 1000) × (coRatio r ≤ 1000) × (n2oRatio r ≤ 1000) × (noxRatio r ≤ 1000)
-  ratios = (fits 9 (lit< tt), fits 10 (lit< tt), fits 11 (lit< tt), fits 12 (lit< tt), fits 13 (lit< tt))
+  pub ratios : Thousandths (ratiosOf r)
+  ratios = record { nc = fits 9 (lit< tt); ch4 = fits 10 (lit< tt); co = fits 11 (lit< tt); n2o = fits 12 (lit< tt); nox = fits 13 (lit< tt) }
 
-  pub share-below : carbonShare r ≤ 10 ^ 9
+  pub share-below : carbonShare r ≤ 2 * 10 ^ 9
   unfolding carbonShare
-  share-below = let w = living in shares _ _ _ _ _ (w .0) (w .1) (w .2) (w .3) (w .4)
+  share-below = let w = living in shares _ _ _ _ _ _ (w .0) (w .1) (w .2) (omega arith) (w .3) (w .4)
 
-  pub carbon-below : carbonPart r ≤ 10 ^ 22
+  pub carbon-below : carbonPart r ≤ 2 * 10 ^ 22
   unfolding carbonPart
   carbon-below = let w = burning in grw (bound, w .0, w .1, w .2, share-below) (lit≤ tt)
-
-  pub ch4-below : ch4Part r ≤ 10 ^ 25
-  unfolding ch4Part
-  ch4-below = grw (bound, carbon-below, ratios .1) (lit≤ tt)
-
-  pub co-below : coPart r ≤ 10 ^ 25
-  unfolding coPart
-  co-below = grw (bound, carbon-below, ratios .2) (lit≤ tt)
-
-  pub n2o-below : n2oPart r ≤ 10 ^ 28
-  unfolding n2oPart
-  n2o-below = grw (bound, carbon-below, ratios .0, ratios .3) (lit≤ tt)
-
-  pub nox-below : noxPart r ≤ 10 ^ 28
-  unfolding noxPart
-  nox-below = grw (bound, carbon-below, ratios .0, ratios .4) (lit≤ tt)
 
 -- where the code reads them
 module _ (s : List ℕ) (at : ℕ) (h : aboveLimit savanna (rowAt savanna s at) ≡ false) where

@@ -1,9 +1,11 @@
--- Worksheet 4-3, savannas that burn in the dry season: the numbers of a row, its carbon, and what of it goes off with each gas.
+-- Worksheet 4-3, savannas that burn in the dry season: the numbers of a row, its carbon, and the sheet.
 use Prim.Native.Nat.{ℕ, _+_, _-_, _*_}
 use mathlib.Core.List.{List}
 use lib.ListN.{getD}
-use Rattle.form.specs.Verdict.{rows}
-use Rattle.totals.specs.Columns.{sumOf}
+use Rattle.burning.specs.Released.{burnedBy}
+use Rattle.burning.specs.Gases.{gasesOf}
+use Rattle.burning.specs.declared.Ratios.{Ratios}
+use Rattle.savannas.specs.declared.Savannas.{Savannas}
 
 -- "area, density, fraction really burned, live fraction"
 abbrev pub burnedArea : List ℕ → ℕ
@@ -55,34 +57,17 @@ dead r = 1000 - live r
 unfoldable pub carbonShare : List ℕ → ℕ
 carbonShare r = live r * liveOxidised r * liveCarbon r + dead r * deadOxidised r * deadCarbon r
 
+-- what is really burned
+abbrev pub burnedMass : List ℕ → ℕ
+burnedMass r = burnedArea r * biomass r * reallyBurned r
+
 unfoldable pub carbonPart : List ℕ → ℕ
-carbonPart r = burnedArea r * biomass r * reallyBurned r * carbonShare r
+carbonPart r = burnedMass r * carbonShare r
 
--- "gases as in 5-3": carbon by the gas's ratio, or carbon by N/C and the gas's ratio
-unfoldable pub ch4Part : List ℕ → ℕ
-ch4Part r = carbonPart r * ch4Ratio r
+-- "the row's own" ratios, as burning takes them
+abbrev pub ratiosOf : List ℕ → Ratios
+ratiosOf r = record { nc = nitrogenRatio r; ch4 = ch4Ratio r; co = coRatio r; n2o = n2oRatio r; nox = noxRatio r }
 
-unfoldable pub coPart : List ℕ → ℕ
-coPart r = carbonPart r * coRatio r
-
-unfoldable pub n2oPart : List ℕ → ℕ
-n2oPart r = carbonPart r * nitrogenRatio r * n2oRatio r
-
-unfoldable pub noxPart : List ℕ → ℕ
-noxPart r = carbonPart r * nitrogenRatio r * noxRatio r
-
--- "each gas summed exactly over the rows"
-abbrev pub savannaCarbon : List ℕ → ℕ
-savannaCarbon s = sumOf carbonPart (rows 6 s)
-
-abbrev pub savannaCh4 : List ℕ → ℕ
-savannaCh4 s = sumOf ch4Part (rows 6 s)
-
-abbrev pub savannaCo : List ℕ → ℕ
-savannaCo s = sumOf coPart (rows 6 s)
-
-abbrev pub savannaN2o : List ℕ → ℕ
-savannaN2o s = sumOf n2oPart (rows 6 s)
-
-abbrev pub savannaNox : List ℕ → ℕ
-savannaNox s = sumOf noxPart (rows 6 s)
+-- "gases as in 5-3, each gas summed exactly over the rows and rounded once"; "There is no net CO2 here." Carbon is in 10^-15 kt, a thousand times finer than in 5-3
+unfoldable pub savannasOf : List (List ℕ) → Savannas
+savannasOf rows = let t = burnedBy carbonPart ratiosOf rows in record { carbon = t .carbon; gases = gasesOf t 1000 }

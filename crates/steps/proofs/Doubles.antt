@@ -4,9 +4,10 @@ use mathlib.Core.Path.{_≡_, refl, subst}
 use native.Mathlib.Nat.{mul-le-mul-right}
 use native.Mathlib.Omega.{arith}
 use lib.Ieee.{binary64, mul, ofInt, toBits}
-use Rattle.doubles.specs.Double.{double, distance, Near}
+use Rattle.doubles.specs.Double.{double}
+use Rattle.nearness.specs.Near.{distance, Near}
 use Rattle.doubles.specs.Subtotals.{times, partOf}
-use Rattle.doubles.proofs.Wholes.{one-value, double-holds}
+use Rattle.nearness.proofs.Wholes.{one-value, double-holds}
 
 -- zero is near no other number
 pub near-zero : (n exact : ℕ) → n ≤ 32 → Near n (double 0) exact → exact ≡ 0

@@ -7,22 +7,30 @@ use lib.Dec.{lit≤}
 use lib.ListN.{length}
 use Rattle.form.specs.Edition.{lastKind}
 use Rattle.form.specs.Block.{edition}
-use Rattle.form.specs.Verdict.{rowCount, rows, verdictOf}
+use Rattle.form.specs.Verdict.{rowCount, rows, Formed, verdictOf}
 use Rattle.form.specs.declared.Counts.{Counts}
 use Rattle.form.specs.declared.Verdict.the-variants.{Accepted}
-use Rattle.form.proofs.Accepted.{accepted-counts, rows-length, no-rows}
+use Rattle.standing.proofs.Accepted.{formed, formed-counts, rows-length, no-rows}
+use Rattle.form.specs.Sums.{sumOf}
+use Rattle.wide.specs.Numbers.{value, wordsOf}
 use Rattle.wide.specs.Rounding.{settled}
-use Rattle.totals.specs.Columns.{sumOf}
-use Rattle.savannas.specs.Sheet.{savannasOf}
-use Rattle.worksheets.specs.Sheets.{abandonedOf, figuresOf}
+use Rattle.totals.specs.Masses.{carbon}
+use Rattle.units.specs.Columns.{co2}
+use Rattle.burning.specs.Released.{burnedBy}
+use Rattle.burning.specs.Gases.{gas, gasesOf}
+use Rattle.savannas.specs.Savannas.{savannasOf}
+use Rattle.worksheets.specs.Sheets.{abandonedOf, byKind, figuresOf}
 
 none-left : (l : List (List ℕ)) → length l ≡ 0 → l ≡ []
 none-left [] e = refl
 none-left (x ∷ l) e = absurd (omega arith)
 
-module _ (s : List ℕ) (c : Counts) (acc : verdictOf s ≡ Accepted c) where
+module _ (s : List ℕ) (c : Counts) (accepted : verdictOf s ≡ Accepted c) where
+  acc : Formed s c
+  acc = formed s c accepted
+
   pub edition-told : c .edition ≡ edition s 0
-  edition-told = ap (λ (x : Counts). x .edition) (accepted-counts s c acc)
+  edition-told = ap (λ (x : Counts). x .edition) (formed-counts s c acc)
 
   module _ (one : edition s 0 ≡ 1) where
     no-row : rowCount 5 s ≡ 0
@@ -34,15 +42,15 @@ module _ (s : List ℕ) (c : Counts) (acc : verdictOf s ≡ Accepted c) where
     no-row-6 = no-rows s c acc 6 (rw one (lit≤ tt))
 
     pub no-land : c .abandoned ≡ 0
-    no-land = ap (λ (x : Counts). x .abandoned) (accepted-counts s c acc) ∙ no-row
+    no-land = ap (λ (x : Counts). x .abandoned) (formed-counts s c acc) ∙ no-row
 
-    pub no-uptake : (figuresOf s .abandoned .uptake ≡ 0) × (figuresOf s .abandoned .co2 ≡ 0)
-    unfolding abandonedOf sumOf settled
-    no-uptake = rw (none-left (rows 5 s) (rows-length s c acc 5 ∙ no-row)) (refl, refl)
+    pub no-uptake : figuresOf (byKind s) .abandoned ≡ record { uptake = carbon 0; co2 = co2 0 }
+    unfolding abandonedOf sumOf settled value wordsOf
+    no-uptake = rw (none-left (rows 5 s) (rows-length s c acc 5 ∙ no-row)) refl
 
     pub no-savanna : c .savanna ≡ 0
-    no-savanna = ap (λ (x : Counts). x .savanna) (accepted-counts s c acc) ∙ no-row-6
+    no-savanna = ap (λ (x : Counts). x .savanna) (formed-counts s c acc) ∙ no-row-6
 
-    pub no-fire : figuresOf s .savannas ≡ record { carbon = 0; ch4 = 0; co = 0; n2o = 0; nox = 0 }
-    unfolding savannasOf sumOf settled
+    pub no-fire : figuresOf (byKind s) .savannas ≡ record { carbon = carbon 0; gases = record { ch4 = gas 0; co = gas 0; n2o = gas 0; nox = gas 0 } }
+    unfolding savannasOf burnedBy gasesOf sumOf settled value wordsOf
     no-fire = rw (none-left (rows 6 s) (rows-length s c acc 6 ∙ no-row-6)) refl

@@ -12,15 +12,16 @@ use lib.Dec.{ltb}
 use lib.IntN.{ℤ, pos, negsuc, natAbs}
 use lib.ListN.{length}
 use borrow.Author.Tests.{lt-ltb, le-ltb, eqb-true, eq-eqb}
-use Rattle.table52.specs.declared.Figure.{Figure}
-use Rattle.table52.specs.declared.Figure.the-variants.{Given, NotGiven}
-use Rattle.table52.specs.declared.Entry.{Entry}
+use Rattle.entries52.specs.declared.Figure.{Figure}
+use Rattle.entries52.specs.declared.Figure.the-variants.{Given, NotGiven}
+use Rattle.entries52.specs.declared.Entry.{Entry}
 use Rattle.table52.specs.declared.Lookup.{Lookup}
 use Rattle.table52.specs.declared.Lookup.the-variants.{Found, NoCountry, NoZone}
 use Rattle.table52.specs.declared.lent.Told.{Told}
 use Rattle.table52.specs.declared.lent.Told.the-variants as told
-use Rattle.table52.specs.Table.{countries, zones}
-use Rattle.table52.specs.Lookup.{sameNumber, rateOf, entryAt, lookedUp}
+use Rattle.entries52.specs.Table.{countries, zones}
+use Rattle.entries52.specs.Entries.{sameNumber, rateOf, entryAt}
+use Rattle.table52.specs.Lookup.{lookedUp}
 use Rattle.table52.specs.Lent.{givenOf, numberOf, withEntry, toldOf, roomAfter}
 
 module _ (country zone : ℕ) where

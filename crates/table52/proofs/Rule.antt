@@ -7,13 +7,14 @@ use lib.Dec.{T, ltb, leb→le}
 use lib.IntN.{ℤ}
 use lib.ListN.{length}
 use borrow.Author.Tests.{ltb-true}
-use Rattle.table52.specs.declared.Figure.the-variants.{Given}
+use Rattle.entries52.specs.declared.Figure.the-variants.{Given}
 use Rattle.table52.specs.declared.Lookup.{Lookup}
 use Rattle.table52.specs.declared.Lookup.the-variants.{Found, NoCountry, NoZone}
-use Rattle.table52.specs.Table.{table, none, countries, zones, entries}
-use Rattle.table52.specs.Lookup.{entryAt, lookedUp}
-use Rattle.table52.specs.Rule.{deviation, obeys, obeysAt, rule-shown}
-use Rattle.table52.proofs.Laws.{at}
+use Rattle.entries52.specs.Table.{table, none, countries, zones, entries}
+use Rattle.entries52.specs.Entries.{entryAt}
+use Rattle.table52.specs.Lookup.{lookedUp}
+use Rattle.entries52.specs.Rule.{deviation, obeys, obeysAt, rule-shown}
+use Rattle.entries52.proofs.Laws.{at}
 
 abbrev obeysAnswer : Lookup → Bool
 obeysAnswer (Found e) = obeys e

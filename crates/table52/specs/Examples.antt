@@ -5,11 +5,12 @@ use mathlib.Core.Bool.{false}
 use mathlib.Core.List.{List, [], _∷_}
 use lib.IntN.{pos, negsuc}
 use lib.ListN.{length}
-use Rattle.table52.specs.declared.Figure.{Figure}
-use Rattle.table52.specs.declared.Figure.the-variants.{Given, NotGiven}
+use Rattle.entries52.specs.declared.Figure.{Figure}
+use Rattle.entries52.specs.declared.Figure.the-variants.{Given, NotGiven}
 use Rattle.table52.specs.declared.Lookup.the-variants.{Found, NoCountry, NoZone}
-use Rattle.table52.specs.Table.{Printed, table, entries}
-use Rattle.table52.specs.Lookup.{rateOf, lookedUp}
+use Rattle.entries52.specs.Table.{Printed, table, entries}
+use Rattle.entries52.specs.Entries.{rateOf}
+use Rattle.table52.specs.Lookup.{lookedUp}
 
 -- Angola, moist with a short dry season
 angola : lookedUp 0 1 ≡ Found (record { area1980 = Given (pos 31233); area1990 = Given (pos 29045); rate = Given (pos 219); marked = false })

@@ -5,9 +5,9 @@ use mathlib.Core.List.{List, [], _∷_, _++_}
 use lib.ListN.{length, drop}
 use lib.IntN.{ℤ, pos}
 use lib.Dec.{ltb}
-use Rattle.table52.specs.declared.Figure.{Figure}
-use Rattle.table52.specs.declared.Figure.the-variants.{Given, NotGiven}
-use Rattle.table52.specs.declared.Entry.{Entry}
+use Rattle.entries52.specs.declared.Figure.{Figure}
+use Rattle.entries52.specs.declared.Figure.the-variants.{Given, NotGiven}
+use Rattle.entries52.specs.declared.Entry.{Entry}
 use Rattle.table52.specs.declared.Lookup.{Lookup}
 use Rattle.table52.specs.declared.Lookup.the-variants as found
 use Rattle.table52.specs.declared.lent.Told.{Told}

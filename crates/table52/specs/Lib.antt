@@ -1,7 +1,4 @@
--- Table 5-2 of document 001, its lookup and its rule. Read in this order.
-pub mod Table
+-- The lookup in table 5-2. The table itself and its rule are the crate `entries52`. Read in this order.
 pub mod Lookup
-pub mod Rule
 pub mod Lent
 mod Examples
-pub mod Cells

@@ -4,10 +4,10 @@ ghost use Prim.Native.Nat.{_≤_};
 ghost use lib.ListN.{length};
 ghost use Rattle.table52.specs.Lookup.{lookedUp};
 ghost use Rattle.table52.specs.Lent.{givenOf, numberOf, markOf, withEntry, toldOf, roomAfter};
-use crate::Entry;
-use crate::Figure;
 use crate::Lookup;
 use crate::look_up;
+use entries52::Entry;
+use entries52::Figure;
 
 // What became of a lookup with lent room.
 pub enum Told {

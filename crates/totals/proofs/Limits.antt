@@ -6,15 +6,17 @@ use mathlib.Core.Path.{_≡_}
 use mathlib.Core.Bool.{Bool, true, false, cond}
 use mathlib.Core.List.{List}
 use native.Mathlib.Omega.{arith}
-use native.Mathlib.Nat.{le-pred-of-lt}
+use native.Mathlib.Nat.{le-of-lt, le-pred-of-lt, mul-le-mul}
 use native.Mathlib.Numerals.{bound}
+use lib.Pow.{pow-add, pow-pos}
 use lib.ListN.{getD}
 use lib.Dec.{lit<, lit≤}
 use Rattle.form.specs.Layout.{field, conversion, stock, harvest, abandoned, aboveLimit}
 use Rattle.form.specs.Records.{areaOf, before, after, onsite, onsiteOxidised, onsiteCarbon, offsite, offsiteOxidised, offsiteCarbon, tenYearArea, tenYearBefore, tenYearAfter, decay, decayCarbon, thinner, countedDifference, difference}
 use Rattle.form.proofs.Periods.{counted-le}
-use Rattle.form.proofs.Accepted.{limit-of}
-use Rattle.totals.specs.Columns.{rate, stockAmount, stockCarbon, commercial, tonnesPerM3, fuelwood, otherUse, stockPart, harvestPart, clearedPart, onsitePart, offsitePart, decayPart, thinnerPart}
+use Rattle.standing.proofs.Accepted.{limit-of}
+use Rattle.form.specs.Sums.{commercial, tonnesPerM3, fuelwood, otherUse, harvestPart, clearedPart}
+use Rattle.totals.specs.Columns.{rate, stockAmount, stockCarbon, stockPart, onsitePart, offsitePart, decayPart, thinnerPart}
 use Rattle.totals.specs.Abandoned.{abandonedPart}
 
 -- a number of four bytes times one or two of two bytes
@@ -27,6 +29,10 @@ four-two-two a b c ha hb hc = grw (bound, le-pred-of-lt ha, le-pred-of-lt hb, le
 -- an area's biomass times a number of two bytes
 pub biomass-two : (a b : ℕ) → a ≤ 10 ^ 10 → b < 2 ^ 16 → a * b < 2 ^ 64
 biomass-two a b ha hb = grw (bound, ha, le-pred-of-lt hb) (lit< tt)
+
+-- a number of b bits times one of at most a thousand has ten bits more
+pub thousand : (b x k : ℕ) → x < 2 ^ b → k ≤ 1000 → x * k < 2 ^ (b + 10)
+thousand b x k hx hk = omega (arith, mul-le-mul (le-of-lt hx) hk, pow-add 2 b 10, pow-pos b)
 
 -- a period is thinner, or it is not
 period-one : (b : Bool) → cond b 1 0 ≤ 1

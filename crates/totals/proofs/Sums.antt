@@ -8,7 +8,7 @@ use native.Mathlib.Numerals.{add-one}
 use native.Mathlib.Omega.{arith}
 use lib.ListN.{length, take, getD}
 use lib.Seq.{take-all}
-use Rattle.totals.specs.Columns.{sumOf}
+use Rattle.form.specs.Sums.{sumOf}
 
 module _ (f : List ℕ → ℕ) where
   sum-suc : (rs : List (List ℕ)) (i : ℕ) → i < length rs → sumOf f (take (suc i) rs) ≡ sumOf f (take i rs) + f (getD rs i [])

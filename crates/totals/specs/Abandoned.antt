@@ -3,8 +3,7 @@ use Prim.Native.Nat.{ℕ, _+_, _*_}
 use mathlib.Core.List.{List}
 use lib.ListN.{getD}
 use Rattle.form.specs.Bytes.{number}
-use Rattle.form.specs.Verdict.{rows}
-use Rattle.totals.specs.Columns.{sumOf}
+use Rattle.form.specs.Sums.{sumOf}
 
 -- "the area abandoned for up to twenty years, its growth rate and carbon fraction"
 abbrev pub youngArea : List ℕ → ℕ
@@ -31,8 +30,8 @@ unfoldable pub abandonedPart : List ℕ → ℕ
 abandonedPart r = youngArea r * youngRate r * youngCarbon r + olderArea r * olderRate r * olderCarbon r
 
 -- "Uptake is the sum of the two products over the rows" (10^-7 kt C)
-abbrev pub uptakeTotal : List ℕ → ℕ
-uptakeTotal s = sumOf abandonedPart (rows 5 s)
+abbrev pub uptakeTotal : List (List ℕ) → ℕ
+uptakeTotal abandoned = sumOf abandonedPart abandoned
 
 -- as the code reads it: an area, its growth rate and carbon fraction, from a byte on
 abbrev pub growthAt : List ℕ → ℕ → ℕ

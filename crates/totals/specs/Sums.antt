@@ -1,8 +1,10 @@
 -- What the steps along the conversion rows answer.
-use Prim.Native.Nat.{ℕ, _+_}
+use Prim.Native.Nat.{ℕ, _+_, _^_, _<_}
 use mathlib.Core.List.{List}
 use Rattle.wide.specs.Numbers.{value, Is}
-use Rattle.totals.specs.Columns.{sumOf, clearedPart, onsitePart, offsitePart, decayPart, thinnerPart}
+use Rattle.form.specs.Sums.{sumOf, clearedPart, columnL}
+use Rattle.totals.specs.Masses.{dryMatter, carbon, periods}
+use Rattle.totals.specs.Columns.{onsitePart, offsitePart, decayPart, thinnerPart, onsiteTotal, offsiteTotal, decayTotal, thinnerTotal}
 use Rattle.totals.specs.declared.Parts.{Parts}
 use Rattle.totals.specs.declared.Totals.{Totals}
 
@@ -31,3 +33,18 @@ pub record Summed (t : Totals) (rs : List (List ℕ)) : Type 0 where
   pub offsite : Is (t .offsite .0) (sumOf offsitePart rs)
   pub decay : Is (t .decay .0) (sumOf decayPart rs)
   pub thinner : Is (t .thinner .0) (sumOf thinnerPart rs)
+
+-- and in their one form
+unfoldable pub totalsOf : List (List ℕ) → Totals
+totalsOf rs = record {
+  cleared = dryMatter (columnL rs);
+  onsite = carbon (onsiteTotal rs);
+  offsite = carbon (offsiteTotal rs);
+  decay = carbon (decayTotal rs);
+  thinner = periods (thinnerTotal rs);
+}
+
+-- there is room for one row more
+abbrev pub Room : Totals → Type 0
+Room t =
+    (value (t .cleared .0) < 2 ^ 100) × (value (t .onsite .0) < 2 ^ 100) × (value (t .offsite .0) < 2 ^ 100) × (value (t .decay .0) < 2 ^ 100) × (value (t .thinner .0) < 2 ^ 100)

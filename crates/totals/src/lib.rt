@@ -1,18 +1,16 @@
-// Sums over the rows of an accepted return, read in the caller's bytes in place.
+// Sums over the conversion rows, read in the caller's bytes in place.
 ghost use mathlib.Core.Path.{_≡_};
 ghost use Prim.Native.Nat.{_+_, _*_, _/_, _%_, _^_, _≤_, _<_};
 ghost use lib.ListN.{length};
 ghost use mathlib.Core.Bool.{false, cond};
-ghost use Rattle.form.specs.Layout.{conversion, stock, harvest, rowAt, aboveLimit};
+ghost use Rattle.form.specs.Layout.{conversion, rowAt, aboveLimit};
 ghost use Rattle.form.specs.Records.{thinner, countedDifference};
-ghost use Rattle.form.specs.Verdict.{rows, verdictOf};
-ghost use Rattle.form.specs.declared.Verdict.the-variants.{Accepted};
+ghost use Rattle.form.specs.Verdict.{rows, Formed};
 ghost use Rattle.wide.specs.Numbers.{value, Is};
-ghost use Rattle.totals.specs.Columns.{stockPart, harvestPart, decayPart, thinnerPart, columnE, columnK};
-ghost use Rattle.totals.specs.Sums.{partsOf, Added, Summed};
+ghost use Rattle.totals.specs.Columns.{decayPart, thinnerPart};
+ghost use Rattle.totals.specs.Sums.{partsOf, Added, Room, totalsOf};
 use form::Counts;
 use form::counted_difference;
-use form::first_block;
 use form::four_at;
 use form::row_start;
 use form::two_at;
@@ -159,7 +157,7 @@ fn plus_dry_matter(sum: DryMatter, part: DryMatterPart) -> DryMatter
     DryMatter(add_word(sum.0, part.0))
 }
 
-pub fn plus_carbon(sum: Carbon, part: CarbonPart) -> Carbon
+fn plus_carbon(sum: Carbon, part: CarbonPart) -> Carbon
     requires { ⌜ value (sum .0) < 2 ^ 100 ⌝ }
     ensures { λ r. ⌜ Is (r .0) (value (sum .0) + part .0) ⌝ }
 {
@@ -174,7 +172,7 @@ fn plus_periods(sum: Periods, part: PeriodsPart) -> Periods
 }
 
 fn add_row(t: Totals, p: Parts) -> Totals
-    requires { ⌜ (value (t .cleared .0) < 2 ^ 100) × (value (t .onsite .0) < 2 ^ 100) × (value (t .offsite .0) < 2 ^ 100) × (value (t .decay .0) < 2 ^ 100) × (value (t .thinner .0) < 2 ^ 100) ⌝ }
+    requires { ⌜ Room t ⌝ }
     ensures { λ r. ⌜ Added t p r ⌝ }
 {
     Totals {
@@ -188,8 +186,8 @@ fn add_row(t: Totals, p: Parts) -> Totals
 
 // One pass over the rows for all five: their biomass is worked out once.
 pub fn sum_conversion(bytes: &[u8], c: Counts) -> Totals
-    requires { ⌜ verdictOf (now bytes) ≡ Accepted c ⌝ }
-    ensures { λ r. ⌜ Summed r (rows 1 (now (bytes .entry))) ⌝ }
+    requires { ⌜ Formed (now bytes) c ⌝ }
+    ensures { λ r. ⌜ r ≡ totalsOf (rows 1 (now (bytes .entry))) ⌝ }
 {
     let n = c.conversion as usize;
     let zero = of(0);
@@ -206,54 +204,4 @@ pub fn sum_conversion(bytes: &[u8], c: Counts) -> Totals
         i += 1;
     }
     t
-}
-
-// One stock row's part in E.
-fn stock_at(bytes: &[u8], at: usize) -> CarbonPart
-    requires { ⌜ at + 40 ≤ length (now bytes) ⌝ }
-    ensures { λ r. ⌜ r .0 ≡ stockPart (rowAt stock (now (bytes .entry)) at) ⌝ }
-{
-    let grown = DryMatterPart((four_at(bytes, at + 8) as u64) * (two_at(bytes, at + 6) as u64));
-    carbon_of(grown, two_at(bytes, at + 12))
-}
-
-// E: the carbon that the stocks take up.
-pub fn sum_stocks(bytes: &[u8], c: Counts) -> Carbon
-    requires { ⌜ verdictOf (now bytes) ≡ Accepted c ⌝ }
-    ensures { λ r. ⌜ Is (r .0) (columnE (now (bytes .entry))) ⌝ }
-{
-    let first = first_block(c, 2);
-    let n = c.stock as usize;
-    let mut sum = Carbon(of(0));
-    let mut i: usize = 0;
-    while i < n {
-        sum = plus_carbon(sum, stock_at(bytes, row_start(first, i)));
-        i += 1;
-    }
-    sum
-}
-
-// One harvest row's part in K.
-fn harvest_at(bytes: &[u8], at: usize) -> DryMatterPart
-    requires { ⌜ at + 40 ≤ length (now bytes) ⌝ }
-    ensures { λ r. ⌜ r .0 ≡ harvestPart (rowAt harvest (now (bytes .entry)) at) ⌝ }
-{
-    let sold = (four_at(bytes, at + 4) as u64) * (two_at(bytes, at + 8) as u64);
-    DryMatterPart(sold + 1000 * (four_at(bytes, at + 12) as u64 + four_at(bytes, at + 16) as u64))
-}
-
-// K: the biomass that is used.
-pub fn sum_harvest(bytes: &[u8], c: Counts) -> DryMatter
-    requires { ⌜ verdictOf (now bytes) ≡ Accepted c ⌝ }
-    ensures { λ r. ⌜ Is (r .0) (columnK (now (bytes .entry))) ⌝ }
-{
-    let first = first_block(c, 3);
-    let n = c.harvest as usize;
-    let mut sum = DryMatter(of(0));
-    let mut i: usize = 0;
-    while i < n {
-        sum = plus_dry_matter(sum, harvest_at(bytes, row_start(first, i)));
-        i += 1;
-    }
-    sum
 }

@@ -12,7 +12,7 @@ use lib.Seq.{take-at}
 use Rattle.form.specs.Bytes.{byteAt}
 use Rattle.form.specs.Layout.{kinds}
 use Rattle.form.specs.Block.{edition}
-use Rattle.form.specs.Ruling.{rule, ruling}
+use Rattle.form.specs.Ruling.{rule, ruling, onFront}
 use Rattle.form.specs.Verdict.{rules, countsOf, countIn, verdictBy, verdictOf}
 use Rattle.form.specs.declared.Counts.{Counts}
 use Rattle.form.specs.declared.Ruling.the-variants.{Clean}
@@ -20,12 +20,12 @@ use Rattle.form.specs.declared.Verdict.the-variants.{Accepted}
 use Rattle.form.proofs.Search.{first-is-none}
 use Rattle.form.proofs.Order.{ruling-append, kept, kept-before, long-enough, or-clean}
 use Rattle.form.proofs.Meaning.{clean-of}
-use Rattle.form.proofs.Accepted.{accepted-ruling, counted}
+use Rattle.standing.proofs.Accepted.{accepted-ruling, formed, counted}
 use Rattle.filing.specs.Lists.{cut, total, rowsIn}
 use Rattle.filing.proofs.Cut.{total-flat}
 use Rattle.filing.proofs.Laying.{length-part}
 use Rattle.lists.specs.Rules.{listRules}
-use Rattle.rows.specs.Reading.{rowsOf, areaTo, outgrown, readRules, readAnswer, onFront, roomAfter, rowLists, lengthsOf}
+use Rattle.rows.specs.Reading.{rowsOf, areaTo, outgrown, readRules, readAnswer, roomAfter, rowLists, lengthsOf}
 use Rattle.rows.specs.Writing.{written, roomRule, writeRules, writtenBy, writeAnswer, bytesAfter}
 use Rattle.rows.specs.declared.Written.the-variants.{Done}
 use Rattle.rows.proofs.Return.{done-by}
@@ -71,7 +71,7 @@ module _ (ed : ℕ) (lengths area room : List ℕ) (n : ℕ) (done : writeAnswer
 
   pub read-counts : (k : ℕ) → k < kinds → countIn (countsOf (returned ed lengths area room n)) (suc k) ≡ rowsIn (suc k) (getD lengths k 0)
   read-counts k h =
-      ap (λ (x : List ℕ). countIn (countsOf x) (suc k)) left ∙ counted w (countsOf w) (accepted-again ed lengths area clean) k h ∙ counts-again ed lengths area clean k h
+      ap (λ (x : List ℕ). countIn (countsOf x) (suc k)) left ∙ counted w (countsOf w) (formed w (countsOf w) (accepted-again ed lengths area clean)) k h ∙ counts-again ed lengths area clean k h
 
   pub read-rows : (rows : List ℕ) (c : Counts) → roomAfter (returned ed lengths area room n) rows (Accepted c) ≡ onFront area rows
   read-rows rows c = rw left (ap (λ (x : List ℕ). onFront x rows) (rows-again ed lengths area clean))
@@ -96,7 +96,7 @@ module _ (s rows : List ℕ) (c : Counts) (done : readAnswer s rows ≡ Accepted
   pub left-is : leftBehind s rows c ≡ areaTo s kinds
   left-is =
       let a = areaTo s kinds in
-      let long : length a ≡ total (lengthsOf c) = sym (ap total (lengths-are s c judged) ∙ total-flat (rowLists s) ∙ ap length (area-is s)) in
+      let long : length a ≡ total (lengthsOf c) = sym (ap total (lengths-are s c (formed s c judged)) ∙ total-flat (rowLists s) ∙ ap length (area-is s)) in
       take-at a (drop (length a) rows) (total (lengthsOf c)) long
 
   module _ (bytes : (i : ℕ) → i < length s → byteAt s i < 256) (room : List ℕ) (long : length s ≤ length room) where

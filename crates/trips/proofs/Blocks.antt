@@ -12,18 +12,17 @@ use lib.Dec.{ltb, lit<}
 use lib.ListN.{length, getD, take, drop}
 use lib.Seq.{drop-cons, take-at}
 use borrow.Author.Tests.{eqb-true, not-false}
-use Rattle.form.proofs.Stand.{headed}
+use Rattle.standing.proofs.Stand.{headed}
 use Rattle.form.specs.First.{any}
 use Rattle.form.specs.Bytes.{byteAt, number, strayIn}
 use Rattle.form.specs.Layout.{Layout, layout}
 use Rattle.form.specs.Block.{blocks, kindOf, countOf, blockNumber, blocksSaid, edition, recordAt, checkSaid, weighed, checkDue, badCheck, badHeader, strayRecord, stray}
 use Rattle.form.specs.Records.{Filed, filed}
-use Rattle.form.proofs.Tests.{or-none}
+use Rattle.form.proofs.Tests.{or-none, either}
 use Rattle.form.proofs.Search.{any-each}
 use Rattle.form.proofs.Places.{block-of, position-of}
 use Rattle.filing.specs.Written.{zeros, recordFrom, inTurn, headOf, sealed, recordOn, usedFrom, bodyOf, blockOf}
 use Rattle.form.specs.Bytes.{littleEndian}
-use Rattle.filing.proofs.Choice.{either}
 use Rattle.filing.proofs.Stands.{Stands, stands-left, stands-right, stands-join, stands-at, Bytes, length-le, number-read, number-stands, zeros-read, zeros-stand, record-stands}
 use Rattle.filing.proofs.Stores.{length-turns, zeros-turn}
 use Rattle.form.proofs.Fields.{ends-40}

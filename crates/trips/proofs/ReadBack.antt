@@ -16,16 +16,17 @@ use borrow.Author.Tests.{lt-ltb, le-ltb, lt-leb, eq-eqb, ne-eqb, ltb-true, eqb-t
 use Rattle.form.specs.Layout.{kinds, parametersKind, numbersOf}
 use Rattle.form.specs.Edition.{lastKind}
 use Rattle.form.specs.Block.{longest, blocks, kindOf, countOf, edition, blocksBelow, badLength, badCheck, badHeader, kindFalls, lowBehind, endsLow, noneBefore, earlier, badCount, notFilled, overFilled, strayRecord, stray, badBlock}
-use Rattle.form.specs.Records.{Filed, filed, recordRules}
+use Rattle.form.specs.Records.{Filed, filed}
+use Rattle.form.specs.Sums.{filedRules}
 use Rattle.form.specs.Verdict.{blockRules, countBelow, rowCount, rows, countsOf, verdictOf}
 use Rattle.form.specs.Standing.{blocksFor, startBlock, startPlace, rowsFrom}
 use Rattle.form.specs.declared.Verdict.the-variants.{Accepted}
 use Rattle.form.proofs.Search.{any-none}
 use Rattle.form.proofs.Order.{Kept, AllKept, more, ruling-clean, clean-ruling}
 use Rattle.form.proofs.EachKind.{parameters-kind}
-use Rattle.form.proofs.Stand.{blocks-yes, blocks-no}
+use Rattle.standing.proofs.Stand.{blocks-yes, blocks-no}
 use Rattle.form.proofs.Meaning.{accepted}
-use Rattle.form.proofs.Accepted.{rows-are}
+use Rattle.standing.proofs.Accepted.{formed, rows-are}
 use Rattle.filing.specs.Lists.{Lists, ofKind, rowsIn, rowOf, filedList, filedLists}
 use Rattle.filing.specs.Written.{inTurn}
 use Rattle.filing.proofs.Choice.{or-of, unless, implies}
@@ -242,7 +243,7 @@ module _ (ed : ℕ) (l : Lists) (ok : Clear ed l) where
       let before : earlier s b ≡ nth w = rw e (below (w .k) b (omega arith) (w .kind) .0 ∙ omega arith) in
       block-so b h w e before (count-is ed l ok b w) (nth-block ed l ok b w) (ok .few (w .k) (w .kind)) (start-next l (w .k)) (blocks-there ed l ok)
 
-  -- ---- rules 5 to 8
+  -- ---- the rules of filed records
 
   places-there : filedLists l .places ≡ 12 * blocks s
   places-there = omega (arith, places-blocks ed l ok, blocks-there ed l ok)
@@ -255,7 +256,7 @@ module _ (ed : ℕ) (l : Lists) (ok : Clear ed l) where
         rw e (place-same ed l ok (j / 12) (place (j / 12) (omega (arith, places-there))) (j % 12) (omega arith));
   }
 
-  records-there : AllKept (recordRules (edition s 0) (filed s))
+  records-there : AllKept (filedRules (edition s 0) (filed s))
   records-there =
       rw edition-back
       (ruling-clean (sym (rules-same ed (filedLists l) (filed s) all-alike places-there (solid-lists 1 l)) ∙ clean-ruling (ok .records)))
@@ -292,7 +293,7 @@ module _ (ed : ℕ) (l : Lists) (ok : Clear ed l) where
       let r = ofKind l (suc k) in
       let n = rowsIn (suc k) (length r) in
       let w = numbersOf (suc k) in
-      ap flatten (rows-are s (countsOf s) accepted-back (suc k))
+      ap flatten (rows-are s (countsOf s) (formed s (countsOf s) accepted-back) (suc k))
       ∙ flat-from (filed s) (startPlace (suc k) s) (rowCount (suc k) s)
       ∙ ap₂ (λ (j m : ℕ). inTurn (filed s .row) j m) (ap (λ (x : ℕ). 12 * x) (start-is k h)) (counts-back k h)
       ∙ turn-same (filed s .row) (rowOf (suc k) r) (12 * startOf l k) 0 n (λ i m. row-is k i h m)
@@ -312,6 +313,6 @@ module _ (ed : ℕ) (l : Lists) (ok : Clear ed l) where
   unfolding filedList
   each-back k h =
       let r = ofKind l (suc k) in
-      rows-are s (countsOf s) accepted-back (suc k)
+      rows-are s (countsOf s) (formed s (countsOf s) accepted-back) (suc k)
       ∙ ap₂ (λ (j m : ℕ). rowsFrom (filed s) j m) (ap (λ (x : ℕ). 12 * x) (start-is k h)) (counts-back k h)
       ∙ from-same (filed s) (filedList (suc k) r) (12 * startOf l k) 0 (rowsIn (suc k) (length r)) (λ i m. row-is k i h m)

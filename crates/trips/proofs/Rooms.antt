@@ -1,4 +1,4 @@
--- The rows of an accepted return, filed as lists, are its records. Assumes nothing.
+-- The rows of a return, filed as lists, are its records. Assumes nothing.
 --     list-alike    of one kind; lists-alike, of all
 use Prim.Native.Nat.{ℕ, zero, suc, _+_, _-_, _*_, _/_, _%_, _<_, _≤_, min}
 use mathlib.Core.Path.{_≡_, sym, ap, subst, _∙_}
@@ -12,12 +12,11 @@ use borrow.Author.Tests.{ltb-true}
 use Rattle.form.specs.Layout.{kinds, numbersOf}
 use Rattle.form.specs.Block.{blocks, kindOf, countOf, blocksBelow}
 use Rattle.form.specs.Records.{filed}
-use Rattle.form.specs.Verdict.{rowCount, verdictOf}
+use Rattle.form.specs.Verdict.{rowCount, Formed}
 use Rattle.form.specs.Standing.{blocksFor, startBlock, startPlace}
 use Rattle.form.specs.declared.Counts.{Counts}
-use Rattle.form.specs.declared.Verdict.the-variants.{Accepted}
-use Rattle.form.proofs.Stand.{start-le, start-all, at-start, kind-in, count-in}
-use Rattle.form.proofs.Accepted.{in-order}
+use Rattle.standing.proofs.Stand.{start-le, start-all, at-start, kind-in, count-in}
+use Rattle.standing.proofs.Accepted.{in-order}
 use Rattle.filing.specs.Lists.{rowsIn, filedList, behind, filedFrom, filedLists}
 use Rattle.filing.specs.Written.{inTurn}
 use Rattle.filing.specs.Tables.{rowOn}
@@ -39,7 +38,7 @@ turn-part f w long n i k h =
 
 -- ---- one kind
 
-module _ (s : List ℕ) (c : Counts) (acc : verdictOf s ≡ Accepted c) (k : ℕ) (h : k < kinds) where
+module _ (s : List ℕ) (c : Counts) (acc : Formed s c) (k : ℕ) (h : k < kinds) where
   pub rows-counted : rowsIn (suc k) (length (rowsOf s (suc k))) ≡ rowCount (suc k) s
   rows-counted =
       ap (λ (x : ℕ). x / numbersOf (suc k)) (rows-long s c acc k h)
@@ -85,7 +84,7 @@ module _ (s : List ℕ) (c : Counts) (acc : verdictOf s ≡ Accepted c) (k : ℕ
 
 -- ---- all kinds
 
-module _ (s : List ℕ) (c : Counts) (acc : verdictOf s ≡ Accepted c) where
+module _ (s : List ℕ) (c : Counts) (acc : Formed s c) where
   -- the places of n kinds, from kind k + 1 on
   places-from : (n k : ℕ) → k + n ≤ kinds → startPlace (suc k) s + filedFrom (suc k) (listsFrom s (suc k) n) .places ≡ startPlace (suc (k + n)) s
   unfolding listsFrom filedFrom behind

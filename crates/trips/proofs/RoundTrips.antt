@@ -11,12 +11,12 @@ use Rattle.form.specs.Ruling.{ruling}
 use Rattle.form.specs.Bytes.{byteAt}
 use Rattle.form.specs.Layout.{kinds}
 use Rattle.form.specs.Block.{edition}
-use Rattle.form.specs.Verdict.{rowCount, rows, countsOf, verdictOf}
+use Rattle.form.specs.Verdict.{rowCount, rows, countsOf, Formed, verdictOf}
 use Rattle.form.specs.Standing.{rowsFrom}
 use Rattle.form.specs.declared.Counts.{Counts}
 use Rattle.form.specs.declared.Ruling.the-variants.{Clean}
 use Rattle.form.specs.declared.Verdict.the-variants.{Accepted}
-use Rattle.form.proofs.Accepted.{accepted-counts}
+use Rattle.standing.proofs.Accepted.{accepted-ruling, formed, formed-counts}
 use Rattle.filing.specs.Lists.{Lists, ofKind, cut, rowsIn, filedList}
 use Rattle.filing.specs.Written.{inTurn}
 use Rattle.filing.proofs.Cut.{cut-long, flat-cut, cut-flat}
@@ -73,14 +73,17 @@ module _ (ed : ℕ) (l : Lists) (clean : ruling (listRules ed (map length l) (fl
   lists-rows k h = each-back ed l ok-lists k h
 
 -- an accepted return: no rule refuses its rows, cut by the lengths that its counts give, and their return is the return
-module _ (s : List ℕ) (c : Counts) (acc : verdictOf s ≡ Accepted c) where
+module _ (s : List ℕ) (c : Counts) (accepted : verdictOf s ≡ Accepted c) where
+  acc : Formed s c
+  acc = formed s c accepted
+
   told : edition s 0 ≡ c .edition
-  told = sym (ap (λ (x : Counts). x .edition) (accepted-counts s c acc))
+  told = sym (ap (λ (x : Counts). x .edition) (formed-counts s c acc))
 
   pub clean-again : ruling (listRules (c .edition) (lengthsOf c) (areaTo s kinds)) ≡ Clean
   clean-again =
       rw (lengths-are s c acc, ← area-is s)
-      (subst (λ (e : ℕ). ruling (listRules e (map length (rowLists s)) (flatten (rowLists s))) ≡ Clean) told (rows-clean s c acc))
+      (subst (λ (e : ℕ). ruling (listRules e (map length (rowLists s)) (flatten (rowLists s))) ≡ Clean) told (rows-clean s c acc (accepted-ruling s c accepted)))
 
   pub bytes-again : ((i : ℕ) → i < length s → byteAt s i < 256) → written (c .edition) (cut (lengthsOf c) (areaTo s kinds)) ≡ s
   bytes-again small =

@@ -1,6 +1,6 @@
 -- Filed records that are alike break the same rules at the same places. Assumes nothing.
 use Prim.Native.Nat.{ℕ, zero, suc, _+_, _-_, _<_}
-use mathlib.Core.Path.{_≡_, refl, ap, ap₂, _∙_}
+use mathlib.Core.Path.{_≡_, refl, sym, ap, ap₂, _∙_}
 use mathlib.Core.Bool.{Bool, true, cond, _&&_}
 use mathlib.Core.List.{List, [], _∷_}
 use native.Mathlib.Nat.{zero-add}
@@ -12,6 +12,8 @@ use lib.ListN.{length}
 use Rattle.form.specs.First.{first}
 use Rattle.form.specs.Ruling.{refuse, ruling}
 use Rattle.form.specs.Records.{Filed, RowTest, RowRule, hasId, idOf, badId, brokenBy, rowRules, overPlaces, recordRules}
+use Rattle.form.specs.Sums.{sumRules, filedRules}
+use Rattle.form.proofs.Order.{orRule, ruling-append}
 use Rattle.form.proofs.Tests.{guarded}
 use Rattle.form.proofs.Search.{first-same}
 use Rattle.filing.specs.Lists.{Lists, rowsIn, filedList, behind, filedFrom}
@@ -53,9 +55,17 @@ module _ (e : ℕ) (f g : Filed) (a : Alike f 0 g 0 (f .places)) (same : f .plac
   over-same [] = refl
   over-same (q ∷ qs) = ap₂ (refuse (q .number)) (at (brokenBy f e (q .breaks)) (brokenBy g e (q .breaks)) (row-same a e (q .breaks))) (over-same qs)
 
-  pub rules-same : Solid f (f .places) → ruling (recordRules e f) ≡ ruling (recordRules e g)
+  records-same : Solid f (f .places) → ruling (recordRules e f) ≡ ruling (recordRules e g)
   unfolding ruling
-  rules-same solid = ap₂ (refuse 5) (at (badId f) (badId g) (id-same a solid)) (over-same rowRules)
+  records-same solid = ap₂ (refuse 5) (at (badId f) (badId g) (id-same a solid)) (over-same rowRules)
+
+  -- no rule adds rows up yet; those of alike places add up the same rows (filing/Alike.rows-alike)
+  sums-same : ruling (sumRules f) ≡ ruling (sumRules g)
+  sums-same = refl
+
+  pub rules-same : Solid f (f .places) → ruling (filedRules e f) ≡ ruling (filedRules e g)
+  rules-same solid =
+      ruling-append (recordRules e f) (sumRules f) ∙ ap₂ orRule (records-same solid) sums-same ∙ sym (ruling-append (recordRules e g) (sumRules g))
 
 -- ---- the records of lists are solid
 

@@ -12,17 +12,18 @@ use Rattle.form.specs.Ruling.{Rule, ruling}
 use Rattle.form.specs.Layout.{kinds, parametersKind, layout, numbersOf, rowAt, strayAt, aboveLimit}
 use Rattle.form.specs.Edition.{lastKind}
 use Rattle.form.specs.Block.{mostBlocks, blocks, kindOf, countOf, recordAt, strayRecord}
-use Rattle.form.specs.Records.{Filed, filed, fieldAbove, brokenBy, recordRules}
+use Rattle.form.specs.Records.{Filed, filed, fieldAbove, brokenBy}
+use Rattle.form.specs.Sums.{filedRules}
 use Rattle.form.specs.declared.Ruling.the-variants.{Clean}
-use Rattle.form.proofs.Order.{Kept, AllKept, more, ruling-clean}
-use Rattle.form.proofs.Tests.{and-rest}
+use Rattle.form.proofs.Order.{Kept, AllKept, more, ruling-clean, kept-of}
+use Rattle.form.proofs.Tests.{and-rest, either}
 use Rattle.form.proofs.EachKind.{parameters-kind, few-kinds, small-edition}
 use Rattle.form.proofs.Places.{block-of, position-of}
 use Rattle.filing.specs.Lists.{Lists, ofKind, cut, rowsIn, rowOf, filedList, filedLists}
 use Rattle.filing.specs.Written.{recordOf, inTurn, recordOn, usedFrom, blockOf}
 use Rattle.filing.proofs.Stands.{Stands, stands-whole, record-read, zeros-read}
 use Rattle.filing.proofs.Parts.{length-block, list-used}
-use Rattle.filing.proofs.Choice.{either, ltb-same}
+use Rattle.filing.proofs.Choice.{ltb-same}
 use Rattle.filing.proofs.Alike.{Same, Alike, alike-part, used-alike}
 use Rattle.filing.proofs.Cut.{cut-length, cut-long}
 use Rattle.lists.specs.Rules.{Good, listRules, blocksFrom}
@@ -46,7 +47,7 @@ nth {l} {b} w = b - startOf l (w .k)
 
 -- lists that break no rule, in an edition
 pub record Clear (e : ℕ) (l : Lists) : Type 0 where
-  pub records : AllKept (recordRules e (filedLists l))
+  pub records : AllKept (filedRules e (filedLists l))
   pub each : length l ≡ kinds
   pub whole : (k : ℕ) → k < kinds → length (ofKind l (suc k)) % numbersOf (suc k) ≡ 0
   pub few : (k : ℕ) → k < kinds → rowsIn (suc k) (length (ofKind l (suc k))) ≤ 32
@@ -59,7 +60,7 @@ kept-head (more h rest) = (h, rest)
 
 -- what clean rules say of lengths and lists
 pub kept-lists : (e : ℕ) (lengths area : List ℕ) → ruling (listRules e lengths area) ≡ Clean
-    → Good lengths (length area) × AllKept (recordRules e (filedLists (cut lengths area)))
+    → Good lengths (length area) × AllKept (filedRules e (filedLists (cut lengths area)))
 unfolding listRules Kept
 kept-lists e lengths area clean = let k = kept-head (ruling-clean clean) in (good e lengths (length area) (k .0), k .1)
 
@@ -81,9 +82,9 @@ clear e lengths area clean =
     }
 
 -- 6 is kept at each place
-field-kept : (e : ℕ) (f : Filed) → AllKept (recordRules e f) → (j : ℕ) → j < f .places → brokenBy f e fieldAbove j ≡ false
+field-kept : (e : ℕ) (f : Filed) → AllKept (filedRules e f) → (j : ℕ) → j < f .places → brokenBy f e fieldAbove j ≡ false
 unfolding Kept
-field-kept e f (more h₅ (more h₆ rest)) = h₆
+field-kept e f a = kept-of 6 a
 
 module _ (e : ℕ) (l : Lists) (ok : Clear e l) where
   all-blocks : blocksFrom 1 (map length l) ≡ startOf l kinds

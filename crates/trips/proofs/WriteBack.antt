@@ -14,16 +14,16 @@ use Rattle.form.specs.Ruling.{rule, ruling}
 use Rattle.form.specs.Edition.{lastKind}
 use Rattle.form.specs.Layout.{kinds, parametersKind, numbersOf}
 use Rattle.form.specs.Block.{blocks, edition, kindFalls, lowBehind, endsLow, noneBefore, fourthOfKind, badCount, notFilled, overFilled, stray, badCheck, badHeader, badBlock}
-use Rattle.form.specs.Records.{filed, recordRules}
-use Rattle.form.specs.Verdict.{blockRules, rules, rowCount, countList, verdictOf}
+use Rattle.form.specs.Records.{filed}
+use Rattle.form.specs.Sums.{filedRules}
+use Rattle.form.specs.Verdict.{blockRules, formRules, rules, rowCount, countList, Formed}
 use Rattle.form.specs.declared.Counts.{Counts}
 use Rattle.form.specs.declared.Ruling.the-variants.{Clean}
-use Rattle.form.specs.declared.Verdict.the-variants.{Accepted}
 use Rattle.form.proofs.Search.{first-is-none}
-use Rattle.form.proofs.Order.{kept, or-second, ruling-append, Kept, AllKept, more, ruling-clean}
+use Rattle.form.proofs.Order.{kept, Kept, AllKept, ruling-clean, clean-ruling, append-kept, kept-of}
 use Rattle.form.proofs.Tests.{or-none}
 use Rattle.filing.proofs.Choice.{or-of, implies}
-use Rattle.form.proofs.Accepted.{eachFrom, counts-listed, accepted-counts, accepted-ruling, in-order, whole-blocks, one-edition, known-edition, no-rows, few-rows, one-row}
+use Rattle.standing.proofs.Accepted.{eachFrom, counts-listed, formed-counts, in-order, whole-blocks, one-edition, known-edition, no-rows, few-rows, one-row}
 use Rattle.filing.specs.Lists.{total, rowsIn, filedLists}
 use Rattle.filing.specs.Written.{inTurn, blockOf, bytesOf}
 use Rattle.filing.proofs.Stands.{Stands, stands-all, Bytes}
@@ -50,11 +50,11 @@ unfolding badBlock
 no-stray s b e = or-none (kindFalls s b || lowBehind s b || endsLow s b || noneBefore s b || fourthOfKind s b || badCount s b || notFilled s b || overFilled s b) (stray s b) e .1
 
 -- what rules 2 to 4 say of a block
-block-kept : (s : List ℕ) → AllKept (rules s) → (b : ℕ) → b < blocks s → (badCheck s b ≡ false) × (badHeader s b ≡ false) × (stray s b ≡ false)
+block-kept : (s : List ℕ) → AllKept (formRules s) → (b : ℕ) → b < blocks s → (badCheck s b ≡ false) × (badHeader s b ≡ false) × (stray s b ≡ false)
 unfolding blockRules Kept
-block-kept s (more h₁ (more h₂ (more h₃ (more h₄ rest)))) b l = (h₂ b l, h₃ b l, no-stray s b (h₄ b l))
+block-kept s a b l = (kept-of 2 a b l, kept-of 3 a b l, no-stray s b (kept-of 4 a b l))
 
-module _ (s : List ℕ) (c : Counts) (acc : verdictOf s ≡ Accepted c) where
+module _ (s : List ℕ) (c : Counts) (acc : Formed s c) where
   lists-length : (k n : ℕ) → length (listsFrom s k n) ≡ n
   unfolding listsFrom
   lists-length k zero = refl
@@ -75,7 +75,7 @@ module _ (s : List ℕ) (c : Counts) (acc : verdictOf s ≡ Accepted c) where
 
   pub lengths-are : lengthsOf c ≡ map length (rowLists s)
   lengths-are =
-      ap (λ (x : Counts). lengthsFrom 1 (countList x)) (accepted-counts s c acc)
+      ap (λ (x : Counts). lengthsFrom 1 (countList x)) (formed-counts s c acc)
       ∙ ap (lengthsFrom 1) (counts-listed s)
       ∙ lengths-from kinds 0 (omega arith)
 
@@ -107,16 +107,20 @@ module _ (s : List ℕ) (c : Counts) (acc : verdictOf s ≡ Accepted c) where
   all-good zero h = or-of (ap not (lt-ltb 0 (lastKind (edition s 0)) (known-edition s c acc))) lengths-good
   all-good (suc k) h = or-of (allowed k (omega arith)) (list-good k (omega arith))
 
-  pub rows-clean : ruling (listRules (edition s 0) (map length (rowLists s)) (flatten (rowLists s))) ≡ Clean
+  -- of an accepted return, no rule of its filed records is broken
+  filed-clean : ruling (rules s) ≡ Clean → ruling (filedRules (edition s 0) (filed s)) ≡ Clean
+  unfolding blockRules
+  filed-clean clean = clean-ruling (append-kept (blockRules s) (filedRules (edition s 0) (filed s)) (ruling-clean clean) .1)
+
+  pub rows-clean : ruling (rules s) ≡ Clean → ruling (listRules (edition s 0) (map length (rowLists s)) (flatten (rowLists s))) ≡ Clean
   unfolding listRules
-  rows-clean =
+  rows-clean clean =
       let f = filedLists (rowLists s) in
       let e = edition s 0 in
-      let records : ruling (recordRules e (filed s)) ≡ Clean =
-      or-second (ruling (blockRules s)) (ruling (recordRules e (filed s))) (sym (ruling-append (blockRules s) (recordRules e (filed s))) ∙ accepted-ruling s c acc) in
+      let records = filed-clean clean in
       let same = rules-same e f (filed s) (lists-alike s c acc) (lists-places s c acc) (solid-lists 1 (rowLists s)) in
       rw (cut-flat (rowLists s))
-      (sym (kept (rule 10 (suc kinds) (badAt e (map length (rowLists s)) (length (flatten (rowLists s))))) (recordRules e f)
+      (sym (kept (rule 10 (suc kinds) (badAt e (map length (rowLists s)) (length (flatten (rowLists s))))) (filedRules e f)
       (first-is-none (badAt e (map length (rowLists s)) (length (flatten (rowLists s)))) (suc kinds) all-good) (sym (same ∙ records))))
 
   pub written-back : Bytes s → written (edition s 0) (rowLists s) ≡ s
@@ -134,7 +138,7 @@ module _ (s : List ℕ) (c : Counts) (acc : verdictOf s ≡ Accepted c) where
       block : (b : ℕ) → b < blocks s → Stands s (0 + 512 * b) (blockOf (edition s 0) (filedLists (rowLists s)) 0 (blocks s) (0 + b))
       block b l =
           let f = filedLists (rowLists s) in
-          let k = block-kept s (ruling-clean (accepted-ruling s c acc)) b l in
+          let k = block-kept s (ruling-clean (acc .clean)) b l in
           let w = whole-blocks s c acc in
           let e = edition s 0 in
           let same = block-alike {f = f} {g = filed s} e b b 0 0 (blocks s) (alike-part (lists-alike s c acc) (12 * b) 12 (omega (arith, lists-places s c acc)) (zero-add (12 * b)) (zero-add (12 * b))) refl in

@@ -1,10 +1,8 @@
 // The other masses. One substance becomes another only by a step named here.
 ghost use mathlib.Core.Path.{_≡_};
-ghost use Prim.Native.Nat.{_+_, _*_, _^_, _<_, _≤_};
-ghost use Rattle.wide.specs.Numbers.{value, Is};
-ghost use Rattle.wide.specs.Rounding.{nearest};
-ghost use Rattle.wide.specs.Signs.{amount, Holds};
-ghost use Rattle.units.specs.Columns.{columnM, columnO, columnP, columnQ, reported, co2Of, uptakeCo2};
+ghost use Prim.Native.Nat.{_+_, _*_, _^_, _<_};
+ghost use Rattle.wide.specs.Numbers.{value};
+ghost use Rattle.units.specs.Columns.{columnM, columnO, columnP, columnQ, reported, sumOfBoth, co2Of, uptakeCo2};
 use totals::Carbon;
 use totals::DryMatter;
 use wide::Wide;
@@ -28,15 +26,10 @@ pub struct NetCo2(pub Signed);
 // Tonnes of CO2.
 pub struct Co2(pub Wide);
 
-pub struct Nitrogen(pub Wide);
-
-// Tonnes of another gas.
-pub struct Gas(pub Wide);
-
 // M: the wood used, less the wood that clearing gave.
 pub fn net_wood(k: DryMatter, l: DryMatter) -> NetDryMatter
     requires { ⌜ value (k .0) < 2 ^ 64 ⌝ }
-    ensures { λ r. ⌜ Holds (r .0) (columnM (value (k .0)) (value (l .0))) ⌝ }
+    ensures { λ r. ⌜ r ≡ columnM k l ⌝ }
 {
     NetDryMatter(difference(times(k.0, 100), l.0))
 }
@@ -44,7 +37,7 @@ pub fn net_wood(k: DryMatter, l: DryMatter) -> NetDryMatter
 // O: dry matter to carbon, by N.
 pub fn carbon_in(m: NetDryMatter, n: u32) -> NetCarbon
     requires { ⌜ value (m .0 .size) * n < 2 ^ 120 ⌝ }
-    ensures { λ r. ⌜ Holds (r .0) (columnO (amount (m .0)) n) ⌝ }
+    ensures { λ r. ⌜ r ≡ columnO m n ⌝ }
 {
     NetCarbon(times_signed(m.0, n))
 }
@@ -52,7 +45,7 @@ pub fn carbon_in(m: NetDryMatter, n: u32) -> NetCarbon
 // P: the carbon taken up, less the carbon removed.
 pub fn net_carbon(e: Carbon, o: NetCarbon) -> NetCarbon
     requires { ⌜ (value (e .0) < 2 ^ 64) × (value (o .0 .size) < 2 ^ 100) ⌝ }
-    ensures { λ r. ⌜ Holds (r .0) (columnP (value (e .0)) (amount (o .0))) ⌝ }
+    ensures { λ r. ⌜ r ≡ columnP e o ⌝ }
 {
     NetCarbon(minus(times(e.0, 100), o.0))
 }
@@ -60,21 +53,21 @@ pub fn net_carbon(e: Carbon, o: NetCarbon) -> NetCarbon
 // Q: carbon to CO2, by 44/12.
 pub fn net_co2(p: NetCarbon) -> NetCo2
     requires { ⌜ value (p .0 .size) < 2 ^ 100 ⌝ }
-    ensures { λ r. ⌜ Holds (r .0) (columnQ (amount (p .0))) ⌝ }
+    ensures { λ r. ⌜ r ≡ columnQ p ⌝ }
 {
     NetCo2(rounded_signed(times_signed(p.0, 11), 3000000, 1, 1))
 }
 
 // What is taken up is reported below zero, and what is given off above.
 pub fn emission(q: NetCo2) -> NetCo2
-    ensures { λ r. ⌜ Holds (r .0) (reported (amount (q .0))) ⌝ }
+    ensures { λ r. ⌜ r ≡ reported q ⌝ }
 {
     NetCo2(negated(q.0))
 }
 
 pub fn both(a: Carbon, b: Carbon) -> Carbon
     requires { ⌜ value (a .0) + value (b .0) < 2 ^ 120 ⌝ }
-    ensures { λ r. ⌜ Is (r .0) (value (a .0) + value (b .0)) ⌝ }
+    ensures { λ r. ⌜ r ≡ sumOfBoth a b ⌝ }
 {
     Carbon(add(a.0, b.0))
 }
@@ -82,7 +75,7 @@ pub fn both(a: Carbon, b: Carbon) -> Carbon
 // Carbon to CO2, by 44/12.
 pub fn co2_of(c: Carbon) -> Co2
     requires { ⌜ value (c .0) < 2 ^ 100 ⌝ }
-    ensures { λ r. ⌜ Is (r .0) (co2Of (value (c .0))) ⌝ }
+    ensures { λ r. ⌜ r ≡ co2Of c ⌝ }
 {
     Co2(rounded(times(c.0, 11), 3000000000, 1, 1))
 }
@@ -90,39 +83,7 @@ pub fn co2_of(c: Carbon) -> Co2
 // The same, of carbon in 10^-7 kt, as land takes it up.
 pub fn uptake_co2(u: Carbon) -> Co2
     requires { ⌜ value (u .0) < 2 ^ 64 ⌝ }
-    ensures { λ r. ⌜ Is (r .0) (uptakeCo2 (value (u .0))) ⌝ }
+    ensures { λ r. ⌜ r ≡ uptakeCo2 u ⌝ }
 {
     Co2(rounded(times(u.0, 11), 30000, 1, 1))
-}
-
-// Carbon to nitrogen, by N/C.
-pub fn nitrogen_in(c: Carbon, nc: u32) -> Nitrogen
-    requires { ⌜ value (c .0) * nc < 2 ^ 120 ⌝ }
-    ensures { λ r. ⌜ Is (r .0) (value (c .0) * nc) ⌝ }
-{
-    Nitrogen(times(c.0, nc))
-}
-
-// So many parts of a mass, by a ratio.
-fn share(mass: Wide, parts: u32, ratio: u32) -> Wide
-    requires { ⌜ (value mass < 2 ^ 90) × (parts ≤ 1000) × (ratio ≤ 1000) ⌝ }
-    ensures { λ r. ⌜ (Is r (parts * value mass * ratio)) × (value r < 2 ^ 110) ⌝ }
-{
-    times(times(mass, parts), ratio)
-}
-
-// A gas that holds carbon: so many thirds of the carbon's weight.
-pub fn gas_of_carbon(c: Carbon, thirds: u32, ratio: u32) -> Gas
-    requires { ⌜ (value (c .0) < 2 ^ 90) × (thirds ≤ 1000) × (ratio ≤ 1000) ⌝ }
-    ensures { λ r. ⌜ Is (r .0) (nearest (thirds * value (c .0) * ratio) (3 * 10 ^ 12)) ⌝ }
-{
-    Gas(rounded(share(c.0, thirds, ratio), 3000, 1000000000, 1))
-}
-
-// A gas that holds nitrogen: so many sevenths of the nitrogen's weight.
-pub fn gas_of_nitrogen(n: Nitrogen, sevenths: u32, ratio: u32) -> Gas
-    requires { ⌜ (value (n .0) < 2 ^ 90) × (sevenths ≤ 1000) × (ratio ≤ 1000) ⌝ }
-    ensures { λ r. ⌜ Is (r .0) (nearest (sevenths * value (n .0) * ratio) (7 * 10 ^ 15)) ⌝ }
-{
-    Gas(rounded(share(n.0, sevenths, ratio), 7000000, 1000000000, 1))
 }

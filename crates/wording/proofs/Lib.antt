@@ -1,3 +1,1 @@
-pub mod Bounds
-pub mod Texts
-mod Names
+mod Texts

@@ -1,3 +1,1 @@
-pub mod Words
-pub mod Names
 pub mod Wording

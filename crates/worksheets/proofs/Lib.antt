@@ -1,4 +1,1 @@
-pub mod Columns
 pub mod Accepted
-pub mod Small
-pub mod One

@@ -1,37 +1,26 @@
-// The parameters, and a struct for each worksheet.
+// The parameters, and the worksheets together.
 ghost use mathlib.Core.Path.{_≡_};
 ghost use Prim.Native.Nat.{_+_, _^_, _<_, _≤_};
 ghost use lib.ListN.{length};
 ghost use Rattle.form.specs.Layout.{parameters, rowAt};
-ghost use Rattle.form.specs.Verdict.{verdictOf};
-ghost use Rattle.form.specs.declared.Verdict.the-variants.{Accepted};
+ghost use Rattle.form.specs.Verdict.{Formed};
 ghost use Rattle.wide.specs.Numbers.{value};
-ghost use Rattle.worksheets.specs.Sheets.{standard, parametersOf, given, Ratios, stocksOf, conversionOf, gasesOf, abandonedOf};
-ghost use Rattle.worksheets.specs.Answers.{stocksHeld, conversionHeld, gasesHeld, abandonedHeld};
+ghost use Rattle.worksheets.specs.Sheets.{standard, parametersOf, byKind, given, Within, gasesBy, abandonedOf};
+use burning::Gases;
+use burning::Ratios;
+use burning::release;
+use burning::work_gases;
 use form::Counts;
 use form::PARAMETERS;
 use form::first_block;
 use form::row_start;
 use form::two_at;
-use savannas::sheet::Savannas;
+use ledger::Conversion;
+use ledger::Stocks;
+use savannas::Savannas;
 use totals::Carbon;
-use totals::DryMatter;
 use totals::Periods;
 use units::Co2;
-use units::Gas;
-use units::NetCarbon;
-use units::NetCo2;
-use units::NetDryMatter;
-use units::both;
-use units::carbon_in;
-use units::co2_of;
-use units::emission;
-use units::gas_of_carbon;
-use units::gas_of_nitrogen;
-use units::net_carbon;
-use units::net_co2;
-use units::net_wood;
-use units::nitrogen_in;
 use units::uptake_co2;
 
 // The parameter row, in thousandths.
@@ -88,97 +77,26 @@ fn parameters_at(bytes: &[u8], at: usize) -> Parameters
 
 // The return's own parameters, from its one row of them.
 pub fn read_parameters(bytes: &[u8], c: Counts) -> Parameters
-    requires { ⌜ verdictOf (now bytes) ≡ Accepted c ⌝ }
-    ensures { λ r. ⌜ r ≡ given (now (bytes .entry)) ⌝ }
+    requires { ⌜ Formed (now bytes) c ⌝ }
+    ensures { λ r. ⌜ r ≡ given (byKind (now (bytes .entry))) ⌝ }
 {
     let first = first_block(c, PARAMETERS);
     parameters_at(bytes, row_start(first, 0))
 }
 
-// Worksheet 5-1.
-pub struct Stocks {
-    pub e: Carbon,
-    pub k: DryMatter,
-    pub l: DryMatter,
-    pub m: NetDryMatter,
-    pub o: NetCarbon,
-    pub p: NetCarbon,
-    pub q: NetCo2,
-    pub report: NetCo2,
-}
-
-pub fn work_stocks(e: Carbon, k: DryMatter, l: DryMatter, n: u32) -> Stocks
-    requires { ⌜ (value (e .0) < 2 ^ 64) × (value (k .0) < 2 ^ 64) × (value (l .0) < 2 ^ 64) × (n ≤ 1000) ⌝ }
-    ensures { λ r. ⌜ r ≡ stocksHeld (stocksOf (value (e .0)) (value (k .0)) (value (l .0)) n) ⌝ }
-{
-    let m = net_wood(k, l);
-    let o = carbon_in(m, n);
-    let p = net_carbon(e, o);
-    let q = net_co2(p);
-    let report = emission(q);
-    Stocks {
-        e,
-        k,
-        l,
-        m,
-        o,
-        p,
-        q,
-        report,
-    }
-}
-
-// Worksheet 5-2.
-pub struct Conversion {
-    pub onsite: Carbon,
-    pub offsite: Carbon,
-    pub r: Carbon,
-    pub decay: Carbon,
-    pub co2: Co2,
-    pub thinner: Periods,
-}
-
-pub fn work_conversion(
-    onsite: Carbon,
-    offsite: Carbon,
-    decay: Carbon,
-    thinner: Periods,
-) -> Conversion
-    requires { ⌜ (value (onsite .0) < 2 ^ 80) × (value (offsite .0) < 2 ^ 80) × (value (decay .0) < 2 ^ 80) ⌝ }
-    ensures { λ r. ⌜ r ≡ conversionHeld (conversionOf (value (onsite .0)) (value (offsite .0)) (value (decay .0)) (value (thinner .0))) ⌝ }
-{
-    let r = both(onsite, offsite);
-    let co2 = co2_of(both(r, decay));
-    Conversion {
-        onsite,
-        offsite,
-        r,
-        decay,
-        co2,
-        thinner,
-    }
-}
-
 // Worksheet 5-3, from on-site carbon alone.
-pub struct Gases {
-    pub ch4: Gas,
-    pub co: Gas,
-    pub n2o: Gas,
-    pub nox: Gas,
-}
-
-// The gases by their weights: CH4 16 and CO 28 to carbon's 12, N2O 44 to nitrogen's 28, NOx 46 to its 14.
-pub fn work_gases(c: Carbon, p: Parameters) -> Gases
-    requires { ⌜ (value (c .0) < 2 ^ 80) × Ratios p ⌝ }
-    ensures { λ r. ⌜ r ≡ gasesHeld (gasesOf (value (c .0)) p) ⌝ }
+pub fn gases_of(c: Carbon, p: Parameters) -> Gases
+    requires { ⌜ (value (c .0) < 2 ^ 80) × Within p ⌝ }
+    ensures { λ r. ⌜ r ≡ gasesBy c p ⌝ }
 {
-    let nitrogen = nitrogen_in(c, p.nc);
-    Gases {
-        ch4: gas_of_carbon(c, 4, p.ch4),
-        co: gas_of_carbon(c, 7, p.co),
-        n2o: gas_of_nitrogen(nitrogen, 11, p.n2o),
-        nox: gas_of_nitrogen(nitrogen, 23, p.nox),
-    }
+    let by = Ratios {
+        nc: p.nc,
+        ch4: p.ch4,
+        co: p.co,
+        n2o: p.n2o,
+        nox: p.nox,
+    };
+    work_gases(release(c, by), 1)
 }
 
 // Worksheet 5-4.
@@ -189,7 +107,7 @@ pub struct Abandoned {
 
 pub fn work_abandoned(uptake: Carbon) -> Abandoned
     requires { ⌜ value (uptake .0) < 2 ^ 64 ⌝ }
-    ensures { λ r. ⌜ r ≡ abandonedHeld (abandonedOf (value (uptake .0))) ⌝ }
+    ensures { λ r. ⌜ r ≡ abandonedOf uptake ⌝ }
 {
     let co2 = uptake_co2(uptake);
     Abandoned { uptake, co2 }
@@ -198,6 +116,7 @@ pub fn work_abandoned(uptake: Carbon) -> Abandoned
 pub struct Figures {
     pub stocks: Stocks,
     pub conversion: Conversion,
+    pub thinner: Periods,
     pub gases: Gases,
     pub abandoned: Abandoned,
     pub savannas: Savannas,

@@ -1,90 +1,32 @@
 -- `door::niloferq_read` meets its contract. Assumes nothing.
+use mathlib.Core.Path.{sym, ap, subst, _∙_}
 use denote.Ref.{now}
-use mathlib.Core.Path.{sym, ap, _∙_}
-use Rattle.form.proofs.EachKind.{kinds-are}
-use Rattle.door.proofs.Reading.{codeBy, countsBy, judged-out, read-out, read-small}
-use native.Mathlib.Omega.{arith}
+use Rattle.door.specs.Door.{codeOf, InPlace}
+use Rattle.door.proofs.Codes.{in-place, read-bounded}
 use borrow.Author.Needs.{needs}
 use Rattle.door.proofs.niloferq_read.Statement.{statement}
 use Rattle.door.proofs.niloferq_read.Tie as tie
 
-niloferq-judge-requires : tie.Need-niloferq-judge-requires
-niloferq-judge-requires c κs = search needs
+read-requires : tie.Need-read-requires
+read-requires c κs = search needs
+
+code-of-requires : tie.Need-code-of-requires
+code-of-requires c κs =
+    let t = c .before .before .before .before in
+    let a = t .before .before .before .before .before .before .args in
+    subst InPlace (sym (t .read .ensures .0)) (in-place _ (read-bounded (now (a .bytes)) (now (a .rows)) (now (a .counts))))
 
 same-length : tie.Need-same-length
 same-length c = search needs
 
-returns : tie.Need-returns
-returns c =
-    let j = c .before .before in
-    let t = j .before .before in
-    let a = t .before .before .before .before .args in
-    judged-out (now (a .bytes)) (now (a .rows)) (now (a .counts)) (omega (arith, kinds-are, t .if1 .taken)) (j .niloferq-judge .ensures .0) (j .niloferq-judge .ensures .1)
-
-read-requires : tie.Need-read-requires
-read-requires c κs = search needs
-
-enum-known-number : tie.Need-enum-known-number
-enum-known-number c = search needs
-
-refusal-requires : tie.Need-refusal-requires
-refusal-requires c κs =
-    let r = c .before .before .before .before .before in
-    read-small _ _ (sym (r .read .ensures .0) ∙ c .before .number .given .1)
-
-enum-known-c : tie.Need-enum-known-c
-enum-known-c c = search needs
-
-put-counts-requires : tie.Need-put-counts-requires
-put-counts-requires c κs =
-    let t = c .before .before .before .before .before .before .before .before in
-    omega (arith, kinds-are, t .if1 .left)
-
 same-length-2 : tie.Need-same-length-2
 same-length-2 c = search needs
 
-returns-2 : tie.Need-returns-2
-returns-2 c =
-    let r = c .before .before .before .before .before .before in
-    let t = r .before .before in
-    let a = t .before .before .before .before .args in
-    let e = c .before .before .number .given .1 in
-    let s = r .read .ensures in
-    read-out (now (a .bytes)) (now (a .rows)) (now (a .counts)) _ (omega (arith, kinds-are, t .if1 .left)) (s .0) (c .refusal .ensures ∙ ap codeBy (sym e))
-    (s .1) (ap (countsBy (now (a .counts))) (sym e))
-
-same-length-3 : tie.Need-same-length-3
-same-length-3 c = search needs
-
-same-length-4 : tie.Need-same-length-4
-same-length-4 c = search needs
-
-returns-3 : tie.Need-returns-3
-returns-3 c =
-    let k = c .before .before in
-    let at-c = k .before .before .before in
-    let r = at-c .before .before .before .before in
-    let t = r .before .before in
-    let a = t .before .before .before .before .args in
-    let e = at-c .c .given .1 in
-    let s = r .read .ensures in
-    read-out (now (a .bytes)) (now (a .rows)) (now (a .counts)) _ (omega (arith, kinds-are, t .if1 .left)) (s .0) (ap codeBy (sym e))
-    (s .1) (k .put-counts .ensures ∙ ap (countsBy (now (a .counts))) (sym e))
+returns : tie.Need-returns
+returns c =
+    let t = c .before .before .before .before .before in
+    (c .code-of .ensures ∙ ap codeOf (t .read .ensures .0), t .read .ensures .1)
 
 pub niloferq-read-spec : {M : Type 1} → statement M
 niloferq-read-spec =
-    tie.close
-    (tie.spec
-    niloferq-judge-requires
-    same-length
-    returns
-    read-requires
-    enum-known-number
-    refusal-requires
-    enum-known-c
-    put-counts-requires
-    same-length-2
-    returns-2
-    same-length-3
-    same-length-4
-    returns-3)
+    tie.close (tie.spec read-requires code-of-requires same-length same-length-2 returns)

@@ -1,14 +1,13 @@
 -- `doubles::add_up` meets its contract. The loop's invariant: with the rows that are left, the subtotals are those of all. Assumes nothing.
-use mathlib.Core.Path.{_≡_, sym, ap, _∙_}
-use Prim.Native.Nat.{ℕ, _-_, _/_, _%_, _≤_}
+use mathlib.Core.Path.{_≡_, sym, _∙_}
+use Prim.Native.Nat.{ℕ, _-_, _≤_}
 use denote.Ref.{now}
 use lib.Ieee.{ofBits, ofInt}
-use Rattle.form.specs.Layout.{conversion, rowAt}
-use Rattle.form.specs.Block.{recordAt}
 use Rattle.form.specs.Verdict.{rows}
 use Rattle.doubles.specs.Subtotals.{subtotalsOf}
-use Rattle.doubles.specs.Steps.{doublePartsOf}
-use Rattle.doubles.proofs.Walk.{counted, standing, onward, onward-start, onward-next, onward-end}
+use Rattle.standing.proofs.Accepted.{formed}
+use Rattle.standing.proofs.Rows.{Stands, conversion-row}
+use Rattle.doubles.proofs.Walk.{counted, onward, onward-start, onward-next, onward-end}
 use borrow.Author.Needs.{needs}
 use native.Mathlib.Omega.{arith}
 use Rattle.doubles.proofs.add_up.Statement.{statement}
@@ -27,18 +26,17 @@ loop-holds c = (search needs, onward-start (rows 1 (now (c .before .args .bytes)
 cast-if1 : tie.Need-cast-if1 Inv-loop μ-loop
 cast-if1 c = search needs
 
--- where a row starts, from the first record on
-start : (c : tie.After-row-start Inv-loop μ-loop) → c .row-start .result ≡ recordAt (c .before .before .before .loop .i / 12) (c .before .before .before .loop .i % 12)
-start c = omega (arith, c .row-start .ensures)
+-- where the row stands
+row : (c : tie.After-row-start Inv-loop μ-loop) → Stands (now (c .before .before .before .before .before .args .bytes)) 1 (c .before .before .before .loop .i) (c .row-start .result)
+row c =
+    let g = c .before .before .before .before .before in
+    conversion-row (now (g .args .bytes)) (g .args .c) (formed _ _ (g .pre)) _ _ (omega arith) (c .row-start .ensures)
 
 row-start-requires : tie.Need-row-start-requires Inv-loop μ-loop
 row-start-requires c κs = search needs
 
 parts-at-requires : tie.Need-parts-at-requires Inv-loop μ-loop
-parts-at-requires c κs =
-    let g = c .before .before .before .before .before in
-    let h = standing (now (g .args .bytes)) (g .args .c) (g .pre) (c .before .before .before .loop .i) (omega arith) in
-    rw (start c) (h .inside)
+parts-at-requires c κs = row c .inside
 
 plus-requires : tie.Need-plus-requires Inv-loop μ-loop
 plus-requires c κs = search needs
@@ -54,14 +52,15 @@ loop-again c =
     let g = c .before .before .before .before .before .before .before in
     let l = c .before .before .before .before .before .loop in
     let s = now (g .args .bytes) in
-    (search needs, onward-next (rows 1 s) (l .i) (l .t) (omega (arith, counted s (g .args .c) (g .pre))) (standing s (g .args .c) (g .pre) (l .i) (omega arith) .row) (l .inv .1) (c .before .parts-at .ensures ∙ ap (λ (x : ℕ). doublePartsOf (rowAt conversion s x)) (start (c .before .before))) (c .plus .ensures))
+    let w = row (c .before .before) in
+    (search needs, onward-next (rows 1 s) (l .i) (l .t) (w .there) (w .row) (l .inv .1) (c .before .parts-at .ensures) (c .plus .ensures))
 
 returns : tie.Need-returns Inv-loop μ-loop
 returns c =
     let g = c .before .before .before .before in
     let l = c .before .before .loop in
     let s = now (g .args .bytes) in
-    sym (onward-end (rows 1 s) (l .i) (l .t) (omega (arith, counted s (g .args .c) (g .pre)))) ∙ l .inv .1
+    sym (onward-end (rows 1 s) (l .i) (l .t) (omega (arith, counted s (g .args .c) (formed _ _ (g .pre))))) ∙ l .inv .1
 
 pub add-up-spec : {M : Type 1} → statement M
 add-up-spec =

@@ -1,6 +1,7 @@
 -- By the judge's verdict. Assumes nothing.
 use mathlib.Core.Path.{sym, ap, _∙_}
 use denote.Ref.{now}
+use Rattle.standing.proofs.Accepted.{formed}
 use Rattle.explained.specs.declared.Explanation.the-variants.{Accepted, Refused}
 use Rattle.explained.proofs.Laws.{accepted-explained, refused-explained}
 use borrow.Author.Needs.{needs}
@@ -14,7 +15,7 @@ enum-known-c : tie.Need-enum-known-c
 enum-known-c c = search needs
 
 weigh-rows-requires : tie.Need-weigh-rows-requires
-weigh-rows-requires c κs = sym (c .before .before .before .judge .ensures) ∙ c .before .c .given .1
+weigh-rows-requires c κs = formed _ _ (sym (c .before .before .before .judge .ensures) ∙ c .before .c .given .1)
 
 enum-known-number : tie.Need-enum-known-number
 enum-known-number c = search needs

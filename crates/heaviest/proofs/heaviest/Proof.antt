@@ -1,6 +1,7 @@
 -- `heaviest::heaviest` meets its contract. Assumes nothing.
 use mathlib.Core.Path.{sym, ap, _∙_}
 use denote.Ref.{now}
+use Rattle.standing.proofs.Accepted.{formed}
 use Rattle.heaviest.specs.Heaviest.{namedOf, weightBy}
 use Rattle.heaviest.proofs.Walk.{by-code}
 use Rattle.heaviest.proofs.Answers.{refused-answer, code-answer, named-answer}
@@ -26,7 +27,7 @@ returns c =
     sym (code-answer (now (a .bytes)) (a .code) (sym (j .judge .ensures) ∙ n .counts .given .1) (omega arith))
 
 weigh-rows-requires : tie.Need-weigh-rows-requires
-weigh-rows-requires c κs = let n = c .before .before in sym (n .before .before .judge .ensures) ∙ n .counts .given .1
+weigh-rows-requires c κs = let n = c .before .before in formed _ _ (sym (n .before .before .judge .ensures) ∙ n .counts .given .1)
 
 by-code-requires : tie.Need-by-code-requires
 by-code-requires c κs = search needs

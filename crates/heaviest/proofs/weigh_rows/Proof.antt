@@ -6,8 +6,8 @@ use lib.Dec.{lit≤}
 use lib.ListN.{take}
 use Rattle.form.specs.Verdict.{rows}
 use Rattle.form.proofs.EachKind.{one-kind}
-use Rattle.form.proofs.Accepted.{rows-length, counted}
-use Rattle.totals.proofs.Accepted.{Stands, conversion-row, kept}
+use Rattle.standing.proofs.Accepted.{rows-length, counted}
+use Rattle.standing.proofs.Rows.{Stands, conversion-row, kept}
 use Rattle.heaviest.specs.Heaviest.{heaviestRows}
 use Rattle.heaviest.proofs.Walk.{start, turn, end}
 use borrow.Author.Needs.{needs}

@@ -1,87 +1,83 @@
--- `judge::rule_records` meets its contract. Assumes nothing.
-use Prim.Native.Nat.{ℕ}
-use mathlib.Core.Path.{_≡_, refl, sym}
-use mathlib.Core.List.{List}
-use lib.ListN.{drop}
+-- `judge::rule_records` meets its contract. The loop's invariant: the rules from number i on decide. Assumes nothing.
+use Prim.Native.Nat.{_-_, _≤_}
+use mathlib.Core.Path.{_≡_, refl}
 use denote.Ref.{now}
-use Rattle.form.specs.Ruling.{Rule, ruling}
+use lib.ListN.{drop}
+use Rattle.form.specs.Ruling.{ruling}
 use Rattle.form.specs.Block.{edition}
-use Rattle.form.specs.Records.{filed, recordRules}
-use Rattle.form.proofs.Order.{stopped, passed}
+use Rattle.form.specs.Records.{filed, recordRules, recordNumbers, byNumber}
+use Rattle.form.proofs.Numbered.{number-stopped, number-passed, numbers-done}
 use borrow.Author.Needs.{needs}
+use native.Mathlib.Omega.{arith}
 use Rattle.judge.proofs.rule_records.Statement.{statement}
 use Rattle.judge.proofs.rule_records.Tie as tie
 
--- the rules, and that those from one on decide, where the rules before are kept
-abbrev all : tie.After-enum-told → List Rule
-all c = let s = now (c .before .before .before .before .args .bytes) in recordRules (edition s 0) (filed s)
+abbrev Inv-loop : tie.InvT-loop
+Inv-loop bytes i₀ i = (i ≤ 3) × (ruling (recordRules (edition bytes 0) (filed bytes)) ≡ ruling (byNumber (edition bytes 0) (filed bytes) (drop i recordNumbers)))
 
-abbrev Past : ℕ → tie.After-enum-told → Type 0
-Past k c = ruling (all c) ≡ ruling (drop k (all c))
+abbrev μ-loop : tie.MeasureT-loop
+μ-loop bytes i₀ i = 3 - i
 
-past1 : (c : tie.After-enum-told) → Past 1 c
-past1 c = passed _ _ refl (c .before .before .first-broken .ensures) (c .enum-told .given .1)
+loop-holds : tie.Need-loop-holds Inv-loop μ-loop
+loop-holds c = (search needs, refl)
 
-past2 : (c : tie.After-enum-told2) → Past 2 (c .before .before .before)
-past2 c = passed _ _ (past1 (c .before .before .before)) (c .before .before .first-broken2 .ensures) (c .enum-told2 .given .1)
+record-rule-requires : tie.Need-record-rule-requires Inv-loop μ-loop
+record-rule-requires c κs = search needs
 
-past3 : (c : tie.After-enum-told3) → Past 3 (c .before .before .before .before .before .before)
-past3 c = passed _ _ (past2 (c .before .before .before)) (c .before .before .first-broken3 .ensures) (c .enum-told3 .given .1)
+cast-first-broken : tie.Need-cast-first-broken Inv-loop μ-loop
+cast-first-broken c = search needs
 
-first-broken-requires : tie.Need-first-broken-requires
+first-broken-requires : tie.Need-first-broken-requires Inv-loop μ-loop
 first-broken-requires c κs = search needs
 
-enum-known-id : tie.Need-enum-known-id
-enum-known-id c = search needs
+enum-known-spot : tie.Need-enum-known-spot Inv-loop μ-loop
+enum-known-spot c = search needs
 
-returns : tie.Need-returns
-returns c = let e = c .before .before .before in stopped _ _ refl (e .first-broken .ensures) (c .before .id .given .1)
+returns : tie.Need-returns Inv-loop μ-loop
+returns c =
+    let b = c .before .before .before in
+    let r = b .before in
+    let l = r .before .before in
+    let s = now (l .before .before .args .bytes) in
+    number-stopped (edition s 0) (filed s) recordNumbers (l .loop .i) (l .loop .inv .1) (omega arith) (r .record-rule .ensures) (b .first-broken .ensures) (c .before .spot .given .1)
 
-enum-told : tie.Need-enum-told
+enum-told : tie.Need-enum-told Inv-loop μ-loop
 enum-told c = search needs
 
-first-broken-requires-2 : tie.Need-first-broken-requires-2
-first-broken-requires-2 c κs = search needs
+add-i : tie.Need-add-i Inv-loop μ-loop
+add-i c = search needs
 
-enum-known-field : tie.Need-enum-known-field
-enum-known-field c = search needs
+loop-less : tie.Need-loop-less Inv-loop μ-loop
+loop-less c = search needs
 
-returns-2 : tie.Need-returns-2
-returns-2 c = let e = c .before .before .before in stopped _ _ (past1 (e .before)) (e .first-broken2 .ensures) (c .before .field .given .1)
+loop-again : tie.Need-loop-again Inv-loop μ-loop
+loop-again c =
+    let b = c .before .before in
+    let r = b .before in
+    let l = r .before .before in
+    let s = now (l .before .before .args .bytes) in
+    (search needs, number-passed (edition s 0) (filed s) recordNumbers (l .loop .i) (l .loop .inv .1) (omega arith) (r .record-rule .ensures) (b .first-broken .ensures) (c .enum-told .given .1))
 
-enum-told-2 : tie.Need-enum-told-2
-enum-told-2 c = search needs
-
-first-broken-requires-3 : tie.Need-first-broken-requires-3
-first-broken-requires-3 c κs = search needs
-
-enum-known-fractions : tie.Need-enum-known-fractions
-enum-known-fractions c = search needs
-
-returns-3 : tie.Need-returns-3
-returns-3 c = let e = c .before .before .before in stopped _ _ (past2 (e .before)) (e .first-broken3 .ensures) (c .before .fractions .given .1)
-
-enum-told-3 : tie.Need-enum-told-3
-enum-told-3 c = search needs
-
-returns-4 : tie.Need-returns-4
-unfolding ruling
-returns-4 c = sym (past3 c)
+returns-2 : tie.Need-returns-2 Inv-loop μ-loop
+returns-2 c =
+    let l = c .before in
+    let s = now (l .before .before .args .bytes) in
+    numbers-done (edition s 0) (filed s) recordNumbers (l .loop .i) (l .loop .inv .1) (omega arith)
 
 pub rule-records-spec : {M : Type 1} → statement M
 rule-records-spec =
     tie.close
     (tie.spec
+    Inv-loop
+    μ-loop
+    loop-holds
+    record-rule-requires
+    cast-first-broken
     first-broken-requires
-    enum-known-id
+    enum-known-spot
     returns
     enum-told
-    first-broken-requires-2
-    enum-known-field
-    returns-2
-    enum-told-2
-    first-broken-requires-3
-    enum-known-fractions
-    returns-3
-    enum-told-3
-    returns-4)
+    add-i
+    loop-less
+    loop-again
+    returns-2)

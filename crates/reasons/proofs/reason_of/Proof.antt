@@ -1,51 +1,48 @@
 -- Number by number; the place is one of the rule's, as the return is refused there. Assumes nothing.
-use Prim.Native.Nat.{_≤_}
 use mathlib.Core.Path.{refl}
 use denote.Ref.{now}
 use native.Mathlib.Omega.{arith}
-use borrow.Author.Tests.{ne-eqb}
+use lib.Dec.{eqb}
+use borrow.Author.Tests.{ne-eqb, eqb-true}
+use Rattle.form.specs.Records.{filed, brokenBy}
+use Rattle.form.proofs.Tests.{and-true}
+use Rattle.form.proofs.Meaning.{length-first}
 use Rattle.reasons.specs.Reasons.{reasonOf}
-use Rattle.reasons.proofs.Refused.{RefusedAt, refused-at, numbers-are, block-there, record-there, id-wrong, conversion-there}
+use Rattle.reasons.proofs.Refused.{at-check, at-header, at-block, at-id, at-field, at-fractions, last-number}
 use Rattle.reasons.proofs.reason_of.Statement.{statement}
 use Rattle.reasons.proofs.reason_of.Tie as tie
 
-at : (c : tie.Start) → RefusedAt (now (c .args .bytes)) (c .args .number) (c .args .place)
-at c = refused-at (now (c .args .bytes)) (c .pre)
-
 bad-check-requires : tie.Need-bad-check-requires
-bad-check-requires c κs =
-    let t = c .before .before in
-    block-there (now (t .args .bytes)) (at t) (omega (arith, c .match .keys2)) (omega (arith, c .match .keys2)) .0
+bad-check-requires c κs = let t = c .before .before in at-check (now (t .args .bytes)) (t .pre) (c .match .keys2) .inside
 
 bad-header-requires : tie.Need-bad-header-requires
 bad-header-requires c κs =
     let t = c .before .before in
-    block-there (now (t .args .bytes)) (at t) (omega (arith, c .match .keys3)) (omega (arith, c .match .keys3))
+    let s = now (t .args .bytes) in
+    (at-header s (t .pre) (c .match .keys3) .inside, length-first s _ _ (t .pre) (λ q. absurd (omega (arith, c .match .keys3, q))))
 
 bad-block-requires : tie.Need-bad-block-requires
 bad-block-requires c κs =
     let t = c .before .before in
-    block-there (now (t .args .bytes)) (at t) (omega (arith, c .match .keys4)) (omega (arith, c .match .keys4))
+    let s = now (t .args .bytes) in
+    (at-block s (t .pre) (c .match .keys4) .inside, length-first s _ _ (t .pre) (λ q. absurd (omega (arith, c .match .keys4, q))))
 
 id-below-requires : tie.Need-id-below-requires
-id-below-requires c κs =
-    let t = c .before .before in
-    let s = now (t .args .bytes) in
-    (record-there s (at t) (omega (arith, c .match .keys5)), id-wrong s (at t) (omega (arith, c .match .keys5)) (omega (arith, c .match .keys5)))
+id-below-requires c κs = let t = c .before .before in let w = at-id (now (t .args .bytes)) (t .pre) (c .match .keys5) in (w .inside, w .broken)
 
 field-above-requires : tie.Need-field-above-requires
-field-above-requires c κs =
-    let t = c .before .before in
-    record-there (now (t .args .bytes)) (at t) (omega (arith, c .match .keys6))
+field-above-requires c κs = let t = c .before .before in at-field (now (t .args .bytes)) (t .pre) (c .match .keys6) .inside
 
 fractions-above-requires : tie.Need-fractions-above-requires
+unfolding brokenBy
 fractions-above-requires c κs =
     let t = c .before .before in
     let s = now (t .args .bytes) in
+    let p = t .args .place in
     let r = c .match .rest in
-    let n = numbers-are s (at t) in
-    let seven : 7 ≤ t .args .number = omega (arith, n, r) in
-    (record-there s (at t) (omega (arith, seven)), conversion-there s (at t) seven)
+    let n = last-number s (t .pre) (ne-eqb _ 1 (r .0 .0 .0 .0 .0 .1)) (ne-eqb _ 2 (r .0 .0 .0 .0 .1)) (ne-eqb _ 3 (r .0 .0 .0 .1)) (ne-eqb _ 4 (r .0 .0 .1)) (ne-eqb _ 5 (r .0 .1)) (ne-eqb _ 6 (r .1)) in
+    let w = at-fractions s (t .pre) n in
+    (w .inside, eqb-true (filed s .kind p) 1 (and-true (eqb (filed s .kind p) 1) _ (and-true (filed s .used p) _ (w .broken) .1) .0))
 
 returns : tie.Need-returns
 unfolding reasonOf

@@ -4,14 +4,13 @@ use denote.Ref.{now}
 use borrow.Author.Needs.{needs}
 use Rattle.phrases.proofs.Room.{straight-out, elsewhere-out}
 use Rattle.report.specs.Lines.{printed}
-use Rattle.report.proofs.Short.{printed-short}
 use Rattle.report.proofs.lines.Statement.{statement}
 use Rattle.report.proofs.lines.Tie as tie
 
 write-lines-requires : tie.Need-write-lines-requires
 write-lines-requires c κs =
     let i = c .before in
-    omega (arith, i .if1 .taken, printed-short (now (i .before .before .before .args .bytes)))
+    omega (arith, i .if1 .taken)
 
 same-length : tie.Need-same-length
 same-length c = search needs
@@ -21,13 +20,13 @@ returns c =
     let w = c .before .before in
     let i = w .before .before in
     let a = i .before .before .before .args in
-    straight-out (printed (now (a .bytes))) (now (a .room)) _ _ (w .write-lines .ensures) (omega (arith, i .if1 .taken, printed-short (now (a .bytes))))
+    straight-out (printed (now (a .bytes))) (now (a .room)) _ _ (w .write-lines .ensures .0) (omega (arith, i .if1 .taken, w .write-lines .ensures .1))
 
 slice-aggregate-write-lines : tie.Need-slice-aggregate-write-lines
 slice-aggregate-write-lines c = search needs
 
 write-lines-requires-2 : tie.Need-write-lines-requires-2
-write-lines-requires-2 c κs = omega (arith, printed-short (now (c .before .before .before .before .args .bytes)))
+write-lines-requires-2 c κs = search needs
 
 slice-aggregate-put-short : tie.Need-slice-aggregate-put-short
 slice-aggregate-put-short c = search needs
@@ -35,8 +34,7 @@ slice-aggregate-put-short c = search needs
 put-short-requires : tie.Need-put-short-requires
 put-short-requires c κs =
     let w = c .before .before .before in
-    let a = w .before .before .before .before .before .args in
-    omega (arith, w .write-lines2 .ensures .place, w .write-lines2 .kept .1 .0, printed-short (now (a .bytes)))
+    omega (arith, w .write-lines2 .ensures .0 .place, w .write-lines2 .kept .1 .0, w .write-lines2 .ensures .1)
 
 same-length-2 : tie.Need-same-length-2
 same-length-2 c = search needs
@@ -46,7 +44,7 @@ returns-2 c =
     let p = c .before .before in
     let w = p .before .before .before .before in
     let a = w .before .before .before .before .before .args in
-    elsewhere-out (printed (now (a .bytes))) _ _ (now (a .room)) _ _ _ (w .write-lines2 .ensures) (omega (arith, w .write-lines2 .ensures .place, printed-short (now (a .bytes)))) (p .put-short .ensures)
+    elsewhere-out (printed (now (a .bytes))) _ _ (now (a .room)) _ _ _ (w .write-lines2 .ensures .0) (omega (arith, w .write-lines2 .ensures .0 .place, w .write-lines2 .ensures .1)) (p .put-short .ensures)
 
 pub lines-spec : {M : Type 1} → statement M
 lines-spec =

@@ -10,7 +10,7 @@ use Rattle.form.specs.Verdict.{rowCount}
 use Rattle.form.specs.declared.Spot.the-variants.{Nowhere}
 use Rattle.form.proofs.Search.{first-zero, first-more, first-found}
 use Rattle.form.proofs.EachKind.{KindsAre, kinds-are}
-use Rattle.form.proofs.Accepted.{counted}
+use Rattle.standing.proofs.Accepted.{counted}
 use Rattle.rows.specs.Reading.{areaTo, outgrown}
 use Rattle.rows.proofs.Rows.{rows-few, need-none, need-next}
 use borrow.Author.Needs.{needs}

@@ -2,6 +2,7 @@
 use mathlib.Core.Path.{refl, sym, _∙_}
 use denote.Ref.{now}
 use Rattle.form.specs.Layout.{kinds}
+use Rattle.standing.proofs.Accepted.{formed}
 use Rattle.filing.proofs.Stores.{sets-front}
 use Rattle.rows.specs.Reading.{areaTo}
 use Rattle.rows.proofs.Rows.{short, all-read, enough}
@@ -11,7 +12,7 @@ use Rattle.rows.proofs.read_accepted.Statement.{statement}
 use Rattle.rows.proofs.read_accepted.Tie as tie
 
 first-outgrown-requires : tie.Need-first-outgrown-requires
-first-outgrown-requires c κs = search needs
+first-outgrown-requires c κs = formed _ _ (c .before .before .pre)
 
 enum-known-place : tie.Need-enum-known-place
 enum-known-place c = search needs
@@ -31,7 +32,7 @@ read-rows-requires c κs =
     let told = c .before in
     let at-first = told .before .before in
     let enter = at-first .before .before .before in
-    (enter .pre, enough (now (enter .args .bytes)) _ (sym (at-first .first-outgrown .ensures) ∙ told .enum-told .given .1))
+    (formed _ _ (enter .pre), enough (now (enter .args .bytes)) _ (sym (at-first .first-outgrown .ensures) ∙ told .enum-told .given .1))
 
 same-length : tie.Need-same-length
 same-length c = search needs

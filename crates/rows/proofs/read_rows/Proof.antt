@@ -10,7 +10,7 @@ use Rattle.form.specs.Layout.{kinds, numbersOf}
 use Rattle.form.specs.Verdict.{rowCount}
 use Rattle.form.specs.Standing.{blocksFor, startBlock}
 use Rattle.form.proofs.EachKind.{KindsAre, kinds-are}
-use Rattle.form.proofs.Accepted.{counted, few-rows, whole-blocks}
+use Rattle.standing.proofs.Accepted.{counted, few-rows, whole-blocks}
 use Rattle.filing.specs.Written.{inTurn}
 use Rattle.filing.specs.Tables.{rowOn}
 use Rattle.filing.proofs.Stores.{Filling, filling-none, filling-more, filling-all}

@@ -1,11 +1,10 @@
 -- `savannas::carbon_at` meets its contract. Assumes nothing.
 use Prim.Native.Nat.{ℕ, _*_}
 use mathlib.Core.Path.{_∙_, ap₂}
-use lib.Dec.{lit<, lit≤}
+use lib.Dec.{lit<}
 use native.Mathlib.Numerals.{bound}
-use Rattle.wide.proofs.Laws.{is-as}
+use Rattle.wide.proofs.Laws.{words, is-as}
 use Rattle.savannas.specs.Savannas.{carbonPart}
-use native.Mathlib.Omega.{arith}
 use borrow.Author.Needs.{needs}
 use Rattle.savannas.proofs.carbon_at.Statement.{statement}
 use Rattle.savannas.proofs.carbon_at.Tie as tie
@@ -27,10 +26,8 @@ unfolding carbonPart
 returns c =
     let s = c .before in
     let o = s .before in
-    let b = o .before .burned-at .ensures in (
-      is-as (c .times .ensures) (ap₂ (λ (x y : ℕ). x * y) (o .of .ensures .number ∙ b .0) (s .share-at .ensures .0)),
-      rw (c .times .ensures .number, o .of .ensures .number) (grw (bound, b .1, s .share-at .ensures .1) (lit≤ tt)),
-    )
+    let e = words (is-as (c .times .ensures) (ap₂ (λ (x y : ℕ). x * y) (o .of .ensures .number ∙ o .before .burned-at .ensures .0) (s .share-at .ensures .0))) in
+    λ i. record { 0 = e i }
 
 pub carbon-at-spec : {M : Type 1} → statement M
 carbon-at-spec =

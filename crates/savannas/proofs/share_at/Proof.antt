@@ -12,11 +12,11 @@ use Rattle.savannas.proofs.share_at.Statement.{statement}
 use Rattle.savannas.proofs.share_at.Tie as tie
 
 below : (c : tie.After-two-at5) → let l = c .before .before .before .before .two-at .result in
-    l * c .before .before .before .two-at2 .result * c .before .before .two-at3 .result + (1000 - l) * c .before .two-at4 .result * c .two-at5 .result ≤ 1000000000
+    l * c .before .before .before .two-at2 .result * c .before .before .two-at3 .result + (1000 - l) * c .before .two-at4 .result * c .two-at5 .result ≤ 2000000000
 below c =
     let g = c .before .before .before .before .before .before in
     let w = living-at (now (g .args .bytes)) (g .args .at) (g .pre .1) in
-    shares _ _ _ _ _ (search needs) (search needs) (search needs) (search needs) (search needs)
+    shares _ _ _ _ _ _ (search needs) (search needs) (search needs) (search needs) (search needs) (search needs)
 
 add-two-at : tie.Need-add-two-at
 add-two-at c = search needs

@@ -1,28 +1,26 @@
 -- `savannas::sum_savannas` meets its contract. Assumes nothing.
-use Prim.Native.Nat.{ℕ, _-_, _≤_}
-use mathlib.Core.Path.{_≡_}
+use Prim.Native.Nat.{_-_, _≤_}
+use mathlib.Core.Path.{_≡_, _∙_}
 use mathlib.Core.Bool.{false}
-use mathlib.Core.List.{List}
 use denote.Ref.{now}
 use lib.Dec.{lit<, lit≤}
 use lib.ListN.{take}
 use Rattle.form.specs.Layout.{savanna, rowAt, aboveLimit}
 use Rattle.form.specs.Verdict.{rows}
-use Rattle.form.proofs.Accepted.{few-counted}
+use Rattle.standing.proofs.Accepted.{few-counted}
 use Rattle.form.proofs.EachKind.{kinds-are}
-use Rattle.wide.proofs.Laws.{is-as}
-use Rattle.totals.specs.Columns.{sumOf}
-use Rattle.totals.proofs.Accepted.{Stands, kind-row, kept, whole}
-use Rattle.savannas.specs.Savannas.{carbonPart, ch4Part, coPart, n2oPart, noxPart}
-use Rattle.savannas.specs.Sums.{Summed}
-use Rattle.savannas.proofs.Accepted.{sum-room, row-room, turn}
+use Rattle.standing.proofs.Rows.{Stands, kind-row, kept}
+use Rattle.burning.specs.Released.{burnedBy}
+use Rattle.burning.proofs.Rows.{first, turn, all, sum-room, row-room}
+use Rattle.savannas.specs.Savannas.{carbonPart, ratiosOf}
+use Rattle.savannas.proofs.Limits.{carbon-below, ratios}
 use borrow.Author.Needs.{needs}
 use native.Mathlib.Omega.{arith}
 use Rattle.savannas.proofs.sum_savannas.Statement.{statement}
 use Rattle.savannas.proofs.sum_savannas.Tie as tie
 
 abbrev Inv-loop : tie.InvT-loop
-Inv-loop bytes first n t₀ i₀ t i = (i ≤ n) × Summed t (take i (rows 6 bytes))
+Inv-loop bytes first n t₀ i₀ t i = (i ≤ n) × (t ≡ burnedBy carbonPart ratiosOf (take i (rows 6 bytes)))
 
 abbrev μ-loop : tie.MeasureT-loop
 μ-loop bytes first n t₀ i₀ t i = n - i
@@ -45,12 +43,11 @@ first-block-requires c κs = let s = c .before in (lit< tt, lit< tt, few-counted
 cast-n : tie.Need-cast-n Inv-loop μ-loop
 cast-n c = search needs
 
-of-requires : tie.Need-of-requires Inv-loop μ-loop
-of-requires c κs = search needs
+nothing-requires : tie.Need-nothing-requires Inv-loop μ-loop
+nothing-requires c κs = search needs
 
 loop-holds : tie.Need-loop-holds Inv-loop μ-loop
-unfolding sumOf
-loop-holds c = let z = c .of .ensures in (search needs, record { carbon = z; ch4 = z; co = z; n2o = z; nox = z })
+loop-holds c = (search needs, c .nothing .ensures ∙ first carbonPart ratiosOf)
 
 row-start-requires : tie.Need-row-start-requires Inv-loop μ-loop
 row-start-requires c κs = search needs
@@ -62,7 +59,10 @@ add-row-requires : tie.Need-add-row-requires Inv-loop μ-loop
 add-row-requires c κs =
     let s = c .before .before .before .before .before .before .before .before in
     let l = c .before .before .before .loop in
-    (sum-room (now (s .args .bytes)) (s .args .c) (s .pre) (l .t) (l .i) (l .inv .1), row-room _ _ (within (c .before)) (c .row-at .ensures))
+    let w = within (c .before) in (
+      sum-room carbonPart ratiosOf (now (s .args .bytes)) (s .args .c) (s .pre) 6 (lit≤ tt) (omega (arith, kinds-are)) carbon-below ratios (l .i) (l .inv .1),
+      row-room carbonPart ratiosOf _ (carbon-below _ w) (ratios _ w) (c .row-at .ensures),
+    )
 
 add-i : tie.Need-add-i Inv-loop μ-loop
 add-i c = search needs
@@ -71,21 +71,12 @@ loop-less : tie.Need-loop-less Inv-loop μ-loop
 loop-less c = search needs
 
 loop-again : tie.Need-loop-again Inv-loop μ-loop
-loop-again c = (search needs, turn (row (c .before .before)) (c .before .row-at .ensures) (c .before .before .before .before .loop .inv .1) (c .add-row .ensures))
-
-all : (c : tie.After-loop Inv-loop μ-loop) (f : List ℕ → ℕ) → sumOf f (take (c .before .loop .i) (rows 6 (now (c .before .before .before .before .before .before .args .bytes)))) ≡ sumOf f (rows 6 (now (c .before .before .before .before .before .before .args .bytes)))
-all c f = let s = c .before .before .before .before .before .before in whole (now (s .args .bytes)) (s .args .c) (s .pre) f 5 (c .before .loop .i) (omega (arith, kinds-are)) (search needs)
+loop-again c = (search needs, turn carbonPart ratiosOf (row (c .before .before)) (c .before .row-at .ensures) (c .before .before .before .before .loop .inv .1) (c .add-row .ensures))
 
 returns : tie.Need-returns Inv-loop μ-loop
 returns c =
-    let e = c .before .loop .inv .1 in
-    record {
-      carbon = is-as (e .carbon) (all c carbonPart);
-      ch4 = is-as (e .ch4) (all c ch4Part);
-      co = is-as (e .co) (all c coPart);
-      n2o = is-as (e .n2o) (all c n2oPart);
-      nox = is-as (e .nox) (all c noxPart);
-    }
+    let s = c .before .before .before .before .before .before in
+    all carbonPart ratiosOf (now (s .args .bytes)) (s .args .c) (s .pre) 6 (lit≤ tt) (omega (arith, kinds-are)) carbon-below ratios (c .before .loop .i) (search needs) (c .before .loop .inv .1)
 
 pub sum-savannas-spec : {M : Type 1} → statement M
 sum-savannas-spec =
@@ -95,7 +86,7 @@ sum-savannas-spec =
     μ-loop
     first-block-requires
     cast-n
-    of-requires
+    nothing-requires
     loop-holds
     row-start-requires
     row-at-requires

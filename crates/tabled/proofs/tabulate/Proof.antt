@@ -1,7 +1,7 @@
 -- The numbers of what the sheets answer. Assumes nothing.
 use denote.Ref.{now}
 use borrow.Author.Needs.{needs}
-use Rattle.worksheets.proofs.One.{told, in-form}
+use Rattle.worksheets.proofs.Accepted.{told}
 use Rattle.tabled.proofs.Numbers.{refused-out, short-out, done-out}
 use Rattle.tabled.proofs.tabulate.Statement.{statement}
 use Rattle.tabled.proofs.tabulate.Tie as tie
@@ -24,11 +24,8 @@ returns c =
     let a = e .before .before .before .args in
     short-out (now (a .bytes)) (now (a .room)) _ (told (now (a .bytes)) (e .figures .ensures) (y .before .f .given .1)) (c .if1 .taken)
 
-put-figures-requires : tie.Need-put-figures-requires
-put-figures-requires c κs =
-    let y = c .before .before in
-    let e = y .before .before .before in
-    (in-form (now (e .before .before .before .args .bytes)) (e .figures .ensures) (y .before .f .given .1), search needs)
+put-numbers-requires : tie.Need-put-numbers-requires
+put-numbers-requires c κs = search needs
 
 returns-2 : tie.Need-returns-2
 returns-2 c =
@@ -46,7 +43,7 @@ returns-3 c =
     let y = i .before in
     let e = y .before .before .before in
     let a = e .before .before .before .args in
-    done-out (now (a .bytes)) (now (a .room)) _ _ _ (told (now (a .bytes)) (e .figures .ensures) (y .before .f .given .1)) (i .if1 .left) (p .put-figures .ensures)
+    done-out (now (a .bytes)) (now (a .room)) _ _ _ (told (now (a .bytes)) (e .figures .ensures) (y .before .f .given .1)) (i .if1 .left) (p .put-numbers .ensures .0)
 
 pub tabulate-spec : {M : Type 1} → statement M
 tabulate-spec =
@@ -56,7 +53,7 @@ tabulate-spec =
     enum-known-number
     enum-known-f
     returns
-    put-figures-requires
+    put-numbers-requires
     returns-2
     same-length
     returns-3)

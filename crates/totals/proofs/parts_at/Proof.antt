@@ -3,7 +3,8 @@ use Prim.Native.Nat.{_*_}
 use mathlib.Core.Path.{_∙_}
 use Rattle.form.specs.Layout.{rowFrom}
 use Rattle.form.specs.Records.{countedDifference}
-use Rattle.totals.specs.Columns.{clearedPart, onsitePart, offsitePart}
+use Rattle.form.specs.Sums.{clearedPart}
+use Rattle.totals.specs.Columns.{onsitePart, offsitePart}
 use Rattle.totals.proofs.Limits.{biomass-two, period, onsites, offsites}
 use native.Mathlib.Omega.{arith}
 use borrow.Author.Needs.{needs}

@@ -1,18 +1,15 @@
 -- `totals::sum_conversion` meets its contract. Assumes nothing.
-use Rattle.totals.proofs.Accepted.{Stands, conversion-row, kept, room, turn, whole}
+use Rattle.standing.proofs.Rows.{Stands, conversion-row, kept}
+use Rattle.totals.proofs.Accepted.{room, turn, all-summed}
 use Rattle.form.proofs.EachKind.{one-kind}
-use Rattle.totals.specs.Columns.{sumOf, clearedPart, onsitePart, offsitePart, decayPart, thinnerPart}
-use Prim.Native.Nat.{ℕ, _-_, _≤_}
-use mathlib.Core.Path.{_≡_}
+use Rattle.form.specs.Sums.{sumOf}
+use Prim.Native.Nat.{_-_, _≤_}
 use lib.Dec.{lit≤}
-use mathlib.Core.List.{List}
 use denote.Ref.{now}
-use Rattle.wide.proofs.Laws.{is-as}
 use lib.ListN.{take}
 use Rattle.form.specs.Verdict.{rows}
 use Rattle.totals.specs.Sums.{Summed}
 use borrow.Author.Needs.{needs}
-use native.Mathlib.Omega.{arith}
 use Rattle.totals.proofs.sum_conversion.Statement.{statement}
 use Rattle.totals.proofs.sum_conversion.Tie as tie
 
@@ -59,19 +56,10 @@ loop-less c = search needs
 loop-again : tie.Need-loop-again Inv-loop μ-loop
 loop-again c = (search needs, turn (row (c .before .before)) (c .before .parts-at .ensures) (c .before .before .before .before .loop .inv .1) (c .add-row .ensures))
 
-all : (c : tie.After-loop Inv-loop μ-loop) (f : List ℕ → ℕ) → sumOf f (take (c .before .loop .i) (rows 1 (now (c .before .before .before .before .before .args .bytes)))) ≡ sumOf f (rows 1 (now (c .before .before .before .before .before .args .bytes)))
-all c f = let s = c .before .before .before .before .before in whole (now (s .args .bytes)) (s .args .c) (s .pre) f 0 (c .before .loop .i) one-kind (search needs)
-
 returns : tie.Need-returns Inv-loop μ-loop
 returns c =
-    let e = c .before .loop .inv .1 in
-    record {
-      cleared = is-as (e .cleared) (all c clearedPart);
-      onsite = is-as (e .onsite) (all c onsitePart);
-      offsite = is-as (e .offsite) (all c offsitePart);
-      decay = is-as (e .decay) (all c decayPart);
-      thinner = is-as (e .thinner) (all c thinnerPart);
-    }
+    let s = c .before .before .before .before .before in
+    all-summed (now (s .args .bytes)) (s .args .c) (s .pre) _ (c .before .loop .i) (search needs) (c .before .loop .inv .1)
 
 pub sum-conversion-spec : {M : Type 1} → statement M
 sum-conversion-spec =

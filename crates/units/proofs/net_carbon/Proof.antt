@@ -4,7 +4,7 @@ use mathlib.Core.Path.{_≡_, ap}
 use lib.IntN.{pos, _-ℤ_}
 use Rattle.wide.specs.Numbers.{value}
 use Rattle.wide.specs.Signs.{amount}
-use Rattle.wide.proofs.SignLaws.{holds-as}
+use Rattle.wide.proofs.SignLaws.{holds-as, signed}
 use native.Mathlib.Omega.{arith}
 use borrow.Author.Needs.{needs}
 use Rattle.units.proofs.net_carbon.Statement.{statement}
@@ -19,7 +19,8 @@ minus-requires c κs = search needs
 returns : tie.Need-returns
 returns c =
     let e : value (c .before .times .result) ≡ 100 * value (c .before .before .args .e .0) = omega arith in
-    holds-as (c .minus .ensures) (ap (λ (n : ℕ). pos n -ℤ amount (c .before .before .args .o .0)) e)
+    let h = signed (holds-as (c .minus .ensures) (ap (λ (n : ℕ). pos n -ℤ amount (c .before .before .args .o .0)) e)) in
+    λ i. record { 0 = h i }
 
 pub net-carbon-spec : {M : Type 1} → statement M
 net-carbon-spec = tie.close (tie.spec times-requires minus-requires returns)

@@ -1,10 +1,11 @@
 -- The header where the fault has it, and what clashes. Assumes nothing.
 use mathlib.Core.Path.{refl}
 use mathlib.Core.List.{[], _∷_}
+use Rattle.phrases.specs.Ascii.{codes}
 use Rattle.phrases.specs.Lines.{numberLine, spaces}
 use Rattle.wording.specs.Wording.{headerLines}
-use Rattle.wording.specs.Words.{kindBeforeWord, kindNextWord, offsetWord, byteWord}
-use Rattle.wording.proofs.Texts.{as-text, more-text, one-text, two-text, plain-lines}
+use Rattle.phrases.proofs.LineTexts.{as-text, more-text, one-text, two-text}
+use Rattle.wording.proofs.Texts.{plain-lines}
 use native.Mathlib.Omega.{arith}
 use borrow.Author.Needs.{needs}
 use Rattle.wording.proofs.put_fault.Statement.{statement}
@@ -66,7 +67,7 @@ returns c =
     let f = h .before .before .before .f .given in
     let a = h .before .before .before .before .before .before .args in
     let k = f .0 .0 in (
-      rw (f .1) (more-text (headerLines (a .h)) (numberLine kindBeforeWord k ∷ []) (h .put-header .ensures .0) (as-text (one-text kindBeforeWord k refl) (w .put-one .ensures .0))),
+      rw (f .1) (more-text (headerLines (a .h)) (numberLine (codes "kind_before") k ∷ []) (h .put-header .ensures .0) (as-text (one-text (codes "kind_before") k refl) (w .put-one .ensures .0))),
       omega (arith, h .put-header .ensures .1, w .put-one .ensures .1),
     )
 
@@ -81,7 +82,7 @@ returns-2 c =
     let f = h .before .before .before .f2 .given in
     let a = h .before .before .before .before .before .before .args in
     let k = f .0 .0 in (
-      rw (f .1) (more-text (headerLines (a .h)) (numberLine kindNextWord k ∷ []) (h .put-header2 .ensures .0) (as-text (one-text kindNextWord k refl) (w .put-one2 .ensures .0))),
+      rw (f .1) (more-text (headerLines (a .h)) (numberLine (codes "kind_next") k ∷ []) (h .put-header2 .ensures .0) (as-text (one-text (codes "kind_next") k refl) (w .put-one2 .ensures .0))),
       omega (arith, h .put-header2 .ensures .1, w .put-one2 .ensures .1),
     )
 
@@ -93,7 +94,7 @@ unfolding spaces
 returns-3 c =
     let w = c .before .before in
     let f = w .before .before .before .before .f3 .given in
-    (rw (f .1) (as-text (two-text offsetWord byteWord _ _ refl) (w .put-two .ensures .0)), omega (arith, w .put-two .ensures .1))
+    (rw (f .1) (as-text (two-text (codes "offset") (codes "byte") _ _ refl) (w .put-two .ensures .0)), omega (arith, w .put-two .ensures .1))
 
 same-length-4 : tie.Need-same-length-4
 same-length-4 c = search needs

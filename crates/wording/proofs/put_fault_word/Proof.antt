@@ -1,12 +1,14 @@
--- Word by word. Assumes nothing.
-use Rattle.phrases.specs.Lines.{linesText}
+-- The word by its number, between its name and a line feed. Assumes nothing.
+use Rattle.decimal.proofs.DigitLaws.{written-more}
+use Rattle.phrases.proofs.LineTexts.{as-text}
+use Rattle.wording.proofs.Texts.{found-short, word-text}
 use native.Mathlib.Omega.{arith}
 use borrow.Author.Needs.{needs}
 use Rattle.wording.proofs.put_fault_word.Statement.{statement}
 use Rattle.wording.proofs.put_fault_word.Tie as tie
 
-enum-told : tie.Need-enum-told
-enum-told c = search needs
+fault-number-requires : tie.Need-fault-number-requires
+fault-number-requires c κs = search needs
 
 slice-aggregate-put : tie.Need-slice-aggregate-put
 slice-aggregate-put c = search needs
@@ -14,159 +16,47 @@ slice-aggregate-put c = search needs
 put-requires : tie.Need-put-requires
 put-requires c κs = search needs
 
-enum-told-2 : tie.Need-enum-told-2
-enum-told-2 c = search needs
+slice-aggregate-put-word : tie.Need-slice-aggregate-put-word
+slice-aggregate-put-word c = search needs
 
-slice-aggregate-put-2 : tie.Need-slice-aggregate-put-2
-slice-aggregate-put-2 c = search needs
+put-word-requires : tie.Need-put-word-requires
+put-word-requires c κs =
+    let p = c .before .before .before .before in
+    let n = p .before .before .before in
+    let s = n .before .before in
+    omega (arith, s .pre, found-short (s .args .f) _ (n .fault-number .ensures), p .put .ensures .place, p .put .kept .1 .1 .0)
 
-put-requires-2 : tie.Need-put-requires-2
-put-requires-2 c κs = search needs
-
-enum-told-3 : tie.Need-enum-told-3
-enum-told-3 c = search needs
-
-slice-aggregate-put-3 : tie.Need-slice-aggregate-put-3
-slice-aggregate-put-3 c = search needs
-
-put-requires-3 : tie.Need-put-requires-3
-put-requires-3 c κs = search needs
-
-enum-told-4 : tie.Need-enum-told-4
-enum-told-4 c = search needs
-
-slice-aggregate-put-4 : tie.Need-slice-aggregate-put-4
-slice-aggregate-put-4 c = search needs
-
-put-requires-4 : tie.Need-put-requires-4
-put-requires-4 c κs = search needs
-
-enum-told-5 : tie.Need-enum-told-5
-enum-told-5 c = search needs
-
-slice-aggregate-put-5 : tie.Need-slice-aggregate-put-5
-slice-aggregate-put-5 c = search needs
-
-put-requires-5 : tie.Need-put-requires-5
-put-requires-5 c κs = search needs
-
-enum-told-6 : tie.Need-enum-told-6
-enum-told-6 c = search needs
-
-slice-aggregate-put-6 : tie.Need-slice-aggregate-put-6
-slice-aggregate-put-6 c = search needs
-
-put-requires-6 : tie.Need-put-requires-6
-put-requires-6 c κs = search needs
-
-enum-told-7 : tie.Need-enum-told-7
-enum-told-7 c = search needs
-
-slice-aggregate-put-7 : tie.Need-slice-aggregate-put-7
-slice-aggregate-put-7 c = search needs
-
-put-requires-7 : tie.Need-put-requires-7
-put-requires-7 c κs = search needs
+put-byte-requires : tie.Need-put-byte-requires
+put-byte-requires c κs =
+    let w = c .before .before .before in
+    let p = w .before .before .before .before .before in
+    let n = p .before .before .before in
+    let s = n .before .before in
+    omega (arith, s .pre, found-short (s .args .f) _ (n .fault-number .ensures), p .put .ensures .place, p .put .kept .1 .1 .0, w .put-word .ensures .place, w .put-word .kept .1 .1 .0)
 
 same-length : tie.Need-same-length
 same-length c = search needs
 
 returns : tie.Need-returns
-unfolding linesText
 returns c =
-    let w = c .before .before in
-    (rw (w .before .before .before .enum-told .given .1) (w .put .ensures), omega (arith, w .put .ensures .place))
-
-same-length-2 : tie.Need-same-length-2
-same-length-2 c = search needs
-
-returns-2 : tie.Need-returns-2
-unfolding linesText
-returns-2 c =
-    let w = c .before .before in
-    (rw (w .before .before .before .enum-told2 .given .1) (w .put2 .ensures), omega (arith, w .put2 .ensures .place))
-
-same-length-3 : tie.Need-same-length-3
-same-length-3 c = search needs
-
-returns-3 : tie.Need-returns-3
-unfolding linesText
-returns-3 c =
-    let w = c .before .before in
-    (rw (w .before .before .before .enum-told3 .given .1) (w .put3 .ensures), omega (arith, w .put3 .ensures .place))
-
-same-length-4 : tie.Need-same-length-4
-same-length-4 c = search needs
-
-returns-4 : tie.Need-returns-4
-unfolding linesText
-returns-4 c =
-    let w = c .before .before in
-    (rw (w .before .before .before .enum-told4 .given .1) (w .put4 .ensures), omega (arith, w .put4 .ensures .place))
-
-same-length-5 : tie.Need-same-length-5
-same-length-5 c = search needs
-
-returns-5 : tie.Need-returns-5
-unfolding linesText
-returns-5 c =
-    let w = c .before .before in
-    (rw (w .before .before .before .enum-told5 .given .1) (w .put5 .ensures), omega (arith, w .put5 .ensures .place))
-
-same-length-6 : tie.Need-same-length-6
-same-length-6 c = search needs
-
-returns-6 : tie.Need-returns-6
-unfolding linesText
-returns-6 c =
-    let w = c .before .before in
-    (rw (w .before .before .before .enum-told6 .given .1) (w .put6 .ensures), omega (arith, w .put6 .ensures .place))
-
-same-length-7 : tie.Need-same-length-7
-same-length-7 c = search needs
-
-returns-7 : tie.Need-returns-7
-unfolding linesText
-returns-7 c =
-    let w = c .before .before in
-    (rw (w .before .before .before .enum-told7 .given .1) (w .put7 .ensures), omega (arith, w .put7 .ensures .place))
+    let b = c .before .before in
+    let w = b .before .before .before .before in
+    let p = w .before .before .before .before .before in
+    let n = p .before .before .before in
+    let f = n .before .before .args .f in (
+      as-text (word-text f _ (n .fault-number .ensures)) (written-more (written-more (p .put .ensures) (w .put-word .ensures)) (b .put-byte .ensures)),
+      omega (arith, found-short f _ (n .fault-number .ensures), p .put .ensures .place, w .put-word .ensures .place, b .put-byte .ensures .place),
+    )
 
 pub put-fault-word-spec : {M : Type 1} → statement M
 put-fault-word-spec =
     tie.close
     (tie.spec
-    enum-told
+    fault-number-requires
     slice-aggregate-put
     put-requires
-    enum-told-2
-    slice-aggregate-put-2
-    put-requires-2
-    enum-told-3
-    slice-aggregate-put-3
-    put-requires-3
-    enum-told-4
-    slice-aggregate-put-4
-    put-requires-4
-    enum-told-5
-    slice-aggregate-put-5
-    put-requires-5
-    enum-told-6
-    slice-aggregate-put-6
-    put-requires-6
-    enum-told-7
-    slice-aggregate-put-7
-    put-requires-7
+    slice-aggregate-put-word
+    put-word-requires
+    put-byte-requires
     same-length
-    returns
-    same-length-2
-    returns-2
-    same-length-3
-    returns-3
-    same-length-4
-    returns-4
-    same-length-5
-    returns-5
-    same-length-6
-    returns-6
-    same-length-7
-    returns-7)
+    returns)

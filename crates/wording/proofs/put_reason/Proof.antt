@@ -1,10 +1,11 @@
 -- Number by number. Assumes nothing.
 use mathlib.Core.Path.{refl}
 use mathlib.Core.List.{[], _∷_}
+use Rattle.phrases.specs.Ascii.{codes}
 use Rattle.phrases.specs.Lines.{spaces}
 use Rattle.wording.specs.Wording.{headerLines, faultLine, faultLines, dueLines}
-use Rattle.wording.specs.Words.{lengthWord, storedWord, computedWord, idBeforeWord, idWord}
-use Rattle.wording.proofs.Texts.{as-text, more-text, one-text, two-text}
+use Rattle.phrases.proofs.LineTexts.{as-text, more-text, one-text, two-text}
+use Rattle.wording.proofs.Texts.{row-lines}
 use native.Mathlib.Omega.{arith}
 use borrow.Author.Needs.{needs}
 use Rattle.wording.proofs.put_reason.Statement.{statement}
@@ -48,27 +49,8 @@ put-fault-word-requires c κs = search needs
 put-fault-requires : tie.Need-put-fault-requires
 put-fault-requires c κs = search needs
 
-enum-known-reason-5 : tie.Need-enum-known-reason-5
-enum-known-reason-5 c = search needs
-
-slice-aggregate-put-two-2 : tie.Need-slice-aggregate-put-two-2
-slice-aggregate-put-two-2 c = search needs
-
-put-two-requires-2 : tie.Need-put-two-requires-2
-unfolding spaces
-put-two-requires-2 c κs = (search needs, omega (arith, c .before .before .before .before .before .before .pre))
-
-enum-known-reason-6 : tie.Need-enum-known-reason-6
-enum-known-reason-6 c = search needs
-
-put-limit-requires : tie.Need-put-limit-requires
-put-limit-requires c κs = search needs
-
-enum-known-reason-7 : tie.Need-enum-known-reason-7
-enum-known-reason-7 c = search needs
-
-put-fractions-requires : tie.Need-put-fractions-requires
-put-fractions-requires c κs = search needs
+put-row-requires : tie.Need-put-row-requires
+put-row-requires c κs = search needs
 
 same-length : tie.Need-same-length
 same-length c = search needs
@@ -78,7 +60,7 @@ unfolding spaces
 returns c =
     let w = c .before .before in
     let r = w .before .before .before .before .reason .given in
-    (rw (r .1) (as-text (one-text lengthWord (r .0 .0) refl) (w .put-one .ensures .0)), omega (arith, w .put-one .ensures .1))
+    (rw (r .1) (as-text (one-text (codes "length") (r .0 .0) refl) (w .put-one .ensures .0)), omega (arith, w .put-one .ensures .1))
 
 same-length-2 : tie.Need-same-length-2
 same-length-2 c = search needs
@@ -88,7 +70,7 @@ unfolding spaces
 returns-2 c =
     let w = c .before .before in
     let r = w .before .before .before .before .reason2 .given in
-    (rw (r .1) (as-text (two-text storedWord computedWord (r .0 .1 .0) (r .0 .1 .1 .0) refl) (w .put-two .ensures .0)), omega (arith, w .put-two .ensures .1))
+    (rw (r .1) (as-text (two-text (codes "stored") (codes "computed") (r .0 .1 .0) (r .0 .1 .1 .0) refl) (w .put-two .ensures .0)), omega (arith, w .put-two .ensures .1))
 
 same-length-3 : tie.Need-same-length-3
 same-length-3 c = search needs
@@ -114,29 +96,10 @@ same-length-5 : tie.Need-same-length-5
 same-length-5 c = search needs
 
 returns-5 : tie.Need-returns-5
-unfolding spaces
 returns-5 c =
     let w = c .before .before in
-    let r = w .before .before .before .before .reason5 .given in
-    (rw (r .1) (as-text (two-text idBeforeWord idWord (r .0 .1 .0) (r .0 .1 .1 .0) refl) (w .put-two2 .ensures .0)), omega (arith, w .put-two2 .ensures .1))
-
-same-length-6 : tie.Need-same-length-6
-same-length-6 c = search needs
-
-returns-6 : tie.Need-returns-6
-returns-6 c =
-    let w = c .before .before in
-    let r = w .before .before .before .reason6 .given in
-    (rw (r .1) (w .put-limit .ensures .0), omega (arith, w .put-limit .ensures .1))
-
-same-length-7 : tie.Need-same-length-7
-same-length-7 c = search needs
-
-returns-7 : tie.Need-returns-7
-returns-7 c =
-    let w = c .before .before in
-    let r = w .before .before .before .reason7 .given in
-    (rw (r .1) (w .put-fractions .ensures .0), omega (arith, w .put-fractions .ensures .1))
+    let m = w .before .before in
+    (rw (← row-lines (m .before .before .args .reason) (m .match .keys5)) (w .put-row .ensures .0), omega (arith, w .put-row .ensures .1))
 
 pub put-reason-spec : {M : Type 1} → statement M
 put-reason-spec =
@@ -154,13 +117,7 @@ put-reason-spec =
     enum-known-reason-4
     put-fault-word-requires
     put-fault-requires
-    enum-known-reason-5
-    slice-aggregate-put-two-2
-    put-two-requires-2
-    enum-known-reason-6
-    put-limit-requires
-    enum-known-reason-7
-    put-fractions-requires
+    put-row-requires
     same-length
     returns
     same-length-2
@@ -170,8 +127,4 @@ put-reason-spec =
     same-length-4
     returns-4
     same-length-5
-    returns-5
-    same-length-6
-    returns-6
-    same-length-7
-    returns-7)
+    returns-5)

@@ -6,8 +6,7 @@ use denote.Triple.Spec.{tripleOf}
 use denote.Triple.Table.{entered, cited}
 use denote.Struct.Laws as LL
 use Rattle.held.proofs.Thin.{thin}
-use Rattle.worksheets.specs.Answers.{figuresHeld}
-use Rattle.worksheets.specs.Sheets.{figuresOf}
+use Rattle.worksheets.specs.Sheets.{byKind, figuresOf}
 use Rattle.worksheets.proofs.sheets.Figures as S
 use Rattle.worksheets.proofs.sheets.Figures.Laws as S′
 use Rattle.worksheets.proofs.work_out as callee
@@ -23,6 +22,6 @@ unfolding code.routine tablesOf
 figures-of-spec 𝓤 H 𝓜 𝓖 𝓡 =
     entered 𝓤 H (tripleOf 𝓤 H (𝓖 .A) own.signature (own.spec 𝓤 H (𝓖 .A) (𝓜 .mem) (𝓡 .run)))
     (tables 𝓤 H 𝓜 𝓡 code.env .C) (tables 𝓤 H 𝓜 𝓡 code.env .Λ) #own code.function (code.unfolded 𝓤 H 𝓜 𝓡)
-    (thin S.the-row S′.mir (λ r u is. LL.lawful S.the-type S′.the-laws 𝓤 H (𝓖 .A) (givenOf 𝓤 H 𝓜 𝓖) .typed r _ is .0) (λ s n r. r ≡ figuresHeld (figuresOf (now s))) callee-def.name
+    (thin S.the-row S′.mir (λ r u is. LL.lawful S.the-type S′.the-laws 𝓤 H (𝓖 .A) (givenOf 𝓤 H 𝓜 𝓖) .typed r _ is .0) (λ s n r. r ≡ figuresOf (byKind (now s))) callee-def.name
     𝓤 H (𝓖 .A) (own.clauses 𝓤 H (𝓖 .A) (𝓜 .mem) (𝓡 .run)) refl (givenOf 𝓤 H 𝓜 𝓖) (tablesOf 𝓤 H 𝓜 (tables 𝓤 H 𝓜 𝓡 code.env))
     (cited 𝓤 H (tripleOf 𝓤 H (𝓖 .A) callee.signature (callee.spec 𝓤 H (𝓖 .A) (𝓜 .mem) (𝓡 .run))) 𝓜 𝓡 code.env callee-def.name callee-def.routine code.calls-worksheets·work-out (callee-thm.met 𝓤 H 𝓜 𝓖 𝓡)))

@@ -5,7 +5,7 @@ use lib.ListN.{length}
 use lib.Seq.{take-length}
 use denote.Ref.{now}
 use borrow.Author.Tests.{eq-eqb, ne-eqb}
-use Rattle.wording.proofs.Bounds.{filled-short}
+use Rattle.phrases.proofs.Bounds.{plain-short, plain-written}
 use native.Mathlib.Omega.{arith}
 use borrow.Author.Needs.{needs}
 use Rattle.explained.proofs.text.put_weight.Statement.{statement}
@@ -26,13 +26,13 @@ returns c =
 cast-t11 : tie.Need-cast-t11
 cast-t11 c = search needs
 
-slice-aggregate-put-numbers : tie.Need-slice-aggregate-put-numbers
-slice-aggregate-put-numbers c = search needs
+slice-aggregate-put-lines : tie.Need-slice-aggregate-put-lines
+slice-aggregate-put-lines c = search needs
 
-put-numbers-requires : tie.Need-put-numbers-requires
-put-numbers-requires c κs =
+put-lines-requires : tie.Need-put-lines-requires
+put-lines-requires c κs =
     let s = c .before .before .before .before .before .before .before .before in
-    (s .pre .0, omega (arith, s .pre, filled-short (now (s .args .names)) (s .args .w .id ∷ s .args .w .part ∷ []) (search needs, (search needs, tt))))
+    (omega (arith, s .pre .0), omega (arith, s .pre, plain-short (now (s .args .names)) (s .args .w .id ∷ s .args .w .part ∷ []) (search needs, (search needs, tt))))
 
 same-length-2 : tie.Need-same-length-2
 same-length-2 c = search needs
@@ -41,10 +41,8 @@ returns-2 : tie.Need-returns-2
 returns-2 c =
     let w = c .before .before in
     let i = w .before .before .before .before in
-    let s = i .before .before .before .before .before in (
-      rw (ne-eqb _ 0 (i .if1 .left)) (w .put-numbers .ensures),
-      omega (arith, s .pre, w .put-numbers .ensures .place, filled-short (now (s .args .names)) (s .args .w .id ∷ s .args .w .part ∷ []) (search needs, (search needs, tt))),
-    )
+    let s = i .before .before .before .before .before in
+    rw (ne-eqb _ 0 (i .if1 .left)) (plain-written (now (s .args .names)) (s .args .w .id ∷ s .args .w .part ∷ []) (search needs, (search needs, tt)) 90 (omega (arith, s .pre)) (w .put-lines .ensures))
 
 pub put-weight-spec : {M : Type 1} → statement M
 put-weight-spec =
@@ -54,7 +52,7 @@ put-weight-spec =
     same-length
     returns
     cast-t11
-    slice-aggregate-put-numbers
-    put-numbers-requires
+    slice-aggregate-put-lines
+    put-lines-requires
     same-length-2
     returns-2)

@@ -2,7 +2,7 @@
 use mathlib.Core.Path.{refl}
 use mathlib.Core.List.{_++_}
 use Rattle.phrases.specs.Lines.{spaces}
-use Rattle.wording.proofs.Texts.{as-text, more-text}
+use Rattle.phrases.proofs.LineTexts.{as-text, more-text}
 use Rattle.explained.specs.Explained.{onsiteName, offsiteName, decayName, weightLines}
 use Rattle.explained.proofs.Texts.{weight-text}
 use native.Mathlib.Omega.{arith}

@@ -2,6 +2,7 @@
 use mathlib.Core.Path.{_≡_, sym, ap, _∙_}
 use mathlib.Core.List.{_++_}
 use denote.Ref.{now}
+use Rattle.standing.proofs.Accepted.{formed}
 use Rattle.form.specs.Verdict.{verdictOf}
 use Rattle.form.specs.declared.Verdict.the-variants.{Accepted, Refused}
 use Rattle.decimal.proofs.DigitLaws.{written-more}
@@ -9,7 +10,7 @@ use Rattle.heaviest.specs.declared.Weights.{Weights}
 use Rattle.phrases.specs.Lines.{refusedLine, linesText}
 use Rattle.reasons.specs.declared.Reason.{Reason}
 use Rattle.wording.specs.Wording.{valueLines}
-use Rattle.wording.proofs.Texts.{as-text}
+use Rattle.phrases.proofs.LineTexts.{as-text}
 use Rattle.explained.specs.Explained.{weightsLines, explainedText}
 use Rattle.explained.proofs.Laws.{accepted-explained, refused-text, refused-short}
 use native.Mathlib.Omega.{arith}
@@ -24,7 +25,7 @@ enum-known-c : tie.Need-enum-known-c
 enum-known-c c = search needs
 
 weigh-rows-requires : tie.Need-weigh-rows-requires
-weigh-rows-requires c κs = sym (c .before .before .before .judge .ensures) ∙ c .before .c .given .1
+weigh-rows-requires c κs = formed _ _ (sym (c .before .before .before .judge .ensures) ∙ c .before .c .given .1)
 
 put-weights-requires : tie.Need-put-weights-requires
 put-weights-requires c κs = search needs

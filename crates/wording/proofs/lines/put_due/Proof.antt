@@ -1,25 +1,25 @@
 -- `wording::lines::put_due` meets its contract. Assumes nothing.
-use mathlib.Core.Path.{refl}
 use mathlib.Core.List.{[], _∷_}
 use Rattle.phrases.specs.Lines.{spaces}
-use Rattle.wording.proofs.Bounds.{fits}
-use Rattle.wording.proofs.Texts.{dueNames, as-text, due-text}
+use Rattle.phrases.proofs.LineTexts.{as-text}
+use Rattle.phrases.proofs.Bounds.{plain-short, plain-written}
+use Rattle.wording.proofs.Texts.{dueNames, due-text}
 use native.Mathlib.Omega.{arith}
 use borrow.Author.Needs.{needs}
 use Rattle.wording.proofs.lines.put_due.Statement.{statement}
 use Rattle.wording.proofs.lines.put_due.Tie as tie
 
-slice-aggregate-put-numbers : tie.Need-slice-aggregate-put-numbers
-slice-aggregate-put-numbers c = search needs
+slice-aggregate-put-lines : tie.Need-slice-aggregate-put-lines
+slice-aggregate-put-lines c = search needs
 
-slice-aggregate-put-numbers-2 : tie.Need-slice-aggregate-put-numbers-2
-slice-aggregate-put-numbers-2 c = search needs
+slice-aggregate-put-lines-2 : tie.Need-slice-aggregate-put-lines-2
+slice-aggregate-put-lines-2 c = search needs
 
-put-numbers-requires : tie.Need-put-numbers-requires
+put-lines-requires : tie.Need-put-lines-requires
 unfolding spaces
-put-numbers-requires c κs =
+put-lines-requires c κs =
     let s = c .before .before .before .before in
-    (search needs, omega (arith, s .pre, fits dueNames (s .args .number ∷ s .args .blocks ∷ s .args .edition ∷ []) 110 (search needs, (search needs, (search needs, tt))) refl))
+    (omega arith, omega (arith, s .pre, plain-short dueNames (s .args .number ∷ s .args .blocks ∷ s .args .edition ∷ []) (search needs, (search needs, (search needs, tt)))))
 
 same-length : tie.Need-same-length
 same-length c = search needs
@@ -29,14 +29,15 @@ unfolding spaces
 returns c =
     let w = c .before .before in
     let s = w .before .before .before .before .before in
-    (as-text (due-text (s .args .number) (s .args .blocks) (s .args .edition)) (w .put-numbers .ensures), omega (arith, s .pre, w .put-numbers .ensures .place, fits dueNames (s .args .number ∷ s .args .blocks ∷ s .args .edition ∷ []) 110 (search needs, (search needs, (search needs, tt))) refl))
+    let v = plain-written dueNames (s .args .number ∷ s .args .blocks ∷ s .args .edition ∷ []) (search needs, (search needs, (search needs, tt))) 110 (omega arith) (w .put-lines .ensures) in
+    (as-text (due-text (s .args .number) (s .args .blocks) (s .args .edition)) (v .0), v .1)
 
 pub put-due-spec : {M : Type 1} → statement M
 put-due-spec =
     tie.close
     (tie.spec
-    slice-aggregate-put-numbers
-    slice-aggregate-put-numbers-2
-    put-numbers-requires
+    slice-aggregate-put-lines
+    slice-aggregate-put-lines-2
+    put-lines-requires
     same-length
     returns)

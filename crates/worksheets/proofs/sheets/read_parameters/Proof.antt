@@ -3,8 +3,8 @@ use mathlib.Core.Path.{ap, sym, _∙_}
 use denote.Ref.{now}
 use lib.Dec.{lit<}
 use Rattle.form.specs.Layout.{parametersKind}
-use Rattle.form.proofs.Accepted.{few-counted}
-use Rattle.totals.proofs.Accepted.{Stands, parameter-row}
+use Rattle.standing.proofs.Accepted.{few-counted}
+use Rattle.standing.proofs.Rows.{Stands, parameter-row}
 use Rattle.worksheets.specs.Sheets.{parametersOf}
 use native.Mathlib.Omega.{arith}
 use borrow.Author.Needs.{needs}

@@ -1,0 +1,82 @@
+-- The functions themselves: each entry point's code, as the prover has it, meets the contract that its source states.
+-- What a contract says is the matter of Answers; that the compiled code does the same is outside the logic (docs/TRUST.md).
+use Rattle.judge.proofs.judge as judge
+use Rattle.rows.proofs.read as read
+use Rattle.rows.proofs.write as write
+use Rattle.worksheets.proofs.figures as figures
+use Rattle.doubles.proofs.subtotals as subtotals
+use Rattle.heaviest.proofs.heaviest as heaviest
+use Rattle.report.proofs.lines as lines
+use Rattle.table52.proofs.look_up as look-up
+use Rattle.explained.proofs.explain as explain
+use Rattle.explained.proofs.explain_lines as explain-lines
+use Rattle.door.proofs.niloferq_judge as c-judge
+use Rattle.door.proofs.niloferq_subtotal as c-subtotal
+use Rattle.door.proofs.niloferq_heaviest as c-heaviest
+use Rattle.door.proofs.niloferq_lines as c-lines
+use Rattle.door.proofs.niloferq_explain as c-explain
+use Rattle.door.proofs.niloferq_figures as c-figures
+use Rattle.door.proofs.niloferq_read as c-read
+use Rattle.door.proofs.niloferq_write as c-write
+use Rattle.door.proofs.niloferq_defaults as c-defaults
+use Rattle.door.proofs.niloferq_table52 as c-table
+
+pub judge-meets : {M : Type 1} → judge.Statement.statement M
+judge-meets = judge.Met.met
+
+pub read-meets : {M : Type 1} → read.Statement.statement M
+read-meets = read.Met.met
+
+pub write-meets : {M : Type 1} → write.Statement.statement M
+write-meets = write.Met.met
+
+pub figures-meets : {M : Type 1} → figures.Statement.statement M
+figures-meets = figures.Met.met
+
+pub subtotals-meets : {M : Type 1} → subtotals.Statement.statement M
+subtotals-meets = subtotals.Met.met
+
+pub heaviest-meets : {M : Type 1} → heaviest.Statement.statement M
+heaviest-meets = heaviest.Met.met
+
+pub lines-meets : {M : Type 1} → lines.Statement.statement M
+lines-meets = lines.Met.met
+
+pub look-up-meets : {M : Type 1} → look-up.Statement.statement M
+look-up-meets = look-up.Met.met
+
+pub explain-meets : {M : Type 1} → explain.Statement.statement M
+explain-meets = explain.Met.met
+
+pub explain-lines-meets : {M : Type 1} → explain-lines.Statement.statement M
+explain-lines-meets = explain-lines.Met.met
+
+pub c-judge-meets : {M : Type 1} → c-judge.Statement.statement M
+c-judge-meets = c-judge.Met.met
+
+pub c-subtotal-meets : {M : Type 1} → c-subtotal.Statement.statement M
+c-subtotal-meets = c-subtotal.Met.met
+
+pub c-heaviest-meets : {M : Type 1} → c-heaviest.Statement.statement M
+c-heaviest-meets = c-heaviest.Met.met
+
+pub c-lines-meets : {M : Type 1} → c-lines.Statement.statement M
+c-lines-meets = c-lines.Met.met
+
+pub c-explain-meets : {M : Type 1} → c-explain.Statement.statement M
+c-explain-meets = c-explain.Met.met
+
+pub c-figures-meets : {M : Type 1} → c-figures.Statement.statement M
+c-figures-meets = c-figures.Met.met
+
+pub c-read-meets : {M : Type 1} → c-read.Statement.statement M
+c-read-meets = c-read.Met.met
+
+pub c-write-meets : {M : Type 1} → c-write.Statement.statement M
+c-write-meets = c-write.Met.met
+
+pub c-defaults-meets : {M : Type 1} → c-defaults.Statement.statement M
+c-defaults-meets = c-defaults.Met.met
+
+pub c-table-meets : {M : Type 1} → c-table.Statement.statement M
+c-table-meets = c-table.Met.met

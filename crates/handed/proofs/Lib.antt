@@ -1,0 +1,3 @@
+mod Reading
+mod Writing
+pub mod Few

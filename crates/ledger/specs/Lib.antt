@@ -1,0 +1,3 @@
+-- What adds up over returns, and what is derived from it. Read in this order.
+pub mod Ledger
+pub mod Derived

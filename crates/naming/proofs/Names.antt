@@ -1,0 +1,65 @@
+-- The names of fields, as words of one text. Assumes nothing.
+--     word-fits      word i of a kind's names has at most 30 bytes
+--     word-named     where it was written, the name of field i was; no-name, another number has none
+use Prim.Native.Nat.{ℕ, zero, suc, _≤_}
+use mathlib.Core.Path.{_≡_, refl, sym, ap, subst}
+use mathlib.Core.Bool.{Bool, true, _&&_}
+use mathlib.Core.List.{List, [], _∷_, flatMap}
+use native.Mathlib.Omega.{arith}
+use borrow.Author.Tests.{leb-true}
+use lib.Dec.{leb}
+use lib.ListN.{length, getD}
+use Rattle.form.proofs.Tests.{and-true}
+use Rattle.decimal.specs.Digits.{WrittenAt}
+use Rattle.phrases.specs.Lines.{spaces, WrittenIn}
+use Rattle.phrases.specs.Words.{spacedOut, wordAt}
+use Rattle.phrases.proofs.LineTexts.{as-text}
+use Rattle.phrases.proofs.WordLaws.{word-is}
+use Rattle.naming.specs.Names.{fieldNames, namesOf, fieldName}
+
+name-word : (k i : ℕ) → spaces (flatMap (λ (w : List ℕ). w) (namesOf k)) ≡ 0 → wordAt i (spacedOut (namesOf k)) ≡ fieldName k i
+name-word k i e = word-is (namesOf k) i e
+
+allShort : List (List ℕ) → Bool
+allShort [] = true
+allShort (w ∷ ws) = leb (length w) 30 && allShort ws
+
+short-in : (ws : List (List ℕ)) → allShort ws ≡ true → (i : ℕ) → length (getD ws i []) ≤ 30
+unfolding allShort
+short-in [] e i = omega arith
+short-in (w ∷ ws) e zero = leb-true (length w) 30 (and-true (leb (length w) 30) (allShort ws) e .0)
+short-in (w ∷ ws) e (suc i) = short-in ws (and-true (leb (length w) 30) (allShort ws) e .1) i
+
+allNames : List (List (List ℕ)) → Bool
+allNames [] = true
+allNames (n ∷ ns) = allShort n && allNames ns
+
+short-names : (ns : List (List (List ℕ))) → allNames ns ≡ true → (k i : ℕ) → length (getD (getD ns k []) i []) ≤ 30
+unfolding allNames
+short-names [] e k i = omega arith
+short-names (n ∷ ns) e zero i = short-in n (and-true (allShort n) (allNames ns) e .0) i
+short-names (n ∷ ns) e (suc k) i = short-names ns (and-true (allShort n) (allNames ns) e .1) k i
+
+short-name : (k i : ℕ) → length (fieldName k i) ≤ 30
+unfolding allNames allShort
+short-name k i = short-names ([] ∷ fieldNames) refl k i
+
+-- the names of kind k, none of which has a space in it
+pub word-fits : (k i : ℕ) → spaces (flatMap (λ (w : List ℕ). w) (namesOf k)) ≡ 0 → length (wordAt i (spacedOut (namesOf k))) ≤ 30
+word-fits k i e = omega (arith, short-name k i, ap length (name-word k i e))
+
+pub word-named : {d d′ : List ℕ} {at next : ℕ} (k kind : ℕ) → kind ≡ k → (i : ℕ) → spaces (flatMap (λ (w : List ℕ). w) (namesOf k)) ≡ 0
+    → WrittenAt (wordAt i (spacedOut (namesOf k))) d d′ at next → WrittenIn 30 (fieldName kind i) d d′ at next
+word-named {d} {d′} {at} {next} k kind q i e w =
+    subst (λ (j : ℕ). WrittenIn 30 (fieldName j i) d d′ at next) (sym q) (as-text (name-word k i e) w, omega (arith, w .place, word-fits k i e))
+
+-- another number is no kind
+pub no-name : (k i : ℕ) → (k ≡ 1 → ⊥) → (k ≡ 2 → ⊥) → (k ≡ 3 → ⊥) → (k ≡ 4 → ⊥) → (k ≡ 5 → ⊥) → (k ≡ 6 → ⊥) → fieldName k i ≡ []
+no-name zero i a b c d e f = refl
+no-name (suc zero) i a b c d e f = absurd (a refl)
+no-name (suc (suc zero)) i a b c d e f = absurd (b refl)
+no-name (suc (suc (suc zero))) i a b c d e f = absurd (c refl)
+no-name (suc (suc (suc (suc zero)))) i a b c d e f = absurd (d refl)
+no-name (suc (suc (suc (suc (suc zero))))) i a b c d e f = absurd (e refl)
+no-name (suc (suc (suc (suc (suc (suc zero)))))) i a b c d e f = absurd (f refl)
+no-name (suc (suc (suc (suc (suc (suc (suc k))))))) i a b c d e f = refl

@@ -1,0 +1,85 @@
+-- Number by number. Assumes nothing.
+use mathlib.Core.Path.{refl, sym}
+use native.Mathlib.Nat.{add-zero}
+use Rattle.phrases.specs.Ascii.{codes}
+use Rattle.phrases.specs.Lines.{spaces, linesText}
+use Rattle.phrases.proofs.LineTexts.{as-text, two-text}
+use Rattle.naming.proofs.Texts.{no-lines}
+use native.Mathlib.Omega.{arith}
+use borrow.Author.Needs.{needs}
+use Rattle.naming.proofs.put_row.Statement.{statement}
+use Rattle.naming.proofs.put_row.Tie as tie
+
+enum-known-reason : tie.Need-enum-known-reason
+enum-known-reason c = search needs
+
+slice-aggregate-put-two : tie.Need-slice-aggregate-put-two
+slice-aggregate-put-two c = search needs
+
+put-two-requires : tie.Need-put-two-requires
+unfolding spaces
+put-two-requires c κs =
+    (search needs, omega (arith, c .before .before .before .before .before .before .pre))
+
+enum-known-reason-2 : tie.Need-enum-known-reason-2
+enum-known-reason-2 c = search needs
+
+put-limit-requires : tie.Need-put-limit-requires
+put-limit-requires c κs = search needs
+
+enum-known-reason-3 : tie.Need-enum-known-reason-3
+enum-known-reason-3 c = search needs
+
+put-fractions-requires : tie.Need-put-fractions-requires
+put-fractions-requires c κs = search needs
+
+same-length : tie.Need-same-length
+same-length c = search needs
+
+returns : tie.Need-returns
+unfolding spaces
+returns c =
+    let w = c .before .before in
+    let r = w .before .before .before .before .reason .given in
+    (rw (r .1) (as-text (two-text (codes "id_before") (codes "id") (r .0 .1 .0) (r .0 .1 .1 .0) refl) (w .put-two .ensures .0)), omega (arith, w .put-two .ensures .1))
+
+same-length-2 : tie.Need-same-length-2
+same-length-2 c = search needs
+
+returns-2 : tie.Need-returns-2
+returns-2 c =
+    let w = c .before .before in
+    (rw (w .before .before .before .reason2 .given .1) (w .put-limit .ensures .0), omega (arith, w .put-limit .ensures .1))
+
+same-length-3 : tie.Need-same-length-3
+same-length-3 c = search needs
+
+returns-3 : tie.Need-returns-3
+returns-3 c =
+    let w = c .before .before in
+    (rw (w .before .before .before .reason3 .given .1) (w .put-fractions .ensures .0), omega (arith, w .put-fractions .ensures .1))
+
+returns-4 : tie.Need-returns-4
+unfolding linesText
+returns-4 c =
+    let a = c .before .before .args in
+    (rw (no-lines (a .reason) (c .match .keys4)) (record { room = refl; place = sym (add-zero (a .at)) }), omega arith)
+
+pub put-row-spec : {M : Type 1} → statement M
+put-row-spec =
+    tie.close
+    (tie.spec
+    enum-known-reason
+    slice-aggregate-put-two
+    put-two-requires
+    enum-known-reason-2
+    put-limit-requires
+    enum-known-reason-3
+    put-fractions-requires
+    same-length
+    returns
+    same-length-2
+    returns-2
+    same-length-3
+    returns-3
+    returns-4)

@@ -1,0 +1,1 @@
+// No function: proofs/ has that the doubles of `doubles` are near the exact subtotals, as specs/ says it.

@@ -1,0 +1,1 @@
+// Theorems only: where the rows of a return stand.
