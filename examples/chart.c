@@ -1,19 +1,13 @@
 /* Draws the three carbon subtotals of a return as bars, an SVG picture.
- *     chart FILE [PICTURE]    to standard output, or to the file PICTURE
- *     chart --check FILE      the comparison only, a line per subtotal: name, exact, double, distance, allowed
+ *     chart [--title TEXT] FILE [PICTURE]    to standard output, or to the file PICTURE; TEXT is a line above the bars
+ *     chart --check FILE                     the comparison only, a line per subtotal: name, exact, double, distance, allowed
  * Before it draws, each double is held against the exact total, both as whole numbers of 10^-12 kt C. Status 0: done.
- * 1: the return is refused, or a double is off; nothing is drawn. 2: a file can't be read or written, or wrong words. */
+ * 1: the return is refused, a double is off, or a file can't be read or written; nothing is drawn. 2: wrong use. */
 #define _POSIX_C_SOURCE 200809L
+#include "files.h"
 #include "niloferq.h"
-#include <errno.h>
 #include <inttypes.h>
 #include <signal.h>
-#include <stdbool.h>
-#include <stdio.h>
-#include <stdlib.h>
-#include <string.h>
-#include <sys/stat.h>
-#include <unistd.h>
 
 __extension__ typedef unsigned __int128 whole;
 
@@ -173,11 +167,10 @@ static size_t character(const unsigned char *p) {
     return bad ? 0 : length;
 }
 
-/* The last part of the path, fit for XML, at most 60 characters of it so that it stays inside the picture. */
-static void put_name(FILE *out, const char *path) {
-    const char *slash = strrchr(path, '/');
-    const unsigned char *p = (const unsigned char *)(slash ? slash + 1 : path);
-    for (int i = 0; *p && i < 60; i++) {
+/* A text fit for XML, at most so many characters of it so that it stays inside the picture. */
+static void put_text(FILE *out, const char *text, int most) {
+    const unsigned char *p = (const unsigned char *)text;
+    for (int i = 0; *p && i < most; i++) {
         size_t length = character(p);
         if (*p == '&' || *p == '<' || *p == '>') fprintf(out, "&#%d;", *p);
         else if (length) fwrite(p, 1, length, out);
@@ -187,8 +180,14 @@ static void put_name(FILE *out, const char *path) {
     if (*p) fputs("...", out);
 }
 
+/* The last part of the path. */
+static void put_name(FILE *out, const char *path) {
+    const char *slash = strrchr(path, '/');
+    put_text(out, strcmp(path, "-") == 0 ? "standard input" : slash ? slash + 1 : path, 60);
+}
+
 /* Where things stand, in the picture's units. */
-enum { WIDTH = 980, HEIGHT = 470, LEFT = 180, SPAN = 440, RIGHT = 940, TOP = 150, BAND = 70, BOTTOM = TOP + 3 * BAND };
+enum { WIDTH = 980, HEIGHT = 480, LEFT = 180, SPAN = 440, RIGHT = 940, TOP = 150, BAND = 70, BOTTOM = TOP + 3 * BAND };
 #define END "text-anchor=\"end\" "
 #define LARGE "font-size=\"16\" "
 #define SMALL "font-size=\"12\" fill=\"#555\" "
@@ -196,6 +195,12 @@ enum { WIDTH = 980, HEIGHT = 470, LEFT = 180, SPAN = 440, RIGHT = 940, TOP = 150
 
 static void say(FILE *out, int x, int y, const char *look, const char *words) {
     fprintf(out, "<text x=\"%d\" y=\"%d\" %s>%s</text>\n", x, y, look, words);
+}
+
+/* An exact total at the right: in kt C, and below that, small, as the whole number that `sheets` prints. */
+static void put_total(FILE *out, int y, const char *look, whole exact) {
+    fprintf(out, "<text x=\"%d\" y=\"%d\" " END "%s>%s kt C</text>\n", RIGHT, y, look, number(exact, 12, true).s);
+    fprintf(out, "<text x=\"%d\" y=\"%d\" " END SMALL ">%s x 10" RAISED("-12") "kt C</tspan></text>\n", RIGHT, y + 17, number(exact, 0, true).s);
 }
 
 /* value as a length along the axis, in hundredths: below 2^70 * 2^16. */
@@ -218,11 +223,12 @@ static void draw_bar(FILE *out, int i, whole exact, whole value, whole top) {
         fprintf(out, "<rect x=\"%d\" y=\"%d\" width=\"%d\" height=\"20\" fill=\"#fff\"/>\n", LEFT + 6, middle - 10, thin ? 230 : 44);
         say(out, LEFT + 12, middle + 5, "fill=\"#555\"", thin ? "too small to be shown to scale" : "zero");
     }
-    say(out, RIGHT, middle - 1, END LARGE, number(exact, 0, true).s);
-    fprintf(out, "<text x=\"%d\" y=\"%d\" " END SMALL ">= %s kt C</text>\n</g>\n", RIGHT, middle + 16, number(exact, 12, true).s);
+    put_total(out, middle - 1, LARGE, exact);
+    fprintf(out, "</g>\n");
 }
 
-static void draw(FILE *out, const struct figures *f, const char *path) {
+/* The picture, with the caller's own line above the bars where there is one. */
+static void draw(FILE *out, const struct figures *f, const char *path, const char *title) {
     /* 10^-12 kt C is 1 mg C, and each unit is 1,000 of the one before */
     static const char *const units[7] = {"mg C (1 kt C = 1,000,000,000,000 mg C)", "g C (1 kt C = 1,000,000,000 g C)",
         "kg C (1 kt C = 1,000,000 kg C)", "t C (1 kt C = 1,000 t C)", "kt C (thousand tonnes of carbon)", "Mt C (1 Mt C = 1,000 kt C)",
@@ -244,10 +250,15 @@ static void draw(FILE *out, const struct figures *f, const char *path) {
             "viewBox=\"0 0 %d %d\" font-family=\"Arial, Helvetica, sans-serif\" font-size=\"14\" fill=\"#222\">\n"
             "<rect width=\"%d\" height=\"%d\" fill=\"#fff\"/>\n", WIDTH, HEIGHT, WIDTH, HEIGHT, WIDTH, HEIGHT);
     say(out, 40, 46, "font-size=\"22\" font-weight=\"bold\"", "Carbon released by land conversion");
-    fprintf(out, "<text x=\"40\" y=\"74\">File: ");
+    if (title) {
+        fprintf(out, "<text x=\"40\" y=\"76\" font-size=\"18\">");
+        put_text(out, title, 80);
+        fprintf(out, "</text>\n");
+    }
+    fprintf(out, "<text x=\"40\" y=\"%d\" fill=\"#555\">File: ", title ? 104 : 76);
     put_name(out, path);
-    fprintf(out, "</text>\n<text x=\"40\" y=\"96\">Conversion rows: n = %" PRIu32 "</text>\n", f->n);
-    say(out, RIGHT, TOP - 14, END "fill=\"#555\"", "Exact total in 10" RAISED("-12") "kt C</tspan>");
+    fprintf(out, "; conversion rows: %" PRIu32 "</text>\n", f->n);
+    say(out, RIGHT, TOP - 14, END "fill=\"#555\"", "Exact total");
     for (whole tick = 0; tick <= top; tick += step) {
         unsigned x = LEFT * 100 + along(tick, top);
         fprintf(out, "<path d=\"M%u.%02u %d V%d\" stroke=\"#ddd\"/>\n", x / 100, x % 100, TOP, BOTTOM + 6);
@@ -257,8 +268,14 @@ static void draw(FILE *out, const struct figures *f, const char *path) {
     for (int i = 0; i < 3; i++) draw_bar(out, i, f->exact[i], f->verdict[i].value, top);
     fprintf(out, "<path d=\"M%d %d V%d H%d\" fill=\"none\" stroke=\"#222\"/>\n", LEFT, TOP, BOTTOM, LEFT + SPAN);
     fprintf(out, "<text x=\"%d\" y=\"%d\" text-anchor=\"middle\">Carbon in %s</text>\n", LEFT + SPAN / 2, BOTTOM + 50, units[unit]);
-    say(out, 40, HEIGHT - 24, SMALL, "The bars are drawn from the doubles. Before drawing, each was compared with its exact total: "
-        "the distance is at most (n + 2) / 2" RAISED("53") "of the total.</tspan>");
+    whole sum = f->exact[0] + f->exact[1] + f->exact[2];
+    fprintf(out, "<g>\n<title>sum %s</title>\n<path d=\"M%d %d H%d\" stroke=\"#222\"/>\n", plain(sum).s, LEFT + SPAN + 60, BOTTOM + 6, RIGHT);
+    put_total(out, BOTTOM + 48, LARGE "font-weight=\"bold\"", sum);
+    say(out, RIGHT, BOTTOM + 26, END "fill=\"#555\"", "Sum of the three");
+    fprintf(out, "</g>\n");
+    /* (n + 2) / 2^53 is at most 34 / 2^53, below 1 / 10^14 */
+    say(out, 40, HEIGHT - 20, SMALL, "Before drawing, the figure behind each bar was held against its exact total: the two differ by less than one part in "
+        "100,000,000,000,000.");
     fprintf(out, "</svg>\n");
 }
 
@@ -266,7 +283,7 @@ static void draw(FILE *out, const struct figures *f, const char *path) {
 
 static int trouble(const char *what, const char *path, const char *why) {
     fprintf(stderr, "chart: cannot %s %s: %s\n", what, path, why);
-    return 2;
+    return 1;
 }
 
 /* Writes the whole text under another name in the same place and renames it, so that the picture is there whole or not at all. */
@@ -276,33 +293,29 @@ static int save(const char *text, size_t size, const char *path, const struct st
         if (!S_ISREG(there.st_mode)) return trouble("write", path, "it is there and is not an ordinary file");
         if (there.st_dev == source->st_dev && there.st_ino == source->st_ino) return trouble("write", path, "it is the return itself");
     }
-    size_t room = strlen(path) + 32;
-    char *part = malloc(room);
+    char *part = part_name(path);
     if (!part) return trouble("write", path, "no memory");
-    snprintf(part, room, "%s.%ld.part", path, (long)getpid());
-    FILE *file = fopen(part, "wbx"); /* x: never a file that is there */
-    bool done = file && fwrite(text, 1, size, file) == size && fflush(file) == 0;
-    int why = errno;
-    if (file && fclose(file) != 0 && done) done = false, why = errno;
-    if (done && rename(part, path) != 0) done = false, why = errno;
-    if (!done && file) unlink(part);
+    int why = write_part(part, text, size, NULL);
+    if (!why) why = rename_part(part, path);
     free(part);
-    return done ? 0 : trouble("write", path, strerror(why));
+    return why ? trouble("write", path, strerror(why)) : 0;
 }
 
 int main(int count, char **words) {
     static uint8_t bytes[NILOFERQ_RETURN_ROOM + 1]; /* one byte more than the longest return, so that a longer file is refused for its length */
     bool check = count > 1 && strcmp(words[1], "--check") == 0;
-    if (check ? count != 3 : count != 2 && count != 3) {
-        fprintf(stderr, "usage: chart FILE [PICTURE]\n       chart --check FILE\n");
+    const char *title = count > 2 && strcmp(words[1], "--title") == 0 ? words[2] : NULL;
+    int first = check ? 2 : title ? 3 : 1; /* the word that is FILE */
+    if (count - first != 1 && (check || count - first != 2)) {
+        fprintf(stderr, "usage: chart [--title TEXT] FILE [PICTURE]\n       chart --check FILE\n");
         return 2;
     }
-    const char *path = words[check ? 2 : 1], *picture = !check && count == 3 ? words[2] : NULL;
+    const char *path = words[first], *picture = count - first == 2 && strcmp(words[first + 1], "-") != 0 ? words[first + 1] : NULL;
     signal(SIGPIPE, SIG_IGN); /* a write that fails is to be reported and cleaned up after, not to end the program */
     signal(SIGXFSZ, SIG_IGN);
 
     struct stat source;
-    FILE *file = fopen(path, "rb");
+    FILE *file = open_input(path);
     if (!file) return trouble("read", path, strerror(errno));
     size_t length = fread(bytes, 1, sizeof bytes, file);
     bool bad = ferror(file) || fstat(fileno(file), &source) != 0;
@@ -322,7 +335,7 @@ int main(int count, char **words) {
     FILE *memory = open_memstream(&text, &size);
     if (!memory) return trouble("make", "the picture", strerror(errno));
     if (check) print_check(memory, &f);
-    else draw(memory, &f, path);
+    else draw(memory, &f, path, title);
     if (fclose(memory) != 0) return trouble("make", "the picture", strerror(errno));
     if (picture) status = save(text, size, picture, &source);
     else if (fwrite(text, 1, size, stdout) != size || fflush(stdout) != 0) status = trouble("write", "standard output", strerror(errno));

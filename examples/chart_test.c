@@ -150,10 +150,14 @@ static bool contains_totals(const char *text, const whole exact[3]) {
         char wanted[160];
         snprintf(wanted, sizeof wanted, "<title>%s %s</title>", elements[i], number(exact[i], 0, false).s);
         if (!strstr(text, wanted)) return false;
-        snprintf(wanted, sizeof wanted, ">%s</text>", number(exact[i], 0, true).s);
+        snprintf(wanted, sizeof wanted, ">%s kt C</text>", number(exact[i], 12, true).s);
+        if (!strstr(text, wanted)) return false;
+        snprintf(wanted, sizeof wanted, ">%s x 10<", number(exact[i], 0, true).s);
         if (!strstr(text, wanted)) return false;
     }
-    return true;
+    char sum[160];
+    snprintf(sum, sizeof sum, "<title>sum %s</title>", number(exact[0] + exact[1] + exact[2], 0, false).s);
+    return strstr(text, sum) != NULL;
 }
 
 /* Passes the comparison, with the totals that the rows give; the picture has them and is closed. */
@@ -177,10 +181,11 @@ static void must_pass(row *rows, uint32_t n, uint32_t edition, const char *what,
     char *text = NULL;
     size_t size = 0;
     FILE *memory = open_memstream(&text, &size);
-    draw(memory, &f, "a & b.return");
+    draw(memory, &f, "a & b.return", which % 2 ? "North & South <2024>" : NULL);
     fclose(memory);
     must(contains_totals(text, exact), "the picture has the three totals", which);
     must(size > 7 && strcmp(text + size - 7, "</svg>\n") == 0 && strstr(text, "a &#38; b.return"), "the picture is whole", which);
+    must((strstr(text, ">North &#38; South &#60;2024&#62;</text>") != NULL) == which % 2, "its title where one is given", which);
     free(text);
 }
 
@@ -228,8 +233,10 @@ static void the_day(char *day) {
     for (int c = 0; c < 3; c++) must(part(day_row, c) == exact[c], "the day's row gives the paper's total", (unsigned long)c);
     must(run(day, picture_path, NULL) == 0 && caught[0] == 0, "the day is drawn", 0);
     must(slurp(picture_path, text, sizeof text) && contains_totals(text, exact), "the day's picture has the three totals", 0);
-    must(strstr(text, ">32,400,000,000,000<") && strstr(text, ">16,200,000,000,000<") && strstr(text, ">40,500,000,000,000<") &&
-         strstr(text, "n = 1<") && strstr(text, "Carbon in kt C"), "the day's picture in words", 0);
+    must(strstr(text, ">32.4 kt C<") && strstr(text, ">16.2 kt C<") && strstr(text, ">40.5 kt C<") && strstr(text, ">89.1 kt C<") &&
+         strstr(text, ">32,400,000,000,000 x 10<") && strstr(text, ">16,200,000,000,000 x 10<") && strstr(text, ">40,500,000,000,000 x 10<") &&
+         strstr(text, ">89,100,000,000,000 x 10<") && strstr(text, "conversion rows: 1<") && strstr(text, "Carbon in kt C"), "the day's picture in words", 0);
+    must(!strstr(text, "double"), "the day's picture in words of the desk", 0);
     unlink(picture_path);
     printf("1. the day of the paper: 1 return passes, its picture has the three exact totals\n");
 }
@@ -435,18 +442,19 @@ static void messages(char *day) {
     static row rows[ROWS];
     char missing[600], pipe[600], before[16];
     snprintf(missing, sizeof missing, "%s/none", picture_path);
-    must(run(missing, NULL, NULL) == 2 && strncmp(caught, "chart: cannot read ", 19) == 0, "a file that isn't there", 0);
-    must(run(day, missing, NULL) == 2 && strncmp(caught, "chart: cannot write ", 20) == 0, "a place that isn't there", 0);
-    must(run(directory, NULL, NULL) == 2 && strncmp(caught, "chart: cannot read ", 19) == 0, "a directory to read", 0);
-    must(run(day, directory, NULL) == 2 && strstr(caught, "not an ordinary file"), "a directory to write", 0);
+    must(run(missing, NULL, NULL) == 1 && strncmp(caught, "chart: cannot read ", 19) == 0, "a file that isn't there", 0);
+    must(run(day, missing, NULL) == 1 && strncmp(caught, "chart: cannot write ", 20) == 0, "a place that isn't there", 0);
+    must(run(directory, NULL, NULL) == 1 && strncmp(caught, "chart: cannot read ", 19) == 0, "a directory to read", 0);
+    must(run(day, directory, NULL) == 1 && strstr(caught, "not an ordinary file"), "a directory to write", 0);
     snprintf(pipe, sizeof pipe, "%s/pipe", directory); /* stands for devices too, which a rename would destroy */
-    must(mkfifo(pipe, 0600) == 0 && run(day, pipe, NULL) == 2 && strstr(caught, "not an ordinary file"), "a pipe to write", 0);
+    must(mkfifo(pipe, 0600) == 0 && run(day, pipe, NULL) == 1 && strstr(caught, "not an ordinary file"), "a pipe to write", 0);
     unlink(pipe);
     must(run(day, picture_path, "more") == 2 && strncmp(caught, "usage: ", 7) == 0, "too many words", 0);
     must(run("--check", NULL, NULL) == 2 && strncmp(caught, "usage: ", 7) == 0, "too few words", 0);
+    must(run("--title", "North", NULL) == 2 && strncmp(caught, "usage: ", 7) == 0, "a title and no file", 0);
     make(&r, rows, 0, in_edition(1, 0));
     spill(return_path, &r);
-    must(run(return_path, return_path, NULL) == 2 && strstr(caught, "the return itself"), "the return is not written over", 0);
+    must(run(return_path, return_path, NULL) == 1 && strstr(caught, "the return itself"), "the return is not written over", 0);
     r.b[508] ^= 1;
     spill(return_path, &r);
     must(run(return_path, picture_path, NULL) == 1 && strcmp(caught, "refused 2 0\n") == 0, "a wrong check", 0);
@@ -464,7 +472,7 @@ static void messages(char *day) {
     small = limit;
     small.rlim_cur = 1000;
     setrlimit(RLIMIT_FSIZE, &small);
-    must(run(day, picture_path, NULL) == 2 && strncmp(caught, "chart: cannot write ", 20) == 0, "a full disk", 0);
+    must(run(day, picture_path, NULL) == 1 && strncmp(caught, "chart: cannot write ", 20) == 0, "a full disk", 0);
     setrlimit(RLIMIT_FSIZE, &limit);
     must(slurp(picture_path, before, sizeof before) == 5 && strcmp(before, "older") == 0, "the older picture is untouched", 0);
     must(run(day, picture_path, NULL) == 0 && slurp(picture_path, before, sizeof before) == 15, "an older picture is replaced", 0);
@@ -474,7 +482,7 @@ static void messages(char *day) {
     while (list && readdir(list)) left++;
     must(list && left == 2, "nothing but . and .. is left in the directory", (unsigned long)left);
     if (list) closedir(list);
-    printf("5. messages: 13 runs end with the right words and status, and leave nothing behind\n");
+    printf("5. messages: 14 runs end with the right words and status, and leave nothing behind\n");
 }
 
 int main(int count, char **words) {

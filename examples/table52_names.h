@@ -113,10 +113,39 @@ struct other_name {
     const char *name;
 };
 
-/* how the second half of document 001's table spells them */
+/* how the second half of document 001's table spells them, and in English, as docs/TABLE52.md has them, where that is another word */
 static const struct other_name OTHER_COUNTRY_NAMES[] = {
+    {3, "Cameroon"},
     {4, "Cape Verde"},
+    {5, "Central African Republic"},
     {9, "Guinea Ecuatorial"},
+    {9, "Equatorial Guinea"},
+    {10, "Ethiopia"},
+    {16, "Ivory Coast"},
+    {16, "Côte d'Ivoire"},
+    {29, "Rwanda"},
+    {31, "Sierra Leone"},
+    {41, "Bhutan"},
+    {49, "Malaysia"},
+    {52, "Papua New Guinea"},
+    {53, "Philippines"},
+    {54, "Singapore"},
+    {55, "Thailand"},
+    {57, "Antigua and Barbuda"},
+    {60, "Brazil"},
+    {61, "Belize"},
+    {66, "Dominican Republic"},
+    {69, "French Guiana"},
+    {70, "Grenada"},
+    {71, "Guadeloupe"},
+    {77, "Martinique"},
+    {84, "St. Kitts and Nevis"},
+    {84, "Saint Kitts and Nevis"},
+    {85, "Saint Lucia"},
+    {86, "Saint Vincent"},
+    {86, "Saint Vincent and the Grenadines"},
+    {87, "Suriname"},
+    {88, "Trinidad and Tobago"},
     {0, NULL},
 };
 

@@ -12,10 +12,80 @@
  * no number there and are 1 and 2; the refusal of a room that is too short, 9000 and when reading also 9001 to 9006, comes last. On a refusal no lent
  * element has changed, but for niloferq_lines and niloferq_explain: the text of a refusal is its lines, and it is written like any other.
  *
- * Rows in lent memory: a row is its fields in the order of the paper, each a uint32_t, with no zero bytes between. The rows of all kinds
+ * Rows in lent memory: a row is its fields in the order below, each a uint32_t, with no zero bytes between. The rows of all kinds
  * lie in one area, kind after kind: conversion, stock, harvest, parameters, abandoned land, savanna, which are kinds 1 to 6.
  *
  * A return is of edition 1 or 2. Edition 1 has kinds 1 to 4 alone. The judge and a read tell the edition, and a write is told it.
+ *
+ * The fields of a row, from 0, each with its limit and its unit: a value is a whole number of the unit, from 0 up to the limit. An id may be any
+ * number; within a kind the ids rise from row to row. On-site, off-site and decay fraction of a conversion row add up to at most 1,000.
+ *
+ *   kind 1, conversion
+ *      0  id                                  any
+ *      1  area                          1,000,000  0.01 kha
+ *      2  before                           10,000  0.1 t/ha
+ *      3  after                            10,000  0.1 t/ha
+ *      4  on-site_fraction                  1,000  0.001
+ *      5  on-site_oxidised_fraction         1,000  0.001
+ *      6  on-site_carbon_fraction           1,000  0.001
+ *      7  off-site_fraction                 1,000  0.001
+ *      8  off-site_oxidised_fraction        1,000  0.001
+ *      9  off-site_carbon_fraction          1,000  0.001
+ *     10  ten-year_area                 1,000,000  0.01 kha
+ *     11  ten-year_before                  10,000  0.1 t/ha
+ *     12  ten-year_after                   10,000  0.1 t/ha
+ *     13  decay_fraction                    1,000  0.001
+ *     14  decay_carbon_fraction             1,000  0.001
+ *   kind 2, stock
+ *      0  id                                  any
+ *      1  unit_code                             1  0 is land, 1 is scattered trees
+ *      2  rate                             10,000  0.01 t/ha, or 0.0001 kt per thousand trees
+ *      3  amount                       10,000,000  0.01 kha, or one thousand trees
+ *      4  carbon_fraction                   1,000  0.001
+ *   kind 3, harvest
+ *      0  id                                  any
+ *      1  F (commercial harvest)       10,000,000  0.1 thousand m3
+ *      2  G (tonnes per m3)                10,000  0.001
+ *      3  I (fuelwood)                 10,000,000  0.1 kt
+ *      4  J (other use)                10,000,000  0.1 kt
+ *   kind 4, parameters
+ *      0  N                                 1,000  0.001
+ *      1  CH4                               1,000  0.001
+ *      2  CO                                1,000  0.001
+ *      3  N/C                               1,000  0.001
+ *      4  N2O                               1,000  0.001
+ *      5  NOx                               1,000  0.001
+ *   kind 5, abandoned land
+ *      0  id                                  any
+ *      1  area                         10,000,000  0.01 kha
+ *      2  growth_rate                      10,000  0.01 t/ha
+ *      3  carbon_fraction                   1,000  0.001
+ *      4  longer_area                  10,000,000  0.01 kha
+ *      5  longer_growth_rate               10,000  0.01 t/ha
+ *      6  longer_carbon_fraction            1,000  0.001
+ *   kind 6, savanna
+ *      0  id                                  any
+ *      1  area                          1,000,000  0.01 kha
+ *      2  density                          10,000  0.1 t/ha
+ *      3  fraction_really_burned            1,000  0.001
+ *      4  live_fraction                     1,000  0.001
+ *      5  live_oxidised_fraction            1,000  0.001
+ *      6  live_carbon_fraction              1,000  0.001
+ *      7  dead_oxidised_fraction            1,000  0.001
+ *      8  dead_carbon_fraction              1,000  0.001
+ *      9  N/C                               1,000  0.001
+ *     10  CH4                               1,000  0.001
+ *     11  CO                                1,000  0.001
+ *     12  N2O                               1,000  0.001
+ *     13  NOx                               1,000  0.001
+ *
+ * The place of a refusal by the numbers 5, 6 and 7 is that of a row: 12 times its block plus its position in the block, both from 0. A kind of n rows
+ * takes (n + 11) / 12 blocks, twelve rows in each but the last, and the kinds stand one after the other. So, when writing, where n[k] rows of each
+ * kind k are handed in, this tells which row of which kind is meant:
+ *     block = place / 12;
+ *     for (kind = 1; block >= (n[kind] + 11) / 12; kind++) block -= (n[kind] + 11) / 12;
+ *     row = 12 * block + place % 12;
+ * It is row `row`, from 0, of kind `kind`. When reading, the block at place / 12 says its kind in its first byte.
  */
 #ifndef NILOFERQ_H
 #define NILOFERQ_H
@@ -117,8 +187,8 @@ uint32_t niloferq_defaults(uint32_t *room, size_t room_len);
  * First the lowest place of the number 10: 10000, there is no such edition, or lengths_len is not NILOFERQ_KINDS, or the lengths do not
  *    add up to rows_len; 10001 to 10006, the length of this kind is no whole number of its rows, or is more than NILOFERQ_MOST_ROWS of
  *    them, or for parameters isn't exactly one row, or isn't 0 though the edition does not have the kind. Then 5000 to 7191: refused by
- *    one of the numbers 5 to 7, the place being where the record would stand. Last 9000: room_len is below the number of bytes, or
- *    size_len is 0. */
+ *    one of the numbers 5 to 7, the place being where the record would stand: above is how to tell which row of which kind that is.
+ *    Last 9000: room_len is below the number of bytes, or size_len is 0. */
 uint32_t niloferq_write(uint32_t edition, const uint32_t *rows, size_t rows_len, const uint32_t *lengths, size_t lengths_len, uint8_t *room,
                         size_t room_len, uint32_t *size, size_t size_len);
 

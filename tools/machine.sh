@@ -6,6 +6,8 @@ machine_runner=""
 
 machine_install() { # PACKAGE..
     [ "$(id -u)" = 0 ] || { echo "this needs Debian's packages $*, and only root can install them" >&2; return 1; }
+    command -v apt-get >/dev/null || { echo "this needs Debian's packages $*, and there is no apt-get to install them" >&2; return 1; }
+    echo "installing Debian's packages $*" >&2
     dpkg --add-architecture amd64
     apt-get update -qq >&2
     DEBIAN_FRONTEND=noninteractive apt-get install -y -qq --no-install-recommends "$@" >/dev/null
