@@ -2,9 +2,9 @@
 --     filled-flat, filled-text  names without a space, filled in with their values, are their lines: as `line` has them, and as `linesText` has them
 --     Left                      while k bytes of the names and i values are written: what is written, with what is left, is the whole text
 --     none-written, letter-written, value-written, all-written   the turns of a loop that does so; value-there, letter-fits, value-fits: what a turn needs
-use Prim.Native.Nat.{ℕ, zero, suc, _+_, _<_, _≤_}
+use Prim.Native.Nat.{ℕ, _+_, _<_, _≤_}
 use mathlib.Core.Path.{_≡_, refl, sym, ap, subst, _∙_}
-use mathlib.Core.Bool.{Bool, true, false, cond, false≢true}
+use mathlib.Core.Bool.{Bool, true, false, cond}
 use mathlib.Core.List.{List, [], _∷_, _++_, append-nil, append-assoc, map, flatMap}
 use native.Mathlib.Omega.{arith}
 use native.Mathlib.Numerals.{add-one}
@@ -12,13 +12,11 @@ use native.Mathlib.Nat.{add-zero, zero-add}
 use borrow.Author.Tests.{eq-eqb, ne-eqb}
 use lib.Dec.{eqb}
 use lib.IntN.{ℤ, pos}
-use lib.ListN.{length, drop, getD, length-append, List·getD-map}
-use lib.Seq.{sets, drop-cons, drop-drop, drop-length, getD-drop, length-sets}
+use lib.ListN.{length, drop, getD, length-append}
+use lib.Seq.{drop-cons, drop-drop, drop-length, getD-drop, length-sets}
 use Rattle.decimal.specs.Digits.{marked, WrittenAt}
 use Rattle.decimal.proofs.DigitLaws.{written-more}
 use Rattle.wide.specs.Numbers.{value}
-use Rattle.wide.specs.Signs.{amount, Canonical}
-use Rattle.wide.specs.declared.signed.Signed.{Signed}
 use Rattle.phrases.specs.Lines.{Line, ended, line, linesText, spaces, filledIn}
 
 pub spaces-append : (s t : List ℕ) → spaces (s ++ t) ≡ spaces s + spaces t

@@ -1,4 +1,4 @@
-// Rules 5 to 8: the records of a return, block by block over those that are used.
+// Rules 5 to 7: the records of a return, block by block over those that are used.
 ghost use mathlib.Core.Path.{_≡_};
 ghost use mathlib.Core.Bool.{false};
 ghost use Prim.Native.Nat.{_+_, _*_, _^_, _≤_, _<_, min};

@@ -1,4 +1,4 @@
--- Reading: rules 1 to 8 of the bytes, then 9. "Success writes exactly the rows at the front; later elements keep their values."
+-- Reading: the rules of the bytes, then 9. "Success writes exactly the rows at the front; later elements keep their values."
 use Prim.Native.Nat.{ℕ, zero, suc, _*_}
 use mathlib.Core.Bool.{Bool}
 use mathlib.Core.List.{List, [], _∷_, _++_, flatten}
