@@ -118,12 +118,26 @@ static void records(const uint8_t *day, size_t length) {
     memcpy(bytes + 512 + 48, bytes + 512 + 8, 40); /* the stock row twice */
     bytes[512 + 1] = 2;
     put_check(bytes + 512);
-    must_explain(bytes, length, "refused 5 13\nid_before 1\nid 1\n", "explain: an id");
-    must_explain_with(day, length, 0, 12, 4294967295, 4, "refused 6 0\nfield 1\nfield_name area\nvalue 4294967295\nlimit 1000000\n", "explain: an area");
-    must_explain_with(day, length, 0, 28, 1001, 2, "refused 6 0\nfield 8\nfield_name off-site_oxidised_fraction\nvalue 1001\nlimit 1000\n",
+    must_explain(bytes, length, "refused 5 13\nblock 1\nrow 1\nkind_name stock\nid_before 1\nid 1\n", "explain: an id");
+    must_explain_with(day, length, 0, 12, 4294967295, 4,
+                      "refused 6 0\nblock 0\nrow 0\nkind_name conversion\nid 7\nfield 1\nfield_name area\nvalue 4294967295\nlimit 1000000\n",
+                      "explain: an area");
+    must_explain_with(day, length, 0, 28, 1001, 2,
+                      "refused 6 0\nblock 0\nrow 0\nkind_name conversion\nid 7\nfield 8\nfield_name off-site_oxidised_fraction\nvalue 1001\nlimit 1000\n",
                       "explain: the longest name of a field");
-    must_explain_with(day, length, 3, 18, 65535, 2, "refused 6 36\nfield 3\nfield_name N/C\nvalue 65535\nlimit 1000\n", "explain: a parameter");
-    must_explain_with(day, length, 0, 40, 1000, 2, "refused 7 0\nonsite 400\noffsite 200\ndecay 1000\nsum 1600\n", "explain: the fractions");
+    must_explain_with(day, length, 3, 18, 65535, 2,
+                      "refused 6 36\nblock 3\nrow 0\nkind_name parameters\nfield 3\nfield_name N/C\nvalue 65535\nlimit 1000\n",
+                      "explain: a parameter, whose row has no id");
+    must_explain_with(day, length, 0, 40, 1000, 2,
+                      "refused 7 0\nblock 0\nrow 0\nkind_name conversion\nid 7\nonsite 400\noffsite 200\ndecay 1000\nsum 1600\n",
+                      "explain: the fractions");
+    conversion rows[NILOFERQ_MOST_ROWS];
+    copy_rows(rows, NILOFERQ_MOST_ROWS);
+    size_t longer = written_rows(rows, NILOFERQ_MOST_ROWS);
+    put(bytes + 512 + 8 + 40 * 11 + 4, 1000001, 4); /* the area of the last row of the second block */
+    put_check(bytes + 512);
+    must_explain(bytes, longer, "refused 6 23\nblock 1\nrow 11\nkind_name conversion\nid 30\nfield 1\nfield_name area\nvalue 1000001\nlimit 1000000\n",
+                 "explain: a row that is neither first nor in the first block");
 }
 
 /* ---- the heaviest row */

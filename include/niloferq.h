@@ -85,7 +85,7 @@
  *     block = place / 12;
  *     for (kind = 1; block >= (n[kind] + 11) / 12; kind++) block -= (n[kind] + 11) / 12;
  *     row = 12 * block + place % 12;
- * It is row `row`, from 0, of kind `kind`. When reading, the block at place / 12 says its kind in its first byte.
+ * It is row `row`, from 0, of kind `kind`. When reading, the block at place / 12 says its kind in its first byte, and niloferq_explain names the row.
  */
 #ifndef NILOFERQ_H
 #define NILOFERQ_H
@@ -93,7 +93,9 @@
 #include <stddef.h>
 #include <stdint.h>
 
-#define NILOFERQ_VERSION 7 /* of the functions below; 6 had no explanation, 5 no table, 4 had five kinds, 3 number 8 and no `thinner`, 2 four kinds and no edition, 1 an area for each kind */
+/* Of the functions below; 7 named no row in an explanation, 6 had no explanation, 5 no table, 4 had five kinds, 3 number 8 and no `thinner`, 2 four kinds
+ * and no edition, 1 an area for each kind. */
+#define NILOFERQ_VERSION 8
 
 #define NILOFERQ_EDITIONS 2            /* the latest edition */
 #define NILOFERQ_KINDS 6               /* the kinds of rows */
@@ -146,8 +148,9 @@ uint32_t niloferq_figures(const uint8_t *bytes, size_t bytes_len, uint64_t *room
  * 0: room_len is below the text's length, and room is unchanged. NILOFERQ_LINES_ROOM bytes are always enough. */
 size_t niloferq_lines(const uint8_t *bytes, size_t bytes_len, uint8_t *room, size_t room_len);
 
-/* The text that the program `explain` prints: `refused`, number and place, then the values that clash, a line each; of a good return the heaviest
- * conversion row of each of the three carbon subtotals. docs/EXPLAIN.md has the lines.
+/* The text that the program `explain` prints: `refused`, number and place, then, where a row is refused, its block, its position there, its kind and its
+ * id, and then the values that clash, a line each; of a good return the heaviest conversion row of each of the three carbon subtotals. docs/EXPLAIN.md has
+ * the lines.
  * The text's length, and the text stands at the front of room, with no zero byte behind it; later bytes keep their values.
  * 0: room_len is below the text's length, and room is unchanged. NILOFERQ_EXPLAIN_ROOM bytes are always enough. */
 size_t niloferq_explain(const uint8_t *bytes, size_t bytes_len, uint8_t *room, size_t room_len);

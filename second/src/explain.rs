@@ -1,17 +1,19 @@
 //! Why a return is refused (02, §7): "for a refusal, the number, the place and
 //! the values that clash: the length, stored and computed check, the block's
 //! header or non-zero byte, the two ids, the field and its limit, the sum of the
-//! fractions". Of a return that is accepted, the heaviest rows.
+//! fractions". Where the place is a row's, the row is named before them. Of a
+//! return that is accepted, the heaviest rows.
 
 use crate::heaviest;
 use crate::judge::{check, computed_check, edition, first_fault, four, record_at, stored_check};
-use crate::judge::{two, whole_blocks, Block, Fault, Record, Refusal};
+use crate::judge::{two, whole_blocks, Block, Fault, Record, Refusal, RECORDS_PER_BLOCK};
 use crate::kinds::{Kind, KINDS};
 use crate::land::Conversion;
 use crate::text::Text;
 
 /// What is always enough for C. The longest text, three heaviest rows with ids
-/// of ten digits and parts of twenty, has 207 bytes.
+/// of ten digits and parts of twenty, has 207 bytes; that of a refusal has 132, the
+/// off-site oxidised fraction of a row with an id of ten digits.
 pub const EXPLAIN_ROOM: usize = 300;
 
 /// The text that the program `explain` prints for these bytes.
@@ -21,6 +23,7 @@ pub fn text(bytes: &[u8]) -> Text {
         Ok(checked) => heaviest::print(checked, &mut text),
         Err(refusal) => {
             text.refused(refusal);
+            print_row(bytes, refusal, &mut text);
             print_clash(bytes, refusal, &mut text);
         }
     }
@@ -31,6 +34,24 @@ pub fn text(bytes: &[u8]) -> Text {
 /// leaves `room` alone when it is too short.
 pub fn explain(bytes: &[u8], room: &mut [u8]) -> usize {
     text(bytes).put_into(room)
+}
+
+/// Which row the place is, where the number is about a row: its block, its
+/// position there and its kind, so that nobody has to divide by twelve, and its id.
+/// Parameters have none, and with number 5 the ids are what clashes.
+fn print_row(bytes: &[u8], Refusal { number, place }: Refusal, text: &mut Text) {
+    if !(5..=7).contains(&number) {
+        return;
+    }
+    let place = place as usize;
+    let (kind, record) = record_at(whole_blocks(bytes), place);
+    let kind = kind_of(kind);
+    text.line("block ", (place / RECORDS_PER_BLOCK) as u64);
+    text.line("row ", (place % RECORDS_PER_BLOCK) as u64);
+    text.word_line("kind_name ", kind.name);
+    if number != 5 && kind.has_id {
+        text.line("id ", four(record, 0).into());
+    }
 }
 
 /// The values that clash at a refusal's place, a block up to number 4 and a

@@ -56,7 +56,7 @@ const BLOCK: usize = 512;
 /// blocks" (02, §5).
 const MOST_BLOCKS: usize = 16;
 const RECORD: usize = 40;
-const RECORDS_PER_BLOCK: usize = 12;
+pub(crate) const RECORDS_PER_BLOCK: usize = 12;
 const RECORDS_AT: usize = 8;
 const CHECK_AT: usize = 508;
 

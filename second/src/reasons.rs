@@ -1,5 +1,6 @@
 //! What the texts of a comparison say, counted: each number, each fault of number
-//! 4, each field, and whether a subtotal has no heaviest row, one or several.
+//! 4, each number with each kind of row that it names, each field, and whether a
+//! subtotal has no heaviest row, one or several.
 //!
 //! What a text doesn't say is read off the bytes once more, not asked of the
 //! judge or of the sheets.
@@ -26,6 +27,25 @@ const ENDS: [(u8, Ordering, &str); 5] = [
     ),
 ];
 
+/// The numbers about a row, and the kinds whose rows can be at fault with each.
+const OF_ROWS: [(usize, &[&str]); 3] = [
+    (
+        5,
+        &["conversion", "stock", "harvest", "abandoned", "savanna"],
+    ),
+    (6, &KIND_NAMES),
+    (7, &["conversion"]),
+];
+/// As the texts name them.
+const KIND_NAMES: [&str; KINDS.len()] = [
+    "conversion",
+    "stock",
+    "harvest",
+    "parameters",
+    "abandoned",
+    "savanna",
+];
+
 /// Counters for all of it.
 pub struct Reasons {
     /// Acceptance and the numbers 1 to 7.
@@ -36,6 +56,8 @@ pub struct Reasons {
     ends: Counters,
     /// A byte in a used record, in an unused one, and in the twenty behind them.
     strays: Counters,
+    /// For each of [`OF_ROWS`] and each kind: a row of it, and one by its id.
+    rows: Counters,
     /// The id before stands in the same block, and in the block before.
     ids: Counters,
     /// By kind, in the row's order.
@@ -47,8 +69,9 @@ pub struct Reasons {
 }
 
 impl Reasons {
-    /// So many of each are due, but for what can't come.
-    pub fn new(due: Due, coverage: &mut Coverage) -> Self {
+    /// So many of each are due, and of each number with each kind of row, but for
+    /// what can't come.
+    pub fn new(due: Due, due_rows: Due, coverage: &mut Coverage) -> Self {
         let numbers = (0..8).map(|number| format!("explained, number {number}"));
         let numbers = coverage.add(due, numbers);
         let faults = coverage.add(due, [""; 0]);
@@ -60,6 +83,18 @@ impl Reasons {
                 ["1", "2"].map(named),
             );
         }
+        let rows = coverage.add(due, [""; 0]);
+        for (number, kinds) in OF_ROWS {
+            for kind in KIND_NAMES {
+                let name = format!("number {number}, {kind}");
+                // With number 5 both ids stand among what clashes.
+                let with_id = number != 5 && kind != "parameters";
+                let or_never = |can_come| if can_come { due_rows } else { Due::Never };
+                let can_come = kinds.contains(&kind);
+                coverage.add(or_never(can_come), [name.clone()]);
+                coverage.add(or_never(can_come && with_id), [name + ", by its id"]);
+            }
+        }
         let end =
             |(edition, _, rule): &(u8, Ordering, &str)| format!("end, edition {edition}, {rule}");
         let strays = ["a used record", "an unused record", "the twenty bytes"];
@@ -67,6 +102,7 @@ impl Reasons {
         Reasons {
             numbers,
             faults,
+            rows,
             ends: coverage.add(due, ENDS.iter().map(end)),
             strays: coverage.add(due, strays.map(|place| format!("stray in {place}"))),
             ids: coverage.add(due, ids.map(|place| format!("id before in {place}"))),
@@ -102,6 +138,20 @@ impl Reasons {
         };
         let [number, place] = [number, place].map(|word| word.parse().expect("a number"));
         coverage.count(self.numbers, number);
+        if let Some(nth) = OF_ROWS.iter().position(|&(of_rows, _)| of_rows == number) {
+            let kind = value("kind_name").expect("a kind is named");
+            let kind = KIND_NAMES.iter().position(|&name| name == kind);
+            let pair = KIND_NAMES.len() * nth + kind.expect("one of the kinds");
+            coverage.count(self.rows, 2 * pair);
+            // Right behind the kind's name; number 5 has `id_before` there.
+            let behind = lines.iter().position(|line| line.0 == "kind_name");
+            if behind
+                .and_then(|at| lines.get(at + 1))
+                .is_some_and(|line| line.0 == "id")
+            {
+                coverage.count(self.rows, 2 * pair + 1);
+            }
+        }
         match number {
             4 => {
                 let words = Fault::ALL.map(Fault::word);

@@ -7,7 +7,7 @@ use crate::rng::Rng;
 /// What these returns count.
 fn noted(returns: impl Iterator<Item = Vec<u8>>) -> Coverage {
     let mut coverage = Coverage::default();
-    let reasons = Reasons::new(Due::Once, &mut coverage);
+    let reasons = Reasons::new(Due::Once, Due::Once, &mut coverage);
     for bytes in returns {
         reasons.note(&bytes, text(&bytes).as_bytes(), &mut coverage);
     }

@@ -1,4 +1,4 @@
--- "Proved as a single table, under one claim about all of it": 01's cases (a) to (j), three of edition 2, four of halves, one of a row thinner in both periods and one of the largest savannas, each a whole return with its complete answer, every figure of it.
+-- "Proved as a single table, under one claim about all of it": 01's cases (a) to (j), seven of edition 2, four of halves, one of a row thinner in both periods and one of the largest savannas, each a whole return with its complete answer, every figure of it.
 -- Where the case is about rows, the return is made of them by the definition of writing; where it is about bytes, the bytes stand here. An accepted return of rows is answered from the rows (FromRows), any other from its bytes.
 use Prim.Native.Nat.{ℕ, zero, suc}
 use mathlib.Core.Path.{_≡_, refl, ap, ap₂, _∙_}
@@ -177,6 +177,11 @@ largestFires i (suc n) =
 abbrev with-land : Lists
 with-land = cut (30 ∷ 5 ∷ 5 ∷ 6 ∷ 7 ∷ 14 ∷ []) (take 15 dayArea ++ (grass ++ (drop 15 dayArea ++ (land ++ burning))))
 
+-- edition 2 blocks of these kinds, of n in all, the first being number b, each with one row of zeros
+unfoldable pub blocksFrom : ℕ → ℕ → List ℕ → List ℕ
+blocksFrom b n [] = []
+blocksFrom b n (k ∷ ks) = sealed (headOf 2 k 1 b n ++ replicate 500 0) ++ blocksFrom (suc b) n ks
+
 -- thinner before than after in both periods, on areas that would count
 abbrev twice-thinner : List ℕ
 twice-thinner = 1 ∷ 7 ∷ 49 ∷ 100 ∷ 500 ∷ 900 ∷ 450 ∷ 300 ∷ 900 ∷ 450 ∷ 7 ∷ 0 ∷ 1 ∷ 200 ∷ 450 ∷ []
@@ -236,6 +241,12 @@ table-1 =
     ∷ refused (written 1 with-land) 3 4
     -- edition 2 that ends with a harvest row: "4 .. a last block below kind 4"
     ∷ refused (written 2 ([] ∷ [] ∷ (1 ∷ 30 ∷ 1 ∷ 0 ∷ 0 ∷ []) ∷ [] ∷ [] ∷ [] ∷ [])) 4 0
+    -- "kind 4 before a kind below 5", at the block of kind 4; "a kind above 4 with no kind 4 before it"
+    ∷ refused (blocksFrom 0 2 (4 ∷ 3 ∷ [])) 4 0
+    ∷ refused (blocksFrom 0 1 (5 ∷ [])) 4 0
+    -- a kind that falls, past a kind above 4: at its own block
+    ∷ refused (blocksFrom 0 3 (4 ∷ 5 ∷ 4 ∷ [])) 4 2
+    ∷ refused (blocksFrom 0 3 (4 ∷ 5 ∷ 3 ∷ [])) 4 2
     ∷ []
 
 -- and of halves, which go to the even neighbour
@@ -302,7 +313,7 @@ in-turn (e ∷ es) p =
     (in-turn es (ap (λ (l : List (Ruling × Complete)). drop 1 l) p))
 
 all-worked : map worksOut entries ≡ map wanted entries
-unfolding toBits ofInt mul add onsiteDouble offsiteDouble decayDouble addRows largest largestFires computed cut filedList behind filedFrom littleEndian recordFrom inTurn headOf sealed weighed recordOn usedFrom bodyOf blockOf bytesOf rowsBelow rowFrom number evenOf settled sumOf stockPart harvestPart clearedPart onsitePart offsitePart decayPart countedDifference thinnerPart stocksOf conversionOf gasesOf abandonedOf abandonedPart savannasOf rowsFrom flatten total badList badLengths notAllowed listRules carbonShare carbonPart value wordsOf totalsOf entered releasedOf burnedBy
+unfolding toBits ofInt mul add onsiteDouble offsiteDouble decayDouble addRows largest largestFires blocksFrom computed cut filedList behind filedFrom littleEndian recordFrom inTurn headOf sealed weighed recordOn usedFrom bodyOf blockOf bytesOf rowsBelow rowFrom number evenOf settled sumOf stockPart harvestPart clearedPart onsitePart offsitePart decayPart countedDifference thinnerPart stocksOf conversionOf gasesOf abandonedOf abandonedPart savannasOf rowsFrom flatten total badList badLengths notAllowed listRules carbonShare carbonPart value wordsOf totalsOf entered releasedOf burnedBy
 all-worked = refl
 
 -- every return of the table has the answer beside it, as the checker computes them

@@ -2,13 +2,13 @@
 use Prim.Native.Nat.{ℕ, _≤_, _<_}
 use mathlib.Core.Path.{_≡_, refl, sym, ap, subst, _∙_}
 use mathlib.Core.Bool.{Bool, true, false, not, cond}
-use mathlib.Core.List.{List, [], _∷_}
+use mathlib.Core.List.{List}
 use native.Mathlib.Omega.{arith}
 use borrow.Author.Tests.{lt-ltb, le-ltb}
 use lib.Dec.{T, eqb}
 use lib.Ieee.{Float, binary64, isNan, toBits}
 use lib.ListN.{length}
-use Rattle.form.specs.Ruling.{tooShort, onFront, ruling}
+use Rattle.form.specs.Ruling.{onFront}
 use Rattle.form.specs.Bytes.{littleEndian}
 use Rattle.form.specs.Verdict.{rules, rows, verdictOf}
 use Rattle.form.specs.declared.Counts.{Counts}
@@ -24,7 +24,6 @@ use Rattle.doubles.specs.declared.Answer.the-variants.{Figures, Refused}
 use Rattle.doubles.specs.Subtotals.{subtotalsOf, answerBy, answerOf}
 use Rattle.nearness.proofs.Wholes.{no-nan}
 use Rattle.nearness.proofs.Demand.{onsite-demand, offsite-demand, decay-demand}
-use Rattle.totals.specs.Codes.{wrongCode}
 use Rattle.charted.specs.Subtotal.{subtotalCall, doubleBy, bitsAfter}
 
 -- what the answer says of the verdict
@@ -75,18 +74,22 @@ module _ (s : List ℕ) (code : ℕ) where
         let z : subtotalCall s code room ≡ Broken n p = ruled-before (rules s) _ (refused-ruling s n p (refused-verdict s n p e)) in
         rw z (refl, refl)
 
-    -- of an answer with figures, the two rules of the call are left
-    left : {d : Doubles} → Figured s d → subtotalCall s code room ≡ ruling (wrongCode code ∷ tooShort 8 room ∷ [])
-    left f = kept-before (rules s) _ (accepted-ruling s (f .counts) (f .accepted))
-
+    -- of an answer with figures, the two rules of the call are left, in their order: what they are, the definition alone says
     pub code-out : (d : Doubles) → Figured s d → 2 < code → Out (Broken 11 0) room
-    code-out d f h = rw (left f ∙ one-broken 11 _ _ (lt-ltb 2 code h)) (refl, refl)
+    code-out d f h =
+        let k = accepted-ruling s (f .counts) (f .accepted) in
+        let z : subtotalCall s code room ≡ Broken 11 0 = kept-before (rules s) _ k ∙ one-broken 11 _ _ (lt-ltb 2 code h) in
+        rw z (refl, refl)
 
     pub short-out : (d : Doubles) → Figured s d → code ≤ 2 → length room < 8 → Out (Broken 9 0) room
-    short-out d f h l = rw (left f ∙ one-kept 11 _ _ (le-ltb 2 code h) ∙ too-short 8 room l) (refl, refl)
+    short-out d f h l =
+        let k = accepted-ruling s (f .counts) (f .accepted) in
+        let z : subtotalCall s code room ≡ Broken 9 0 = kept-before (rules s) _ k ∙ one-kept 11 _ _ (le-ltb 2 code h) ∙ too-short 8 room l in
+        rw z (refl, refl)
 
     pub done-out : (d : Doubles) (x : Float) (l : List ℕ) → Figured s d → code ≤ 2 → 8 ≤ length room → x ≡ doubleBy code d
         → l ≡ onFront (littleEndian 8 (toBits binary64 x)) room → Out Clean l
     done-out d x l f h m e q =
-        rw (left f ∙ one-kept 11 _ _ (le-ltb 2 code h) ∙ long-enough 8 room m)
-        (refl, q ∙ ap (λ (y : Float). onFront (littleEndian 8 (toBits binary64 y)) room) (e ∙ ap (doubleBy code) (f .doubles)))
+        let k = accepted-ruling s (f .counts) (f .accepted) in
+        let z : subtotalCall s code room ≡ Clean = kept-before (rules s) _ k ∙ one-kept 11 _ _ (le-ltb 2 code h) ∙ long-enough 8 room m in
+        rw z (refl, q ∙ ap (λ (y : Float). onFront (littleEndian 8 (toBits binary64 y)) room) (e ∙ ap (doubleBy code) (f .doubles)))

@@ -1,5 +1,6 @@
 -- Whatever answer meets an entry point's contract is the one that the definitions give, with the lent memory as they say.
 -- No contract asks anything of its caller, and each admits one answer.
+use mathlib.Core.Path.{ap, _∙_}
 use mathlib.Core.List.{List}
 use Prim.Native.Nat.{ℕ}
 use lib.IntN.{ℤ}
@@ -15,7 +16,7 @@ use Rattle.form.specs.Verdict.{verdictOf}
 use Rattle.form.specs.declared.Ruling.{Ruling}
 use Rattle.rows.specs.Reading.{readAnswer, roomAfter}
 use Rattle.rows.specs.Writing.{writeAnswer, bytesAfter}
-use Rattle.worksheets.specs.Answers.{outcomeOf, answered}
+use Rattle.worksheets.specs.Answers.{outcomeOf, said, answered}
 use Rattle.doubles.specs.Subtotals.{answerOf}
 use Rattle.phrases.specs.Room.{putOf, textAfter}
 use Rattle.phrases.specs.declared.Put.{Put}
@@ -31,7 +32,8 @@ use Rattle.weighed.specs.Heaviest.{heaviestCall, heaviestAfter}
 use Rattle.table52.specs.Lookup.{lookedUp}
 use Rattle.door.specs.Table.{tableCode, tableCall, tableAfter}
 use Rattle.explained.specs.Explained.{explanationOf, explained}
-use Rattle.steps.proofs.Clauses.{paired, followed}
+use Rattle.steps.proofs.Clauses.{then, paired, followed, paired-and, followed-and}
+use Rattle.steps.proofs.Told.{said-back}
 use Rattle.contracts.specs.Contract.{Says, says}
 use Rattle.judge.proofs.judge as judge
 use Rattle.rows.proofs.read as read
@@ -71,9 +73,13 @@ module _ {M : Type 1} (𝓤 : URA M) (H : Heap 𝓤) (A : Atoms 𝓤) (mem : Mem
   pub judge-says : Says 𝓤 judge.ended (judge.clauses 𝓤 H A mem run) (λ κs r e. r) (λ κs a. verdictOf (now (a .0)))
   judge-says = says 𝓤 _ _ _ _ (λ κs a g. id⊢ 𝓤 _) (λ κs a g r e. id⊢ 𝓤 _)
 
-  -- "a definition gives this paper's number and values for each of its cases": `outcomeOf`; `answered` has each value in its one form
+  -- `answered` has each value in its one form
   pub figures-says : Says 𝓤 figures.ended (figures.clauses 𝓤 H A mem run) (λ κs r e. r) (λ κs a. answered (outcomeOf (now (a .0))))
   figures-says = says 𝓤 _ _ _ _ (λ κs a g. id⊢ 𝓤 _) (λ κs a g r e. id⊢ 𝓤 _)
+
+  -- "a definition gives this paper's number and values for each of its cases": `said`; and of the answer it is what 01 gives
+  pub figures-said : Says 𝓤 figures.ended (figures.clauses 𝓤 H A mem run) (λ κs r e. said r) (λ κs a. outcomeOf (now (a .0)))
+  figures-said = says 𝓤 _ _ _ _ (λ κs a g. id⊢ 𝓤 _) (λ κs a g r e. then 𝓤 _ _ (id⊢ 𝓤 _) (λ x. ap said x ∙ said-back (outcomeOf (now (a .0)))))
 
   pub subtotals-says : Says 𝓤 subtotals.ended (subtotals.clauses 𝓤 H A mem run) (λ κs r e. r) (λ κs a. answerOf (now (a .0)))
   subtotals-says = says 𝓤 _ _ _ _ (λ κs a g. id⊢ 𝓤 _) (λ κs a g r e. id⊢ 𝓤 _)
@@ -101,7 +107,9 @@ module _ {M : Type 1} (𝓤 : URA M) (H : Heap 𝓤) (A : Atoms 𝓤) (mem : Mem
 
   pub lines-says : Says 𝓤 lines.ended (lines.clauses 𝓤 H A mem run) (λ κs r e. (r, now (e .1 .0)))
       (λ κs a. withRoom (putOf (printed (now (a .0))) (now (a .1 .0))) (textAfter (printed (now (a .0))) (now (a .1 .0))))
-  lines-says = says 𝓤 _ _ _ _ (λ κs a g. id⊢ 𝓤 _) (λ κs a g r e. followed 𝓤 _ _ _ (textAfter (printed (now (a .0))) (now (a .1 .0))))
+  lines-says =
+      says 𝓤 _ _ _ _ (λ κs a g. id⊢ 𝓤 _)
+      (λ κs a g r e. followed-and 𝓤 _ _ _ (textAfter (printed (now (a .0))) (now (a .1 .0))) _)
 
   pub explain-lines-says : Says 𝓤 explain-lines.ended (explain-lines.clauses 𝓤 H A mem run) (λ κs r e. (r, now (e .1 .0)))
       (λ κs a. withRoom (putOf (explained (now (a .0))) (now (a .1 .0))) (textAfter (explained (now (a .0))) (now (a .1 .0))))
@@ -122,7 +130,7 @@ module _ {M : Type 1} (𝓤 : URA M) (H : Heap 𝓤) (A : Atoms 𝓤) (mem : Mem
 
   pub c-lines-says : Says 𝓤 c-lines.ended (c-lines.clauses 𝓤 H A mem run) (λ κs r e. (r, now (e .1 .0)))
       (λ κs a. sized (putOf (printed (now (a .0))) (now (a .1 .0))) (textAfter (printed (now (a .0))) (now (a .1 .0))))
-  c-lines-says = says 𝓤 _ _ _ _ (λ κs a g. id⊢ 𝓤 _) (λ κs a g r e. paired 𝓤 _ _ _ _ (id⊢ 𝓤 _))
+  c-lines-says = says 𝓤 _ _ _ _ (λ κs a g. id⊢ 𝓤 _) (λ κs a g r e. paired-and 𝓤 _ _ _ _ _)
 
   pub c-explain-says : Says 𝓤 c-explain.ended (c-explain.clauses 𝓤 H A mem run) (λ κs r e. (r, now (e .1 .0)))
       (λ κs a. sized (putOf (explained (now (a .0))) (now (a .1 .0))) (textAfter (explained (now (a .0))) (now (a .1 .0))))

@@ -35,9 +35,16 @@ module _ {M : Type 1} (𝓤 : URA M) (T : Ended) (c : Clauses 𝓤 T)
       pub admits-one : AdmitsOne
 
     -- one answer follows from what any answer is
+    one : Answers → AdmitsOne
+    one answers = λ κs a g h r q e f. both 𝓤 _ (answers κs a g r e) (answers κs a h q f) (λ x y. x ∙ sym y)
+
     pub says : AsksNothing → Answers → Says
-    says asks answers = record {
-      asks-nothing = asks;
-      answers = answers;
-      admits-one = λ κs a g h r q e f. both 𝓤 _ (answers κs a g r e) (answers κs a h q f) (λ x y. x ∙ sym y);
-    }
+    says asks answers = record { asks-nothing = asks; answers = answers; admits-one = one answers }
+
+    -- the same of a function that asks something of its caller
+    pub record SaysAsked : Type 1 where
+      pub answers : Answers
+      pub admits-one : AdmitsOne
+
+    pub says-asked : Answers → SaysAsked
+    says-asked answers = record { answers = answers; admits-one = one answers }

@@ -1,8 +1,10 @@
 // The door for programs in C: each function hands on to the crate that knows its subject, and makes a number of the ruling.
 // A slice is a pointer and then a length.
+ghost use Prim.Native.Nat.{_≤_};
 ghost use mathlib.Core.Path.{_≡_};
+ghost use lib.ListN.{length};
 ghost use Rattle.phrases.specs.Room.{putOf};
-ghost use Rattle.report.specs.Lines.{printed};
+ghost use Rattle.report.specs.Lines.{linesRoom, printed};
 ghost use Rattle.explained.specs.Explained.{explained};
 ghost use Rattle.tabled.specs.Figures.{figuresAnswer, figuresTold};
 ghost use Rattle.counted.specs.Counts.{judgeCall, countsJudged};
@@ -126,6 +128,7 @@ pub extern "C" fn niloferq_table52(country: u32, zone: u32, room: &mut [i32]) ->
 pub extern "C" fn niloferq_lines(bytes: &[u8], room: &mut [u8]) -> usize
     ensures { λ r. ⌜ r ≡ sizeOf (putOf (printed (now (bytes .entry))) (now (room .entry))) ⌝ }
     ensures { λ _. ⌜ now (room .exit) ≡ linesAfter (now (bytes .entry)) (now (room .entry)) ⌝ }
+    ensures { λ _. ⌜ length (printed (now (bytes .entry))) ≤ linesRoom ⌝ }
 {
     size_of(report::lines(bytes, room))
 }

@@ -1,11 +1,15 @@
 // Reads a return on standard input and prints why it was refused, or which rows weigh most.
+ghost use Prim.Native.Nat.{_≤_};
+ghost use lib.ListN.{length};
 use console::take;
 use explained::EXPLAIN_ROOM;
 use explained::explain_lines;
 use form::LONGEST;
 
 // Room of EXPLAIN_ROOM bytes is never too short for the text.
-fn print(bytes: &[u8], room: &mut [u8]) {
+fn print(bytes: &[u8], room: &mut [u8])
+    requires { ⌜ 300 ≤ length (now room) ⌝ }
+{
     let done = explain_lines(bytes, room);
     console::print(
         room,

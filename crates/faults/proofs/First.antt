@@ -1,5 +1,6 @@
 -- The fault that is named is so, and none before it in the sentence is. Assumes nothing.
 --     first-fault    of every block that rule 4 refuses
+--     faulty-bad     what is faulty is refused by rule 4
 use Prim.Native.Nat.{ℕ, _+_, _-_}
 use mathlib.Core.Path.{_≡_, refl, sym, ap, _∙_}
 use mathlib.Core.Bool.{Bool, true, false, cond, _||_, false≢true}
@@ -12,7 +13,7 @@ use Rattle.form.proofs.Search.{first-at, first-none}
 use Rattle.faults.specs.declared.Fault.{Fault}
 use Rattle.faults.specs.declared.Fault.the-variants.{Order, End, Fourth, Count, Unfilled, Overfilled}
 use Rattle.faults.specs.Faults.{strayByte, strayBy, strayFault, endsWrong, faultOf, Faulty, order, end, fourth, count, unfilled, overfilled, stray-byte}
-use Rattle.faults.proofs.Strays.{none-stray}
+use Rattle.faults.proofs.Strays.{none-stray, stray-there}
 
 three : (k x y z : Bool) → (k || x || y || z) ≡ (k || (x || y || z))
 three true x y z = refl
@@ -50,3 +51,16 @@ module _ (s : List ℕ) (b : ℕ) where
   pub first-fault : badBlock s b ≡ true → Faulty s b (faultOf s b)
   unfolding faultOf
   first-fault e = by-tests (kindFalls s b) (endsWrong s b) (fourthOfKind s b) (badCount s b) (notFilled s b) (overFilled s b) refl refl refl refl refl refl (sym grouped ∙ e)
+
+  pub faulty-bad : {f : Fault} → Faulty s b f → badBlock s b ≡ true
+  faulty-bad w = grouped ∙ by w
+    where
+      by : {f : Fault} → Faulty s b f
+          → (kindFalls s b || endsWrong s b || fourthOfKind s b || badCount s b || notFilled s b || overFilled s b || stray s b) ≡ true
+      by (order k) = rw k
+      by (end k e) = rw (k, e)
+      by (fourth k e f) = rw (k, e, f)
+      by (count k e f c) = rw (k, e, f, c)
+      by (unfilled k e f c n) = rw (k, e, f, c, n)
+      by (overfilled k e f c n o) = rw (k, e, f, c, n, o)
+      by (stray-byte k e f c n o i l t first) = rw (k, e, f, c, n, o, stray-there s b i l t)

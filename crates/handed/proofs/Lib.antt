@@ -1,3 +1,4 @@
-mod Reading
-mod Writing
+pub mod Reading
+pub mod Writing
+pub mod Calls
 pub mod Few

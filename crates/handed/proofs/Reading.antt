@@ -1,4 +1,4 @@
--- The ways out of reading from C. Assumes nothing.
+-- The ways out of reading from C; enough, where there is room for the counts, the rules of reading are left. Assumes nothing.
 use Prim.Native.Nat.{ℕ, zero, suc, _≤_, _<_}
 use mathlib.Core.Path.{_≡_, refl, sym, ap, _∙_}
 use mathlib.Core.List.{List, [], _∷_}
@@ -52,7 +52,7 @@ module _ (s room counts : List ℕ) where
       same zero l = le-ltb (length counts) (suc kinds) h ∙ sym (le-ltb (length room) (length (rows.areaTo s 0)) (omega (arith, need-none s)))
       same (suc k) l = refl
 
-  enough : suc kinds ≤ length counts → readCall s room counts ≡ ruling (rows.readRules s room)
+  pub enough : suc kinds ≤ length counts → readCall s room counts ≡ ruling (rows.readRules s room)
   enough h =
       ruling-append (rules s) (rule 9 (suc kinds) (shortAt s (length room) (length counts)) ∷ [])
       ∙ ap (orRule (ruling (rules s))) (rows-left h)

@@ -1,4 +1,4 @@
--- The ways out of writing from C. Assumes nothing.
+-- The ways out of writing from C; sized, where there is room for the size, the rules of writing are left. Assumes nothing.
 use Prim.Native.Nat.{ℕ, _≤_, _<_}
 use mathlib.Core.Path.{_≡_, refl, sym, ap, _∙_}
 use mathlib.Core.Bool.{Bool, true, false, _||_, or-true, or-false}
@@ -84,7 +84,7 @@ module _ (ed : ℕ) (area lengths : List ℕ) where
         rw (no-size room size h) (q ∙ no-size [] [] (lit< tt), (room-kept room u, size-kept size u))
 
     -- room for the size: the rule of the room for the blocks is left
-    sized : 1 ≤ length size → writeCall ed area lengths room size ≡ ruling (rows.writeRules ed lengths area room)
+    pub sized : 1 ≤ length size → writeCall ed area lengths room size ≡ ruling (rows.writeRules ed lengths area room)
     sized h = rw (le-ltb (length size) 1 h, or-false (ltb (length room) (length (rows.written ed (cut lengths area)))))
 
     pub written-out : (w : Written) {r : Ruling} {o z : List ℕ} → 1 ≤ length size → w ≡ rows.writeAnswer ed lengths area room → r ≡ rulingBy w

@@ -1,6 +1,7 @@
--- The names of fields, as words of one text. Assumes nothing.
+-- The names of fields and of kinds, as words of one text. Assumes nothing.
 --     word-fits      word i of a kind's names has at most 30 bytes
 --     word-named     where it was written, the name of field i was; no-name, another number has none
+--     kind-word      the kind's name, which kind-fits in 10 bytes
 use Prim.Native.Nat.{ℕ, zero, suc, _≤_}
 use mathlib.Core.Path.{_≡_, refl, sym, ap, subst}
 use mathlib.Core.Bool.{Bool, true, _&&_}
@@ -11,34 +12,35 @@ use lib.Dec.{leb}
 use lib.ListN.{length, getD}
 use Rattle.form.proofs.Tests.{and-true}
 use Rattle.decimal.specs.Digits.{WrittenAt}
+use Rattle.phrases.specs.Ascii.{codes}
 use Rattle.phrases.specs.Lines.{spaces, WrittenIn}
 use Rattle.phrases.specs.Words.{spacedOut, wordAt}
 use Rattle.phrases.proofs.LineTexts.{as-text}
 use Rattle.phrases.proofs.WordLaws.{word-is}
-use Rattle.naming.specs.Names.{fieldNames, namesOf, fieldName}
+use Rattle.naming.specs.Names.{fieldNames, namesOf, fieldName, kindNames, kindName}
 
 name-word : (k i : ℕ) → spaces (flatMap (λ (w : List ℕ). w) (namesOf k)) ≡ 0 → wordAt i (spacedOut (namesOf k)) ≡ fieldName k i
 name-word k i e = word-is (namesOf k) i e
 
-allShort : List (List ℕ) → Bool
-allShort [] = true
-allShort (w ∷ ws) = leb (length w) 30 && allShort ws
+allShort : ℕ → List (List ℕ) → Bool
+allShort n [] = true
+allShort n (w ∷ ws) = leb (length w) n && allShort n ws
 
-short-in : (ws : List (List ℕ)) → allShort ws ≡ true → (i : ℕ) → length (getD ws i []) ≤ 30
+short-in : (n : ℕ) (ws : List (List ℕ)) → allShort n ws ≡ true → (i : ℕ) → length (getD ws i []) ≤ n
 unfolding allShort
-short-in [] e i = omega arith
-short-in (w ∷ ws) e zero = leb-true (length w) 30 (and-true (leb (length w) 30) (allShort ws) e .0)
-short-in (w ∷ ws) e (suc i) = short-in ws (and-true (leb (length w) 30) (allShort ws) e .1) i
+short-in n [] e i = omega arith
+short-in n (w ∷ ws) e zero = leb-true (length w) n (and-true (leb (length w) n) (allShort n ws) e .0)
+short-in n (w ∷ ws) e (suc i) = short-in n ws (and-true (leb (length w) n) (allShort n ws) e .1) i
 
 allNames : List (List (List ℕ)) → Bool
 allNames [] = true
-allNames (n ∷ ns) = allShort n && allNames ns
+allNames (n ∷ ns) = allShort 30 n && allNames ns
 
 short-names : (ns : List (List (List ℕ))) → allNames ns ≡ true → (k i : ℕ) → length (getD (getD ns k []) i []) ≤ 30
 unfolding allNames
 short-names [] e k i = omega arith
-short-names (n ∷ ns) e zero i = short-in n (and-true (allShort n) (allNames ns) e .0) i
-short-names (n ∷ ns) e (suc k) i = short-names ns (and-true (allShort n) (allNames ns) e .1) k i
+short-names (n ∷ ns) e zero i = short-in 30 n (and-true (allShort 30 n) (allNames ns) e .0) i
+short-names (n ∷ ns) e (suc k) i = short-names ns (and-true (allShort 30 n) (allNames ns) e .1) k i
 
 short-name : (k i : ℕ) → length (fieldName k i) ≤ 30
 unfolding allNames allShort
@@ -63,3 +65,15 @@ no-name (suc (suc (suc (suc zero)))) i a b c d e f = absurd (d refl)
 no-name (suc (suc (suc (suc (suc zero))))) i a b c d e f = absurd (e refl)
 no-name (suc (suc (suc (suc (suc (suc zero)))))) i a b c d e f = absurd (f refl)
 no-name (suc (suc (suc (suc (suc (suc (suc k))))))) i a b c d e f = refl
+
+-- the kinds' names, with no name before the first
+abbrev pub kindText : List ℕ
+kindText = codes " conversion stock harvest parameters abandoned savanna "
+
+pub kind-word : (k : ℕ) → wordAt k kindText ≡ kindName k
+unfolding flatMap spaces
+kind-word k = word-is ([] ∷ kindNames) k refl
+
+pub kind-fits : (k : ℕ) → length (wordAt k kindText) ≤ 10
+unfolding allShort
+kind-fits k = omega (arith, short-in 10 ([] ∷ kindNames) refl k, ap length (kind-word k))

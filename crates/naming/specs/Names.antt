@@ -1,9 +1,9 @@
--- "field_name (in the paper's words, `_` for a space)": the names of each kind's fields, in the row's order, in ASCII.
+-- "field_name (in the paper's words, `_` for a space)": the names of each kind's fields, in the row's order, in ASCII; and the names of the kinds.
 use Prim.Native.Nat.{ℕ}
 use mathlib.Core.Path.{_≡_, refl}
 use mathlib.Core.List.{List, [], _∷_, map}
 use lib.ListN.{length, getD}
-use Rattle.form.specs.Layout.{Layout, layouts}
+use Rattle.form.specs.Layout.{Layout, layouts, kinds}
 use Rattle.phrases.specs.Ascii.{codes}
 
 -- 01: "id 4, area 4, before 2, after 2, on-site fraction 2, its oxidised fraction 2, its carbon fraction 2, the same three for off-site, ten-year area,
@@ -104,3 +104,23 @@ fieldName kind i = getD (namesOf kind) i []
 -- there are as many names as fields, of every kind
 each-named : map (λ (n : List (List ℕ)). length n) fieldNames ≡ map (λ (l : Layout). length l) layouts
 each-named = refl
+
+-- "1 conversion, 2 stock, 3 harvest, 4 parameters", 5 abandoned land, 6 savanna, each in a word. A new kind is a new line.
+abbrev pub kindNames : List (List ℕ)
+kindNames =
+    codes "conversion"
+    ∷ codes "stock"
+    ∷ codes "harvest"
+    ∷ codes "parameters"
+    ∷ codes "abandoned"
+    ∷ codes "savanna"
+    ∷ []
+
+-- the name of a kind; another number is no kind and has no name
+abbrev pub kindName : ℕ → List ℕ
+kindName kind = getD ([] ∷ kindNames) kind []
+
+-- every kind has one
+kinds-named : length kindNames ≡ kinds
+unfolding kinds
+kinds-named = refl

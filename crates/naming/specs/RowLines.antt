@@ -1,15 +1,35 @@
--- §7: the lines of a refusal behind its first, `name value` each, where a row is refused: the values that clash.
-use Prim.Native.Nat.{ℕ}
-use mathlib.Core.List.{List, [], _∷_}
+-- §7: the lines of a refusal behind its first, `name value` each, where a row is refused: which row it is, and the values that clash.
+use Prim.Native.Nat.{ℕ, _/_, _%_}
+use mathlib.Core.Bool.{cond}
+use mathlib.Core.List.{List, [], _∷_, _++_}
+use lib.Dec.{eqb}
+use Rattle.form.specs.Layout.{parametersKind}
 use Rattle.phrases.specs.Ascii.{codes}
 use Rattle.phrases.specs.Lines.{Line, numberLine}
+use Rattle.reasons.specs.declared.Row.{Row}
 use Rattle.reasons.specs.declared.Reason.{Reason}
 use Rattle.reasons.specs.declared.Reason.the-variants.{BadLength, BadCheck, BadHeader, BadBlock, IdBelow, FieldAbove, FractionsAbove}
-use Rattle.naming.specs.Names.{fieldName}
+use Rattle.naming.specs.Names.{fieldName, kindName}
 
 -- a name and a word
 abbrev pub wordLine : List ℕ → List ℕ → Line
 wordLine name word = record { name = name; value = word }
+
+-- 01: "A record's place is 12 times its block plus its position", so `block` and `row` are the place's two parts; `kind_name` is the kind of that block
+abbrev pub placeLines : Row → List Line
+placeLines w =
+    numberLine (codes "block") (w .place / 12)
+    ∷ numberLine (codes "row") (w .place % 12)
+    ∷ wordLine (codes "kind_name") (kindName (w .kind))
+    ∷ []
+
+-- `id`, of every kind but the parameters, which have none
+abbrev pub idLines : Row → List Line
+idLines w = cond (eqb (w .kind) parametersKind) [] (numberLine (codes "id") (w .id) ∷ [])
+
+-- which row it is: what every number of a row says first. Only 5 leaves the id to its own two lines
+abbrev pub namedLines : Row → List Line
+namedLines w = placeLines w ++ idLines w
 
 -- "`field` .., `field_name` .., `value`, `limit`"
 abbrev pub limitLines : ℕ → ℕ → ℕ → ℕ → List Line
@@ -31,8 +51,8 @@ rowLines (BadCheck b x y) = []
 rowLines (BadHeader b h n e) = []
 rowLines (BadBlock b h f) = []
 -- 5
-rowLines (IdBelow p x y) = numberLine (codes "id_before") x ∷ numberLine (codes "id") y ∷ []
+rowLines (IdBelow w x) = placeLines w ++ (numberLine (codes "id_before") x ∷ numberLine (codes "id") (w .id) ∷ [])
 -- 6: the first field above its limit
-rowLines (FieldAbove p k i v l) = limitLines k i v l
+rowLines (FieldAbove w i v l) = namedLines w ++ limitLines (w .kind) i v l
 -- 7: the fractions
-rowLines (FractionsAbove p n f d t) = fractionsLines n f d t
+rowLines (FractionsAbove w n f d t) = namedLines w ++ fractionsLines n f d t

@@ -1,9 +1,9 @@
-// The lines of a refused row: the values that clash, and the names of its fields.
+// The lines of a refused row: which row it is, and the values that clash, with the names of the kinds and of their fields.
 ghost use Prim.Native.Nat.{_+_, _≤_};
 ghost use lib.ListN.{length};
 ghost use Rattle.phrases.specs.Lines.{WrittenIn, linesText};
-ghost use Rattle.naming.specs.Names.{fieldName};
-ghost use Rattle.naming.specs.RowLines.{limitLines, fractionsLines, rowLines};
+ghost use Rattle.naming.specs.Names.{fieldName, kindName};
+ghost use Rattle.naming.specs.RowLines.{placeLines, namedLines, limitLines, fractionsLines, rowLines};
 use phrases::put_lines;
 use phrases::put_one;
 use phrases::put_two;
@@ -11,6 +11,7 @@ use phrases::put_word;
 use phrases::text::put;
 use phrases::text::put_byte;
 use reasons::Reason;
+use reasons::Row;
 
 // The name of a field, by its kind and its number. A new kind is a new line.
 fn put_field_name(kind: u32, i: usize, out: &mut [u8], at: usize) -> usize
@@ -46,10 +47,46 @@ fn put_field_name(kind: u32, i: usize, out: &mut [u8], at: usize) -> usize
     }
 }
 
+// The name of a kind. A new kind is a new word.
+fn put_kind_name(kind: u32, out: &mut [u8], at: usize) -> usize
+    requires { ⌜ at + 10 ≤ length (now out) ⌝ }
+    ensures { λ r. ⌜ WrittenIn 10 (kindName kind) (now (out .entry)) (now (out .exit)) at r ⌝ }
+{
+    put_word(
+        b" conversion stock harvest parameters abandoned savanna ",
+        kind as usize,
+        out,
+        at,
+    )
+}
+
+// Where a row stands: its block, its position there and its kind.
+fn put_place(row: Row, out: &mut [u8], at: usize) -> usize
+    requires { ⌜ at + 80 ≤ length (now out) ⌝ }
+    ensures { λ r. ⌜ WrittenIn 80 (linesText (placeLines row)) (now (out .entry)) (now (out .exit)) at r ⌝ }
+{
+    let a = put_two(b"block row ", row.place / 12, row.place % 12, out, at);
+    let b = put(b"kind_name ", 10, out, a);
+    let c = put_kind_name(row.kind, out, b);
+    put_byte(10, out, c)
+}
+
+// Which row it is: where it stands, and its id. The parameters have none.
+fn put_named(row: Row, out: &mut [u8], at: usize) -> usize
+    requires { ⌜ at + 110 ≤ length (now out) ⌝ }
+    ensures { λ r. ⌜ WrittenIn 110 (linesText (namedLines row)) (now (out .entry)) (now (out .exit)) at r ⌝ }
+{
+    let next = put_place(row, out, at);
+    if row.kind == 4 {
+        return next;
+    }
+    put_one(b"id ", row.id as u64, out, next)
+}
+
 // The field, its name, what it is and what it may be.
 fn put_limit(kind: u32, field: u32, value: u32, limit: u32, out: &mut [u8], at: usize) -> usize
-    requires { ⌜ at + 200 ≤ length (now out) ⌝ }
-    ensures { λ r. ⌜ WrittenIn 200 (linesText (limitLines kind field value limit)) (now (out .entry)) (now (out .exit)) at r ⌝ }
+    requires { ⌜ at + 130 ≤ length (now out) ⌝ }
+    ensures { λ r. ⌜ WrittenIn 130 (linesText (limitLines kind field value limit)) (now (out .entry)) (now (out .exit)) at r ⌝ }
 {
     let a = put_one(b"field ", field as u64, out, at);
     let b = put(b"field_name ", 11, out, a);
@@ -78,31 +115,35 @@ fn put_fractions(
     put_lines(b"onsite offsite decay sum ", &values, out, at)
 }
 
-// What clashes in a row, by the numbers of one row. A new number is a new line.
+// Which row it is and what clashes there, by the numbers of one row. A new number is a new line.
 pub fn put_row(reason: Reason, out: &mut [u8], at: usize) -> usize
-    requires { ⌜ at + 200 ≤ length (now out) ⌝ }
-    ensures { λ r. ⌜ WrittenIn 200 (linesText (rowLines reason)) (now (out .entry)) (now (out .exit)) at r ⌝ }
+    requires { ⌜ at + 240 ≤ length (now out) ⌝ }
+    ensures { λ r. ⌜ WrittenIn 240 (linesText (rowLines reason)) (now (out .entry)) (now (out .exit)) at r ⌝ }
 {
     match reason {
-        Reason::IdBelow {
-            record: _,
-            before,
-            id,
-        } => put_two(b"id_before id ", before, id, out, at),
+        Reason::IdBelow { row, before } => {
+            let next = put_place(row, out, at);
+            put_two(b"id_before id ", before, row.id, out, next)
+        }
         Reason::FieldAbove {
-            record: _,
-            kind,
+            row,
             field,
             value,
             limit,
-        } => put_limit(kind, field, value, limit, out, at),
+        } => {
+            let next = put_named(row, out, at);
+            put_limit(row.kind, field, value, limit, out, next)
+        }
         Reason::FractionsAbove {
-            record: _,
+            row,
             onsite,
             offsite,
             decay,
             sum,
-        } => put_fractions(onsite, offsite, decay, sum, out, at),
+        } => {
+            let next = put_named(row, out, at);
+            put_fractions(onsite, offsite, decay, sum, out, next)
+        }
         _ => at,
     }
 }

@@ -1,7 +1,7 @@
 -- DEMAND 1. "Every input of every length gets its answer, or one refusal number with its place, chosen by the paper's fixed order: for reading, for the sheets,
 -- for writing. A refusal carries no figures, and nothing lent has changed."
 use Prim.Native.Nat.{ℕ}
-use mathlib.Core.Path.{_≡_, refl, ap}
+use mathlib.Core.Path.{_≡_, refl, sym, ap, _∙_}
 use mathlib.Core.List.{List, [], _∷_, flatMap}
 use native.Mathlib.Omega.{arith}
 use lib.ListN.{length}
@@ -18,7 +18,8 @@ use Rattle.rows.specs.Writing.{written, writeRules, writtenBy, writeAnswer, byt
 use Rattle.rows.specs.declared.Written.the-variants as write
 use Rattle.worksheets.specs.Sheets.{byKind, figuresOf}
 use Rattle.worksheets.specs.declared.sheets.Figures.{Figures}
-use Rattle.worksheets.specs.Answers.{worked, refusal, outcomeBy, outcomeOf}
+use Rattle.worksheets.specs.Answers.{worked, refusal, outcomeBy, outcomeOf, said, answered}
+use Rattle.worksheets.specs.declared.sheets.Answer.{Answer}
 use Rattle.doubles.specs.Subtotals.{subtotalsOf, answerBy, answerOf}
 use Rattle.doubles.specs.declared.Answer.the-variants as doubles
 use Rattle.heaviest.specs.Heaviest.{heaviestBy, namedOf, heaviestRules, namedBy, heaviestAnswer}
@@ -37,7 +38,7 @@ use Rattle.offered.specs.Defaults.{defaultsCall, defaultsAfter}
 use Rattle.handed.specs.Rows.{readRulesC, readCall, rowsAfter, writeRulesC, writeCall, blocksAfter, sizeAfter}
 use Rattle.door.specs.Door.{codeOf}
 use Rattle.door.proofs.Codes.{judge-bounded, subtotal-bounded, heaviest-bounded, figures-bounded, defaults-bounded, read-bounded, write-bounded}
-use Rattle.steps.proofs.Told.{verdict-told, written-told, figures-told, doubles-told}
+use Rattle.steps.proofs.Told.{verdict-told, written-told, figures-told, doubles-told, said-back, answered-back}
 use Rattle.promises.specs.Order.{numbers, ByOrder, by-order, Coded, by-code}
 
 -- ---- the orders
@@ -77,10 +78,19 @@ pub read-by-order : (s room : List ℕ) → ByOrder (readRules s room) (λ n p. 
 unfolding readAnswer
 read-by-order s room = by-order (verdictBy s) (verdict-told s) (readRules s room)
 
--- figures: the sheets, or a refusal
-pub figures-by-order : (s : List ℕ) → ByOrder (rules s) (λ n p. outcomeOf s ≡ refusal n p) (outcomeOf s ≡ worked (figuresOf (byKind s)))
+-- figures: the sheets, or a refusal. "If an answer is an enum, a definition gives this paper's number and values for each of its cases. The promises use
+-- that definition": it is `said`, and what the answer, `answered (outcomeOf s)` by its contract, says is what 01 gives
+pub figures-say : (s : List ℕ) → said (answered (outcomeOf s)) ≡ outcomeOf s
+figures-say s = said-back (outcomeOf s)
+
+-- no other answer says the same
+pub say-one : (a b : Answer) → said a ≡ said b → a ≡ b
+say-one a b e = sym (answered-back a) ∙ ap answered e ∙ answered-back b
+
+pub figures-by-order : (s : List ℕ)
+    → ByOrder (rules s) (λ n p. said (answered (outcomeOf s)) ≡ refusal n p) (said (answered (outcomeOf s)) ≡ worked (figuresOf (byKind s)))
 unfolding verdictOf
-figures-by-order s = by-order (λ (u : Ruling). outcomeBy s (verdictBy s u)) (figures-told s) (rules s)
+figures-by-order s = rw (figures-say s) (by-order (λ (u : Ruling). outcomeBy s (verdictBy s u)) (figures-told s) (rules s))
 
 -- subtotals: the three doubles, or a refusal
 pub subtotals-by-order : (s : List ℕ) → ByOrder (rules s) (λ n p. answerOf s ≡ doubles.Refused n p) (answerOf s ≡ doubles.Figures (subtotalsOf (rows 1 s)))

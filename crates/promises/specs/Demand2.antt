@@ -173,7 +173,11 @@ pub record WritesBack (s : List ℕ) (edition : ℕ) (lengths rows room : List �
   pub done : writeAnswer edition lengths rows room ≡ Done (length s)
   pub front : bytesAfter edition lengths rows room (Done (length s)) ≡ onFront s room
 
-pub read-writes-back : (s : List ℕ) → ((i : ℕ) → i < length s → byteAt s i < 256) → (room : List ℕ) (c : Counts) → readAnswer s room ≡ Accepted c
+-- The definitions speak of lists of any numbers, so it is said that these are bytes; of what is lent as `&[u8]` that is known (Lent).
+abbrev pub Bytes : List ℕ → Type 0
+Bytes s = (i : ℕ) → i < length s → byteAt s i < 256
+
+pub read-writes-back : (s : List ℕ) → Bytes s → (room : List ℕ) (c : Counts) → readAnswer s room ≡ Accepted c
     → (bytes : List ℕ) → length s ≤ length bytes → WritesBack s (c .edition) (lengthsOf c) (leftBehind s room c) bytes
 read-writes-back s small room c read bytes long = record {
   done = write-done s room c read small bytes long;

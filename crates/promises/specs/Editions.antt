@@ -1,22 +1,23 @@
 -- "Edition 1 returns read as before": for edition 1 each rule that the request for abandoned land changed says what 01 says, and nothing else is in the answer.
-use Prim.Native.Nat.{ℕ, _≤_}
+use Prim.Native.Nat.{ℕ, _≤_, _<_}
 use mathlib.Core.Path.{_≡_}
+use mathlib.Core.Bool.{false}
 use mathlib.Core.List.{List, _++_}
 use lib.ListN.{length}
 use Rattle.form.specs.Ruling.{ruling}
-use Rattle.form.specs.Block.{edition}
+use Rattle.form.specs.Block.{blocks, edition, badLength, badCheck, badHeader}
 use Rattle.form.specs.Records.{filed}
 use Rattle.form.specs.Sums.{sumRules}
 use Rattle.form.specs.Verdict.{rules, verdictOf}
 use Rattle.form.specs.FirstEdition.{rules01}
 use Rattle.form.specs.declared.Counts.{Counts}
-use Rattle.form.specs.declared.Verdict.the-variants.{Accepted}
-use Rattle.standing.proofs.FirstEdition.{as-before, ten-blocks}
+use Rattle.form.specs.declared.Verdict.the-variants.{Accepted, Refused}
+use Rattle.standing.proofs.FirstEdition.{as-before}
 use Rattle.totals.specs.Masses.{carbon}
 use Rattle.units.specs.Columns.{co2}
 use Rattle.burning.specs.Gases.{gas}
 use Rattle.worksheets.specs.Sheets.{byKind, figuresOf}
-use Rattle.steps.proofs.Editions.{edition-told, no-land, no-uptake, no-savanna, no-fire}
+use Rattle.steps.proofs.Editions.{edition-told, ten-blocks, above-ten, no-land, no-uptake, no-savanna, no-fire}
 
 -- the answer tells the edition, which stands in block 0
 pub tells-edition : (s : List ℕ) (c : Counts) → verdictOf s ≡ Accepted c → c .edition ≡ edition s 0
@@ -26,7 +27,13 @@ tells-edition = edition-told
 pub first-as-before : (s : List ℕ) → edition s 0 ≡ 1 → length s ≤ 5120 → ruling (rules s) ≡ ruling (rules01 s ++ sumRules (filed s))
 first-as-before = as-before
 
--- "4 then stops an edition 1 return above ten"
+-- "4 then stops an edition 1 return above ten": one that 1 to 3 let pass is refused by 4
+pub first-above-ten : (s : List ℕ) → edition s 0 ≡ 1 → 10 < blocks s → badLength s ≡ false
+    → ((b : ℕ) → b < blocks s → badCheck s b ≡ false) → ((b : ℕ) → b < blocks s → badHeader s b ≡ false)
+    → (place : ℕ) × (verdictOf s ≡ Refused 4 place)
+first-above-ten s one more length-kept checks headers = above-ten s one length-kept checks headers more
+
+-- so none is accepted
 pub first-ten-blocks : (s : List ℕ) → edition s 0 ≡ 1 → (c : Counts) → verdictOf s ≡ Accepted c → length s ≤ 5120
 first-ten-blocks = ten-blocks
 

@@ -1,8 +1,10 @@
 -- §7. "A small tool takes a return and says, for a refusal, the number, the place and the values that clash .. Values that stand in the return are proved to be those at that place,
 -- a computed one to follow its rule in 01, and no earlier number, or lower place under that number, to be at fault."
-use Prim.Native.Nat.{ℕ}
-use mathlib.Core.Path.{_≡_, ap}
+use Prim.Native.Nat.{ℕ, _≤_}
+use mathlib.Core.Path.{_≡_, refl, ap}
 use mathlib.Core.List.{List, _++_}
+use borrow.Author.Tests.{le-ltb}
+use lib.ListN.{length, drop}
 use Rattle.form.specs.Ruling.{ruling}
 use Rattle.form.specs.Verdict.{rules, verdictOf}
 use Rattle.form.specs.declared.Counts.{Counts}
@@ -15,7 +17,9 @@ use Rattle.heaviest.specs.Largest.{Weighs}
 use Rattle.standing.proofs.Accepted.{formed}
 use Rattle.heaviest.proofs.Largest.{onsite-weighs, offsite-weighs, decay-weighs}
 use Rattle.phrases.specs.Lines.{refusedLine, linesText}
-use Rattle.reasons.specs.Reasons.{reasonOf}
+use Rattle.phrases.specs.Room.{putOf, textAfter}
+use Rattle.phrases.specs.declared.Put.the-variants.{Done}
+use Rattle.reasons.specs.Reasons.{refusalOf, reasonOf}
 use Rattle.reasons.specs.Explains.{Explains}
 use Rattle.faults.specs.declared.Fault.the-variants.{Fourth}
 use Rattle.reasons.specs.declared.Header.{Header}
@@ -24,7 +28,11 @@ use Rattle.reasons.specs.declared.Reason.the-variants.{BadBlock}
 use Rattle.wording.specs.Wording.{valueLines}
 use Rattle.explained.specs.Explained.{explanationOf, rulingOf, weightsLines, explainedText, explained}
 use Rattle.explained.specs.declared.Explanation.the-variants.{Accepted, Refused}
-use Rattle.explained.proofs.Laws.{accepted-explained, ruling-explained, refused-text, values-stand, fourth-never}
+use Rattle.explained.proofs.Laws.{accepted-explained, ruling-explained, refused-explained, refused-text, values-stand, fourth-never}
+use Rattle.reasons.proofs.Explains.{reason-told}
+use Rattle.reasons.proofs.Unexplained.{unexplained}
+use Rattle.door.specs.Door.{sizeOf}
+use Rattle.door.specs.Explain.{explainAfter}
 use Rattle.promises.specs.Order.{ByOrder, by-order}
 
 -- the number and the place of an explanation are chosen by the order of the sheets' rules: "no earlier number, or lower place under that number", is at fault
@@ -55,9 +63,39 @@ explained-rows s c e =
     let f = formed s c e in
     record { named = accepted-explained s e; onsite-row = onsite-weighs s c f; offsite-row = offsite-weighs s c f; decay-row = decay-weighs s c f }
 
--- the text: "first `refused NUMBER PLACE` as `sheets` does", then the lines of the values; or the lines of the three rows
-pub explained-refusal : (s : List ℕ) (n p : ℕ) → verdictOf s ≡ verdict.Refused n p → explained s ≡ refusedLine n p ++ linesText (valueLines (reasonOf s n p))
-explained-refusal s n p e = refused-text s e
+-- the text of a refusal, "first `refused NUMBER PLACE` as `sheets` does": there is a reason that is so of these bytes, its number and its place are the
+-- verdict's, and behind the first line the text is that reason's lines
+pub record Told (s : List ℕ) (n p : ℕ) : Type 0 where
+  pub reason : Reason
+  pub so : Explains s reason
+  pub given : refusalOf reason ≡ Broken n p
+  pub text : explained s ≡ refusedLine n p ++ linesText (valueLines reason)
 
+pub explained-refusal : (s : List ℕ) (n p : ℕ) → verdictOf s ≡ verdict.Refused n p → Told s n p
+explained-refusal s n p e = record {
+  reason = reasonOf s n p;
+  so = values-stand s (reasonOf s n p) (refused-explained s e);
+  given = reason-told s e;
+  text = refused-text s e;
+}
+
+-- and none is so of an accepted return
+pub accepted-unexplained : (s : List ℕ) (c : Counts) → verdictOf s ≡ verdict.Accepted c → (r : Reason) → Explains s r → ⊥
+accepted-unexplained s c e r w = unexplained s e w
+
+-- or the lines of the three rows
 pub explained-heaviest : (s : List ℕ) (c : Counts) → verdictOf s ≡ verdict.Accepted c → explained s ≡ linesText (weightsLines (heaviestOf s))
 explained-heaviest s c e = ap explainedText (accepted-explained s e)
+
+-- whatever the text is, the contracts of `explain_lines` and of `niloferq_explain` put it into room that is long enough: its length is answered, and it
+-- stands at the front
+pub record InRoom (s room : List ℕ) : Type 0 where
+  pub answer : putOf (explained s) room ≡ Done (length (explained s))
+  pub after : textAfter (explained s) room (putOf (explained s) room) ≡ explained s ++ drop (length (explained s)) room
+  pub answer-in-C : sizeOf (putOf (explained s) room) ≡ length (explained s)
+  pub after-in-C : explainAfter s room ≡ explained s ++ drop (length (explained s)) room
+
+pub explained-in-room : (s room : List ℕ) → length (explained s) ≤ length room → InRoom s room
+explained-in-room s room l =
+    let e = le-ltb (length room) (length (explained s)) l in
+    record { answer = rw e refl; after = rw e refl; answer-in-C = rw e refl; after-in-C = rw e refl }

@@ -4,6 +4,8 @@
 --     Rounding    what it is that a tonne is rounded to the nearest, a half to the even neighbour
 --     Demand2     the figures are the workbook's columns, rounded once; rows written read back, and a return read is written again to the same bytes
 --     Demand3     each subtotal's double is as near as 01 says
+--     FromC       what success leaves in memory that is lent from C, and demands 2 and 3 of it
+--     Lent        what is lent as `&[u8]` is bytes, so that the round trips ask nothing of running code
 --     Editions    edition 1 returns are read as before
 --     Adding      the check is the last total of a department's adding sheet
 --     Table52     a lookup answers the printed entry of table 5-2, or which number is off it
@@ -18,6 +20,8 @@ pub mod Demand1
 pub mod Rounding
 pub mod Demand2
 pub mod Demand3
+pub mod FromC
+pub mod Lent
 pub mod Editions
 pub mod Adding
 pub mod Table52

@@ -2,21 +2,22 @@
 --     explains       its values are those at the place, by the rule that is broken there
 --     reason-told    its number and its place are the refusal's
 --     no-fourth      a block that is refused is never told to be the fourth of its kind
-use Prim.Native.Nat.{ℕ, _<_}
+use Prim.Native.Nat.{ℕ, _*_, _/_, _%_, _<_}
 use mathlib.Core.Path.{_≡_, refl, sym, ap, ap₂, subst, _∙_}
-use mathlib.Core.Bool.{false}
+use mathlib.Core.Bool.{true, false}
 use mathlib.Core.List.{List}
 use native.Mathlib.Omega.{arith}
 use borrow.Author.Tests.{ltb-true, eqb-true, eqb-false, not-true}
 use lib.Dec.{eqb}
 use lib.ListN.{length}
 use Rattle.form.specs.Layout.{layout}
-use Rattle.form.specs.Block.{blocks, badCheck, checkSaid, checkDue, badBlock}
+use Rattle.form.specs.Block.{blocks, recordAt, badCheck, checkSaid, checkDue, badBlock}
 use Rattle.form.specs.Records.{filed, brokenBy, overspent}
 use Rattle.form.specs.Verdict.{verdictOf}
 use Rattle.form.specs.declared.Ruling.the-variants.{Broken}
 use Rattle.form.specs.declared.Verdict.the-variants.{Refused}
 use Rattle.form.proofs.Tests.{and-true, either}
+use Rattle.form.proofs.Tables.{id-number}
 use Rattle.faults.specs.declared.Fault.the-variants.{Fourth}
 use Rattle.faults.specs.Faults.{faultOf, Faulty, fourth}
 use Rattle.faults.proofs.First.{first-fault}
@@ -25,11 +26,11 @@ use Rattle.reasons.specs.declared.Header.{Header}
 use Rattle.reasons.specs.declared.Reason.{Reason}
 use Rattle.reasons.specs.declared.Reason.the-variants.{BadLength, BadBlock}
 use Rattle.reasons.specs.Above.{aboveFrom}
-use Rattle.reasons.specs.Reasons.{refusalOf, checkReason, headerReason, blockReason, idReason, limitReason, fractionsReason, reasonOf}
-use Rattle.reasons.specs.Explains.{Explains, length-1, check-2, header-3, block-4, ids-5, field-6, fractions-7}
+use Rattle.reasons.specs.Reasons.{refusalOf, checkReason, headerReason, blockReason, rowNamed, idReason, limitReason, fractionsReason, reasonOf}
+use Rattle.reasons.specs.Explains.{RowStands, Explains, length-1, check-2, header-3, block-4, ids-5, field-6, fractions-7}
 use Rattle.reasons.proofs.Above.{above-there}
-use Rattle.reasons.proofs.Rows.{id-parts, id-order}
-use Rattle.reasons.proofs.Refused.{at-length, at-check, at-header, at-block, at-id, at-field, at-fractions, last-number}
+use Rattle.reasons.proofs.Rows.{id-used, id-parts, id-order, row-stands}
+use Rattle.reasons.proofs.Refused.{at-length, at-check, at-header, at-block, at-id, at-field, at-fractions, last-number, known-kinds}
 
 module _ (s : List ℕ) {n p : ℕ} (e : verdictOf s ≡ Refused n p) where
   -- what is shown of the reason of each number is so of the refusal's
@@ -44,6 +45,10 @@ module _ (s : List ℕ) {n p : ℕ} (e : verdictOf s ≡ Refused n p) where
       either P (eqb n 5) (λ q. five (eqb-true n 5 q)) (λ f.
       either P (eqb n 6) (λ q. six (eqb-true n 6 q)) (λ g. seven (last-number s e a b c d f g)))))))
 
+  -- the row that a number behind 3 names
+  row-of : {m : ℕ} → n ≡ m → 3 < m → p < 12 * blocks s → filed s .used p ≡ true → RowStands s (rowNamed s p)
+  row-of q d i u = row-stands s p i u (known-kinds s e (omega (arith, q, d)) p i)
+
   pub explains : Explains s (reasonOf s n p)
   unfolding badCheck brokenBy
   explains =
@@ -52,15 +57,22 @@ module _ (s : List ℕ) {n p : ℕ} (e : verdictOf s ≡ Refused n p) where
       (λ q. let w = at-check s e q in check-2 p (w .inside) (eqb-false (checkSaid s p) (checkDue s p) (not-true (eqb (checkSaid s p) (checkDue s p)) (w .broken))))
       (λ q. let w = at-header s e q in header-3 p (w .inside) (w .broken))
       (λ q. let w = at-block s e q in block-4 p (faultOf s p) (w .inside) (first-fault s p (w .broken)))
-      (λ q. let w = at-id s e q in let i = id-parts (filed s) p (w .broken) in ids-5 p (w .inside) (i .1) (i .0) (i .2) (id-order (filed s) p (w .broken)))
+      (λ q.
+      let w = at-id s e q in
+      let i = id-parts (filed s) p (w .broken) in
+      let id = id-number (filed s .kind p) s (recordAt (p / 12) (p % 12)) (i .0) in
+      let row = row-of q (omega arith) (w .inside) (id-used (filed s) p (w .broken)) in
+      ids-5 (rowNamed s p) row (i .1) (i .0) (i .2) (omega (arith, id, id-order (filed s) p (w .broken))))
       (λ q.
       let w = at-field s e q in
       let k = layout (filed s .kind p) in
-      field-6 p (aboveFrom 0 k (filed s .row p)) (w .inside) (above-there k (filed s .row p) (and-true (filed s .used p) _ (w .broken) .1)))
+      let b = and-true (filed s .used p) _ (w .broken) in
+      field-6 (rowNamed s p) (aboveFrom 0 k (filed s .row p)) (row-of q (omega arith) (w .inside) (b .0)) (above-there k (filed s .row p) (b .1)))
       (λ q.
       let w = at-fractions s e q in
-      let b = and-true (eqb (filed s .kind p) 1) (overspent (filed s .row p)) (and-true (filed s .used p) _ (w .broken) .1) in
-      fractions-7 p (w .inside) (eqb-true (filed s .kind p) 1 (b .0)) (ltb-true 1000 _ (b .1)))
+      let u = and-true (filed s .used p) _ (w .broken) in
+      let b = and-true (eqb (filed s .kind p) 1) (overspent (filed s .row p)) (u .1) in
+      fractions-7 (rowNamed s p) (row-of q (omega arith) (w .inside) (u .0)) (eqb-true (filed s .kind p) 1 (b .0)) (ltb-true 1000 _ (b .1)))
 
   pub reason-told : refusalOf (reasonOf s n p) ≡ Broken n p
   reason-told =

@@ -2,3 +2,4 @@ mod Above
 mod Rows
 mod Refused
 pub mod Explains
+pub mod Unexplained

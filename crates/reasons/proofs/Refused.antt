@@ -1,19 +1,32 @@
 -- What a refusal says of its place, by its number: the rule's place, broken there and at no lower one. Assumes nothing.
 --     at-length to at-fractions    for each number; a new number is a new entry
 --     last-number                  a number that is none of 1 to 6 is 7
-use Prim.Native.Nat.{ℕ, _*_}
+--     known-kinds                  behind number 3 every record is of a kind that there is
+use Prim.Native.Nat.{ℕ, _*_, _/_, _<_, _≤_}
 use mathlib.Core.Path.{_≡_, sym, _∙_}
 use mathlib.Core.Bool.{false, or-false}
 use mathlib.Core.List.{List}
+use native.Mathlib.Omega.{arith}
 use borrow.Author.Tests.{eqb-true}
 use lib.Dec.{eqb}
 use Rattle.form.specs.Ruling.{rule}
+use Rattle.form.specs.Layout.{kinds}
 use Rattle.form.specs.Block.{blocks, edition, badLength, badCheck, badHeader, badBlock}
 use Rattle.form.specs.Records.{filed, badId, brokenBy, fieldAbove, fractionsAbove}
-use Rattle.form.specs.Verdict.{blockRules, verdictOf}
+use Rattle.form.specs.Verdict.{blockRules, rules, verdictOf}
 use Rattle.form.specs.declared.Verdict.the-variants.{Refused}
-use Rattle.form.proofs.Order.{BrokenAt}
-use Rattle.form.proofs.Meaning.{broken-at, given-number}
+use Rattle.form.proofs.Order.{Kept, Least, this, later, BrokenAt}
+use Rattle.form.proofs.Meaning.{refused, broken-at, given-number}
+use Rattle.form.proofs.EachKind.{last-kinds}
+use Rattle.standing.proofs.Stand.{headed}
+
+-- no header is at fault where a later rule is
+headers-kept : (s : List ℕ) {n p : ℕ} → Least (rules s) n p → 3 < n → (b : ℕ) → b < blocks s → badHeader s b ≡ false
+unfolding blockRules Kept
+headers-kept s (this l e h) d b i = absurd (omega arith)
+headers-kept s (later k (this l e h)) d b i = absurd (omega arith)
+headers-kept s (later k (later m (this l e h))) d b i = absurd (omega arith)
+headers-kept s (later k (later m (later g t))) d b i = g b i
 
 module _ (s : List ℕ) {n p : ℕ} (e : verdictOf s ≡ Refused n p) where
   pub at-length : n ≡ 1 → BrokenAt (rule 1 1 (λ q. badLength s)) p
@@ -47,3 +60,8 @@ module _ (s : List ℕ) {n p : ℕ} (e : verdictOf s ≡ Refused n p) where
   pub last-number : eqb n 1 ≡ false → eqb n 2 ≡ false → eqb n 3 ≡ false → eqb n 4 ≡ false → eqb n 5 ≡ false → eqb n 6 ≡ false → n ≡ 7
   unfolding blockRules
   last-number a b c d f g = eqb-true n 7 (sym (or-false (eqb n 7)) ∙ rw (a, b, c, d, f, g) at (given-number s n p e))
+
+  pub known-kinds : 3 < n → (j : ℕ) → j < 12 * blocks s → (0 < filed s .kind j) × (filed s .kind j ≤ kinds)
+  known-kinds d j i =
+      let h = headed s (j / 12) (headers-kept s (refused s n p .0 e) d (j / 12) (omega arith)) in
+      (omega (arith, h .low), omega (arith, h .high, last-kinds (edition s (j / 12))))

@@ -4,16 +4,26 @@ use mathlib.Core.Path.{_≡_}
 use mathlib.Core.Bool.{true}
 use mathlib.Core.List.{List}
 use lib.ListN.{length}
-use Rattle.form.specs.Layout.{layout}
+use Rattle.form.specs.Layout.{kinds, parametersKind, layout}
 use Rattle.form.specs.Block.{blocks, edition, checkSaid, checkDue, badLength, badHeader}
 use Rattle.form.specs.Records.{filed, hasId, idOf, onsite, offsite, decay}
 use Rattle.faults.specs.declared.Fault.{Fault}
 use Rattle.faults.specs.Faults.{Faulty}
 use Rattle.reasons.specs.declared.records.Above.{Above}
+use Rattle.reasons.specs.declared.Row.{Row}
 use Rattle.reasons.specs.declared.Reason.{Reason}
 use Rattle.reasons.specs.declared.Reason.the-variants.{BadLength, BadCheck, BadHeader, BadBlock, IdBelow, FieldAbove, FractionsAbove}
 use Rattle.reasons.specs.Above.{FirstAbove}
 use Rattle.reasons.specs.Reasons.{headerOf}
+
+-- the row that a reason names: its place holds a record, of a kind that there is; its kind is that record's, and its id too, but for the parameters, which
+-- have none
+pub record RowStands (s : List ℕ) (w : Row) : Type 0 where
+  pub inside : w .place < 12 * blocks s
+  pub used-there : filed s .used (w .place) ≡ true
+  pub kind-there : w .kind ≡ filed s .kind (w .place)
+  pub known-kind : (0 < w .kind) × (w .kind ≤ kinds)
+  pub id-there : (w .kind ≡ parametersKind → ⊥) → w .id ≡ idOf (filed s .row (w .place))
 
 -- a case for each number
 pub data Explains (s : List ℕ) : Reason → Type 0 where
@@ -26,12 +36,13 @@ pub data Explains (s : List ℕ) : Reason → Type 0 where
   -- 4: the header as it stands, and the block's first fault
   block-4 : (b : ℕ) (f : Fault) → b < blocks s → Faulty s b f → Explains s (BadBlock b (headerOf s b) f)
   -- 5: the two ids, of records of one kind, one behind the other
-  ids-5 : (p : ℕ) → p < 12 * blocks s → 0 < p → hasId (filed s .kind p) ≡ true → filed s .kind (p - 1) ≡ filed s .kind p
-      → idOf (filed s .row p) ≤ idOf (filed s .row (p - 1)) → Explains s (IdBelow p (idOf (filed s .row (p - 1))) (idOf (filed s .row p)))
+  ids-5 : (w : Row) → RowStands s w → 0 < w .place → hasId (w .kind) ≡ true → filed s .kind (w .place - 1) ≡ w .kind
+      → w .id ≤ idOf (filed s .row (w .place - 1)) → Explains s (IdBelow w (idOf (filed s .row (w .place - 1))))
   -- 6: the first field above its limit
-  field-6 : (p : ℕ) (a : Above) → p < 12 * blocks s → FirstAbove (layout (filed s .kind p)) (filed s .row p) a
-      → Explains s (FieldAbove p (filed s .kind p) (a .field) (a .value) (a .limit))
+  field-6 : (w : Row) (a : Above) → RowStands s w → FirstAbove (layout (w .kind)) (filed s .row (w .place)) a
+      → Explains s (FieldAbove w (a .field) (a .value) (a .limit))
   -- 7: the fractions of a conversion row, and their sum above 1,000
-  fractions-7 : (p : ℕ) → p < 12 * blocks s → filed s .kind p ≡ 1 → 1000 < onsite (filed s .row p) + offsite (filed s .row p) + decay (filed s .row p)
-      → Explains s (FractionsAbove p (onsite (filed s .row p)) (offsite (filed s .row p)) (decay (filed s .row p))
-      (onsite (filed s .row p) + offsite (filed s .row p) + decay (filed s .row p)))
+  fractions-7 : (w : Row) → RowStands s w → w .kind ≡ 1
+      → 1000 < onsite (filed s .row (w .place)) + offsite (filed s .row (w .place)) + decay (filed s .row (w .place))
+      → Explains s (FractionsAbove w (onsite (filed s .row (w .place))) (offsite (filed s .row (w .place))) (decay (filed s .row (w .place)))
+      (onsite (filed s .row (w .place)) + offsite (filed s .row (w .place)) + decay (filed s .row (w .place))))

@@ -1,18 +1,20 @@
 -- §7. "says, for a refusal, the number, the place and the values that clash: the length, stored and computed check, the block's header or non-zero byte, the two ids,
 -- the field and its limit, the sum of the fractions."
-use Prim.Native.Nat.{ℕ, _+_, _-_}
+use Prim.Native.Nat.{ℕ, _+_, _-_, _/_, _%_}
 use mathlib.Core.Bool.{cond}
 use mathlib.Core.List.{List}
 use lib.ListN.{length}
 use lib.Dec.{eqb}
+use Rattle.form.specs.Bytes.{number}
 use Rattle.form.specs.Layout.{layout}
-use Rattle.form.specs.Block.{blocks, kindOf, countOf, blockNumber, blocksSaid, edition, checkSaid, checkDue}
+use Rattle.form.specs.Block.{blocks, kindOf, countOf, blockNumber, blocksSaid, edition, recordAt, checkSaid, checkDue}
 use Rattle.form.specs.Records.{filed, idOf, onsite, offsite, decay}
 use Rattle.form.specs.declared.Ruling.{Ruling}
 use Rattle.form.specs.declared.Ruling.the-variants.{Broken}
 use Rattle.faults.specs.Faults.{faultOf}
 use Rattle.reasons.specs.declared.records.Above.{Above}
 use Rattle.reasons.specs.declared.Header.{Header}
+use Rattle.reasons.specs.declared.Row.{Row}
 use Rattle.reasons.specs.declared.Reason.{Reason}
 use Rattle.reasons.specs.declared.Reason.the-variants.{BadLength, BadCheck, BadHeader, BadBlock, IdBelow, FieldAbove, FractionsAbove}
 use Rattle.reasons.specs.Above.{aboveFrom}
@@ -23,9 +25,9 @@ refusalOf (BadLength n) = Broken 1 0
 refusalOf (BadCheck b x y) = Broken 2 b
 refusalOf (BadHeader b h n e) = Broken 3 b
 refusalOf (BadBlock b h f) = Broken 4 b
-refusalOf (IdBelow p x y) = Broken 5 p
-refusalOf (FieldAbove p k i v l) = Broken 6 p
-refusalOf (FractionsAbove p n f d t) = Broken 7 p
+refusalOf (IdBelow w x) = Broken 5 (w .place)
+refusalOf (FieldAbove w i v l) = Broken 6 (w .place)
+refusalOf (FractionsAbove w n f d t) = Broken 7 (w .place)
 
 -- the header of block b, as it stands there
 abbrev pub headerOf : List ℕ → ℕ → Header
@@ -43,23 +45,28 @@ headerReason s b = BadHeader b (headerOf s b) (blocks s) (edition s 0)
 abbrev pub blockReason : List ℕ → ℕ → Reason
 blockReason s b = BadBlock b (headerOf s b) (faultOf s b)
 
--- 5: the id of the record one place lower, and that at the place
+-- the row at a place, which each number of a row names: the kind of its block, and the four bytes at the front of its record. These are its id; the parameters
+-- have none there (`RowStands`)
+abbrev pub rowNamed : List ℕ → ℕ → Row
+rowNamed s p = record { place = p; kind = filed s .kind p; id = number 4 s (recordAt (p / 12) (p % 12)) }
+
+-- 5: the row, whose id is one of the two, and the id of the record one place lower
 abbrev pub idReason : List ℕ → ℕ → Reason
-idReason s p = IdBelow p (idOf (filed s .row (p - 1))) (idOf (filed s .row p))
+idReason s p = IdBelow (rowNamed s p) (idOf (filed s .row (p - 1)))
 
 -- 6: the first field above its limit
-abbrev pub limitBy : ℕ → ℕ → Above → Reason
-limitBy p kind a = FieldAbove p kind (a .field) (a .value) (a .limit)
+abbrev pub limitBy : Row → Above → Reason
+limitBy w a = FieldAbove w (a .field) (a .value) (a .limit)
 
 abbrev pub limitReason : List ℕ → ℕ → Reason
-limitReason s p = limitBy p (filed s .kind p) (aboveFrom 0 (layout (filed s .kind p)) (filed s .row p))
+limitReason s p = limitBy (rowNamed s p) (aboveFrom 0 (layout (filed s .kind p)) (filed s .row p))
 
 -- 7: the three fractions and their sum
-abbrev pub fractionsBy : ℕ → List ℕ → Reason
-fractionsBy p r = FractionsAbove p (onsite r) (offsite r) (decay r) (onsite r + offsite r + decay r)
+abbrev pub fractionsBy : Row → List ℕ → Reason
+fractionsBy w r = FractionsAbove w (onsite r) (offsite r) (decay r) (onsite r + offsite r + decay r)
 
 abbrev pub fractionsReason : List ℕ → ℕ → Reason
-fractionsReason s p = fractionsBy p (filed s .row p)
+fractionsReason s p = fractionsBy (rowNamed s p) (filed s .row p)
 
 -- the values that clash where number n is given at place p. A new number is a new line.
 unfoldable pub reasonOf : List ℕ → ℕ → ℕ → Reason

@@ -27,7 +27,14 @@ pub struct Header {
     pub edition: u32,
 }
 
-// The values that clash, a case for each refusal number. A new number is a new case.
+// The row that a refusal names: its place, its kind, and what stands where its id does.
+pub struct Row {
+    pub place: u32,
+    pub kind: u32,
+    pub id: u32,
+}
+
+// The values that clash, a case for each refusal number. A new number is a new case; one of a row has the row first.
 pub enum Reason {
     BadLength {
         length: usize,
@@ -49,19 +56,17 @@ pub enum Reason {
         fault: Fault,
     },
     IdBelow {
-        record: u32,
+        row: Row,
         before: u32,
-        id: u32,
     },
     FieldAbove {
-        record: u32,
-        kind: u32,
+        row: Row,
         field: u32,
         value: u32,
         limit: u32,
     },
     FractionsAbove {
-        record: u32,
+        row: Row,
         onsite: u32,
         offsite: u32,
         decay: u32,

@@ -7,8 +7,9 @@ ghost use Rattle.form.specs.Layout.{layout, rowAt};
 ghost use Rattle.form.specs.Block.{blocks};
 ghost use Rattle.form.specs.Records.{filed, badId};
 ghost use Rattle.reasons.specs.Above.{aboveFrom};
-ghost use Rattle.reasons.specs.Reasons.{idReason, limitReason, fractionsReason};
+ghost use Rattle.reasons.specs.Reasons.{rowNamed, idReason, limitReason, fractionsReason};
 use crate::Reason;
+use crate::Row;
 use form::byte_at;
 use form::four_at;
 use form::layout::field;
@@ -24,17 +25,24 @@ pub struct Above {
     pub limit: u32,
 }
 
+// The row at a place, as every number of a row names it.
+fn row_named(bytes: &[u8], place: u32) -> Row
+    requires { ⌜ place < 12 * blocks (now bytes) ⌝ }
+    ensures { λ r. ⌜ r ≡ rowNamed (now (bytes .entry)) place ⌝ }
+{
+    let kind = byte_at(bytes, 512 * (place / 12) as usize);
+    let id = four_at(bytes, row_start(0, place as usize));
+    Row { place, kind, id }
+}
+
 // 5: the id before stands one place lower.
 pub fn id_below(bytes: &[u8], place: u32) -> Reason
     requires { ⌜ (place < 12 * blocks (now bytes)) × (badId (filed (now bytes)) place ≡ true) ⌝ }
     ensures { λ r. ⌜ r ≡ idReason (now (bytes .entry)) place ⌝ }
 {
-    let i = place as usize;
-    Reason::IdBelow {
-        record: place,
-        before: four_at(bytes, row_start(0, i - 1)),
-        id: four_at(bytes, row_start(0, i)),
-    }
+    let row = row_named(bytes, place);
+    let before = four_at(bytes, row_start(0, place as usize - 1));
+    Reason::IdBelow { row, before }
 }
 
 // The first field above its limit in the record that starts at a byte; a record without one is not asked about.
@@ -71,11 +79,10 @@ pub fn field_above(bytes: &[u8], place: u32) -> Reason
     requires { ⌜ place < 12 * blocks (now bytes) ⌝ }
     ensures { λ r. ⌜ r ≡ limitReason (now (bytes .entry)) place ⌝ }
 {
-    let kind = byte_at(bytes, 512 * (place / 12) as usize);
-    let above = first_above(bytes, kind as usize, row_start(0, place as usize));
+    let row = row_named(bytes, place);
+    let above = first_above(bytes, row.kind as usize, row_start(0, place as usize));
     Reason::FieldAbove {
-        record: place,
-        kind,
+        row,
         field: above.field,
         value: above.value,
         limit: above.limit,
@@ -87,12 +94,13 @@ pub fn fractions_above(bytes: &[u8], place: u32) -> Reason
     requires { ⌜ (place < 12 * blocks (now bytes)) × (filed (now bytes) .kind place ≡ 1) ⌝ }
     ensures { λ r. ⌜ r ≡ fractionsReason (now (bytes .entry)) place ⌝ }
 {
+    let row = row_named(bytes, place);
     let at = row_start(0, place as usize);
     let onsite = two_at(bytes, at + 12);
     let offsite = two_at(bytes, at + 18);
     let decay = two_at(bytes, at + 32);
     Reason::FractionsAbove {
-        record: place,
+        row,
         onsite,
         offsite,
         decay,

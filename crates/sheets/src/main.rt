@@ -1,10 +1,15 @@
 // Reads a return on standard input and prints its lines.
+ghost use Prim.Native.Nat.{_≤_};
+ghost use lib.ListN.{length};
+ghost use Rattle.report.specs.Lines.{linesRoom};
 use console::take;
 use form::LONGEST;
 use report::LINES_ROOM;
 
 // Room of LINES_ROOM bytes is never too short for the text.
-fn print(bytes: &[u8], room: &mut [u8]) {
+fn print(bytes: &[u8], room: &mut [u8])
+    requires { ⌜ linesRoom ≤ length (now room) ⌝ }
+{
     let done = report::lines(bytes, room);
     console::print(
         room,

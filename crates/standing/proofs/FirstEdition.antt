@@ -1,35 +1,28 @@
 -- "Edition 1 returns read as before." Assumes nothing.
 --     as-before     up to 5,120 bytes, an edition 1 return is ruled as 01's rules rule it, and behind them those that add rows up
---     ten-blocks    and a longer one is never accepted
-use Prim.Native.Nat.{ℕ, suc, _+_, _*_, _/_, _≤_, _<_}
+use Prim.Native.Nat.{ℕ, _+_, _≤_, _<_}
 use mathlib.Core.Path.{_≡_, refl, sym, ap, _∙_}
-use mathlib.Core.Bool.{Bool, true, false, not, _&&_, _||_, or-true, or-false, and-false}
-use mathlib.Core.List.{List, [], _∷_, _++_}
+use mathlib.Core.Bool.{Bool, false, _||_, or-true, or-false}
+use mathlib.Core.List.{List, _∷_, _++_}
 use native.Mathlib.Decide.{ℕ-discrete}
 use native.Mathlib.Omega.{arith}
 use borrow.Author.Tests.{lt-ltb, le-ltb, le-leb, eq-eqb, ne-eqb}
 use lib.ListN.{length}
-use lib.Dec.{ltb, leb, eqb, lit≤}
 use Rattle.form.specs.First.{first}
 use Rattle.form.specs.Ruling.{Rule, rule, refuse, ruling}
-use Rattle.form.specs.Layout.{kinds}
 use Rattle.form.specs.Edition.{lastKind}
 use Rattle.form.specs.Block.{longest, blocks, kindOf, edition, badLength, badCheck, badHeader, lowBehind, endsLow, noneBefore, fourthOfKind, badCount, notFilled, overFilled, stray, badBlock, kindFalls}
 use Rattle.form.specs.Records.{filed, recordRules}
 use Rattle.form.specs.Sums.{sumRules}
-use Rattle.form.specs.Verdict.{blockRules, formRules, rules, rowCount, verdictOf}
+use Rattle.form.specs.Verdict.{blockRules, formRules, rules}
 use Rattle.form.specs.declared.Ruling.{Ruling}
-use Rattle.form.specs.Standing.{startBlock}
 use Rattle.form.specs.FirstEdition.{badLength01, badHeader01, wrongEnd01, badBlock01, rules01}
-use Rattle.form.specs.declared.Counts.{Counts}
 use Rattle.form.specs.declared.Spot.{Spot}
 use Rattle.form.specs.declared.Spot.the-variants.{At, Nowhere}
-use Rattle.form.specs.declared.Verdict.the-variants.{Accepted}
 use Rattle.form.proofs.Search.{first-same, first-none}
 use Rattle.form.proofs.Order.{orRule, ruling-append}
 use Rattle.form.proofs.EachKind.{kinds-are}
-use Rattle.standing.proofs.Stand.{headed, start-all}
-use Rattle.standing.proofs.Accepted.{formed, in-order, whole-blocks, few-rows, no-rows, one-row}
+use Rattle.standing.proofs.Stand.{headed}
 
 -- two lists of rules whose first rules agree, and whose others agree where the first is kept
 both-rule : (n m : ℕ) (p q : ℕ → Bool) (rs qs : List Rule) → first p m ≡ first q m → (first q m ≡ Nowhere → ruling rs ≡ ruling qs)
@@ -97,11 +90,3 @@ module _ (s : List ℕ) (one : edition s 0 ≡ 1) where
       ruling-append (formRules s) (sumRules (filed s))
       ∙ ap (λ (u : Ruling). orRule u (ruling (sumRules (filed s)))) (form-as-before short)
       ∙ sym (ruling-append (rules01 s) (sumRules (filed s)))
-
-  pub ten-blocks : (c : Counts) → verdictOf s ≡ Accepted c → length s ≤ 5120
-  unfolding kinds startBlock lastKind
-  ten-blocks c accepted =
-      let acc = formed s c accepted in
-      let none : rowCount 5 s ≡ 0 = no-rows s c acc 5 (rw one (lit≤ tt)) in
-      let no-savanna : rowCount 6 s ≡ 0 = no-rows s c acc 6 (rw one (lit≤ tt)) in
-      omega (arith, whole-blocks s c acc, start-all s (in-order s c acc), few-rows s c acc 1, few-rows s c acc 2, few-rows s c acc 3, one-row s c acc)

@@ -1,4 +1,4 @@
--- A verdict, what a write answers, the figures and the doubles are one ruling's alone. Assumes nothing.
+-- A verdict, what a write answers, the figures and the doubles are one ruling's alone; what the sheets answer says what they are to answer. Assumes nothing.
 use Prim.Native.Nat.{ℕ}
 use mathlib.Core.Path.{_≡_, refl}
 use mathlib.Core.List.{List}
@@ -13,7 +13,9 @@ use Rattle.filing.specs.Lists.{Lists}
 use Rattle.rows.specs.Writing.{writtenBy}
 use Rattle.rows.specs.declared.Written.{Written}
 use Rattle.rows.specs.declared.Written.the-variants as written
-use Rattle.worksheets.specs.Answers.{Outcome, worked, refusal, outcomeBy}
+use Rattle.worksheets.specs.Answers.{Outcome, worked, refusal, outcomeBy, said, answered}
+use Rattle.worksheets.specs.declared.sheets.Answer as sheets
+use Rattle.worksheets.specs.declared.sheets.Answer.the-variants as answer
 use Rattle.doubles.specs.Subtotals.{answerBy}
 use Rattle.doubles.specs.declared.Answer.{Answer}
 use Rattle.doubles.specs.declared.Answer.the-variants as doubles
@@ -55,3 +57,12 @@ written-told ed l = same-ruling (writtenBy ed l) inWritten refl (λ n p. refl)
 -- figures are no refusal
 pub worked-not-refused : (v : Figures) (n p : ℕ) → worked v ≡ refusal n p → ⊥
 worked-not-refused v n p e = let z : _≡_ {A = ℕ} 0 1 = cc in omega arith
+
+-- what the sheets are to answer, and what an answer says, each from the other
+pub said-back : (o : Outcome) → said (answered o) ≡ o
+said-back (worked f) = refl
+said-back (refusal n p) = refl
+
+pub answered-back : (a : sheets.Answer) → answered (said a) ≡ a
+answered-back (answer.Figures f) = refl
+answered-back (answer.Refused n p) = refl

@@ -1,12 +1,13 @@
 -- What the lookup answers, test by test. Assumes nothing.
---     no-country, no-zone, found    the three answers, by the country's and the zone's number
+--     no-country, no-zone, found    the three answers, by the country's and the zone's number; found-entry, an entry that is found is the table's
 --     zero-rate, blank-rate     a blank rate beside two equal areas, and beside others
 --     told-one        a figure is known from its two numbers in lent room
 --     room-kept       the room after anything but an answer
 use Prim.Native.Nat.{ℕ, _+_, _*_, _≤_, _<_}
-use mathlib.Core.Path.{_≡_, refl, sym, ap}
+use mathlib.Core.Path.{_≡_, refl, sym, ap, _∙_}
 use mathlib.Core.Bool.{Bool, true, false, cond, false≢true}
 use mathlib.Core.List.{List}
+use native.Mathlib.Decide.{decLt}
 use native.Mathlib.Omega.{arith}
 use lib.Dec.{ltb}
 use lib.IntN.{ℤ, pos, negsuc, natAbs}
@@ -24,6 +25,16 @@ use Rattle.entries52.specs.Entries.{sameNumber, rateOf, entryAt}
 use Rattle.table52.specs.Lookup.{lookedUp}
 use Rattle.table52.specs.Lent.{givenOf, numberOf, withEntry, toldOf, roomAfter}
 
+inEntry : Entry → Lookup → Entry
+inEntry d (Found e) = e
+inEntry d NoCountry = d
+inEntry d NoZone = d
+
+isFound : Lookup → ℕ
+isFound (Found e) = 1
+isFound NoCountry = 0
+isFound NoZone = 0
+
 module _ (country zone : ℕ) where
   pub no-country : countries ≤ country → lookedUp country zone ≡ NoCountry
   unfolding lookedUp
@@ -36,6 +47,15 @@ module _ (country zone : ℕ) where
   pub found : country < countries → zone < zones → lookedUp country zone ≡ Found (entryAt (zones * country + zone))
   unfolding lookedUp
   found h z = rw (lt-ltb _ _ h, lt-ltb _ _ z)
+
+  pub found-entry : (e : Entry) → lookedUp country zone ≡ Found e → e ≡ entryAt (zones * country + zone)
+  unfolding inEntry isFound
+  found-entry e a = go (decLt country countries) (decLt zone zones)
+    where
+      go : Dec (country < countries) → Dec (zone < zones) → e ≡ entryAt (zones * country + zone)
+      go (yes h) (yes z) = ap (inEntry e) (sym a ∙ found h z)
+      go (yes h) (no z) = let q : _≡_ {A = ℕ} 1 0 = ap isFound (sym a ∙ no-zone h (omega arith)) in absurd (omega arith)
+      go (no h) z = let q : _≡_ {A = ℕ} 1 0 = ap isFound (sym a ∙ no-country (omega arith)) in absurd (omega arith)
 
 -- ---- a blank rate
 same-equal : (a b : ℤ) → sameNumber a b ≡ true → a ≡ b

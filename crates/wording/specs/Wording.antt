@@ -71,6 +71,6 @@ valueLines (BadHeader b h n e) = headerLines h ++ dueLines b n e
 -- 4: the first fault
 valueLines (BadBlock b h f) = faultLine f ∷ faultLines h f
 -- 5 to 7: those of a row
-valueLines (IdBelow p x y) = rowLines (IdBelow p x y)
-valueLines (FieldAbove p k i v l) = rowLines (FieldAbove p k i v l)
-valueLines (FractionsAbove p n f d t) = rowLines (FractionsAbove p n f d t)
+valueLines (IdBelow w x) = rowLines (IdBelow w x)
+valueLines (FieldAbove w i v l) = rowLines (FieldAbove w i v l)
+valueLines (FractionsAbove w n f d t) = rowLines (FractionsAbove w n f d t)

@@ -6,8 +6,8 @@
 //! heaviest row is asked for with any code and any room, and of a good return
 //! with each code and a room that is long enough. All of our memory is looked at
 //! afterwards, the guard behind the room included. Each number, each fault of
-//! number 4 and each field is counted, and so are ties and subtotals of zero; of
-//! each enough are due.
+//! number 4, each kind of row that a number names and each field is counted, and so
+//! are ties and subtotals of zero; of each enough are due.
 
 #[cfg(door_missing)]
 compile_error!(
@@ -39,6 +39,9 @@ mod run {
     /// Of each number, each fault and each field; the usual run has 230 of the
     /// rarest.
     const LEAST: usize = 100;
+    /// Of each number with each kind of row, and with its id; the usual run has 930
+    /// of the rarest.
+    const LEAST_ROWS: usize = 500;
 
     /// What is counted of the calls.
     struct Tally {
@@ -55,7 +58,7 @@ mod run {
             let (mut coverage, due) = (Coverage::default(), Due::Times(LEAST));
             let refused = ["11", "9"].map(|number| format!("heaviest rows refused {number}"));
             Tally {
-                reasons: Reasons::new(due, &mut coverage),
+                reasons: Reasons::new(due, Due::Times(LEAST_ROWS), &mut coverage),
                 texts: coverage.add(Due::Told, ["texts"]),
                 rows: coverage.add(Due::Told, ["heaviest rows asked for"]),
                 refused: coverage.add(due, refused),

@@ -1,4 +1,4 @@
-//! How long a text can be: 300 bytes are always enough.
+//! How long a text can be: the room that C is told is always enough.
 
 use super::*;
 use crate::judge::tests::{full, FULL};
@@ -41,11 +41,23 @@ fn refusals_are_shorter() {
         .expect("savannas");
     let mut unfit = full().checked();
     unfit[last..].fill(255);
+    // The last row of a conversion block that is full, with an id of ten digits.
+    let high = |hand: Hand, b: usize| {
+        let (first, second, third) = (u32::MAX - 31, u32::MAX - 19, u32::MAX - 7);
+        let hand = hand.ids(b, 12, first).ids(b + 1, 12, second);
+        hand.ids(b + 2, 8, third)
+    };
+    let conversion = || high(full(), 0);
     let fractions = [12, 18, 32];
     let fractions = fractions
         .iter()
-        .fold(full(), |hand, &at| hand.two(2, 7, at, 1_000));
-    let ids = full().four(b, 6, 0, u32::MAX).four(b, 7, 0, u32::MAX);
+        .fold(conversion(), |hand, &at| hand.two(1, 11, at, 1_000));
+    // Abandoned land, whose name is longer than savanna's and its places as long.
+    let land = |b: usize| FULL[b].0 == 5;
+    let land = (0..FULL.len()).find(|&b| land(b)).expect("abandoned land");
+    let top = u32::MAX - 20;
+    let ids = high(full(), land).four(land + 1, 10, 0, top);
+    let ids = ids.four(land + 1, 11, 0, top);
     for (text, length) in [
         (text_of(&unfit), 49),
         (explained(header(0)), 118),
@@ -55,10 +67,14 @@ fn refusals_are_shorter() {
         (explained(full().byte(last - 511, 11)), 86),
         (explained(full().byte(last + 1, 12)), 76),
         (explained(full().byte(last + 507, 255)), 45),
-        (explained(ids), 49),
-        (explained(full().two(2, 7, 20, 65_535)), 82),
-        (explained(full().four(savannas, 11, 4, u32::MAX)), 69),
-        (explained(fractions), 58),
+        (explained(ids), 85),
+        (explained(conversion().two(1, 11, 20, 65_535)), 132),
+        (explained(conversion().four(1, 11, 24, u32::MAX)), 128),
+        (
+            explained(high(full(), savannas).four(savannas + 1, 11, 4, u32::MAX)),
+            117,
+        ),
+        (explained(fractions), 108),
     ] {
         assert_eq!(text.len(), length, "{text}");
     }
@@ -73,5 +89,17 @@ fn no_input_has_a_longer_text() {
         longest = longest.max(text(&case.bytes).as_bytes().len());
     }
     assert!((200..=207).contains(&longest), "{longest}");
-    assert_eq!(EXPLAIN_ROOM, 300);
+    assert_eq!(EXPLAIN_ROOM, in_header("NILOFERQ_EXPLAIN_ROOM"));
+}
+
+/// A constant of the header for C.
+fn in_header(name: &str) -> usize {
+    let header = include_str!("../../../include/niloferq.h");
+    let mut words = header.lines().map(|line| line.split_whitespace());
+    let found = words.find_map(|mut words| {
+        let named = [words.next(), words.next()] == [Some("#define"), Some(name)];
+        named.then(|| words.next()).flatten()
+    });
+    let value = found.and_then(|value| value.parse().ok());
+    value.expect("the header has it")
 }

@@ -38,7 +38,8 @@ fn the_papers_cases() {
     assert_eq!(text_of(&bytes), "refused 2 0\nstored 17\ncomputed 18\n");
     let mut day = worked_day();
     day.conversion[0][4] = 501;
-    let due = "refused 7 0\nonsite 501\noffsite 200\ndecay 300\nsum 1001\n";
+    let due = "refused 7 0\nblock 0\nrow 0\nkind_name conversion\nid 7\n\
+        onsite 501\noffsite 200\ndecay 300\nsum 1001\n";
     assert_eq!(text_of(&day.to_bytes()), due);
 }
 

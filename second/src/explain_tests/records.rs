@@ -1,6 +1,7 @@
 //! Numbers 5 to 7.
 
 use super::*;
+use crate::judge::tests::{full, FULL};
 use crate::make::{fields, WITH_IDS};
 
 #[test]
@@ -11,24 +12,47 @@ fn ids() {
         let b = usize::from(kind > 4);
         explained(hand.four(b, 0, 0, ids[0]).four(b, 1, 0, ids[1]))
     };
-    assert_eq!(two(3, [9, 9]), "refused 5 1\nid_before 9\nid 9\n");
-    assert_eq!(two(5, [1, 0]), "refused 5 13\nid_before 1\nid 0\n");
+    let due = "refused 5 1\nblock 0\nrow 1\nkind_name harvest\nid_before 9\nid 9\n";
+    assert_eq!(two(3, [9, 9]), due);
+    let due = "refused 5 13\nblock 1\nrow 1\nkind_name abandoned\nid_before 1\nid 0\n";
+    assert_eq!(two(5, [1, 0]), due);
     let top = u32::MAX;
-    let due = format!("refused 5 13\nid_before {top}\nid 256\n");
+    let due = format!("refused 5 13\nblock 1\nrow 1\nkind_name savanna\nid_before {top}\nid 256\n");
     assert_eq!(two(6, [top, 256]), due);
     // The id before stands in the block before.
     let across = |id| {
         let hand = Hand::new(&[(1, 12), (1, 12), (1, 2), (4, 1)]);
         explained(hand.ids(0, 12, 0).ids(1, 12, 100).ids(2, 2, id))
     };
-    assert_eq!(across(111), "refused 5 24\nid_before 111\nid 111\n");
-    assert_eq!(across(7), "refused 5 24\nid_before 111\nid 7\n");
+    let row = "refused 5 24\nblock 2\nrow 0\nkind_name conversion\nid_before 111\nid";
+    assert_eq!(across(111), format!("{row} 111\n"));
+    assert_eq!(across(7), format!("{row} 7\n"));
     assert!(across(112).starts_with("heaviest_onsite none\n"));
 }
 
-fn field(place: u32, (number, name): (u32, &str), value: u32, limit: u32) -> String {
-    format!("refused 6 {place}\nfield {number}\nfield_name {name}\nvalue {value}\nlimit {limit}\n")
+/// Number 6 at a row: its place, its kind's name and its id, where it has one.
+fn field(
+    (place, kind, id): (u32, &str, Option<u32>),
+    (number, name): (u32, &str),
+    value: u32,
+    limit: u32,
+) -> String {
+    let (block, row) = (place / 12, place % 12);
+    let id = id.map_or(String::new(), |id| format!("id {id}\n"));
+    format!(
+        "refused 6 {place}\nblock {block}\nrow {row}\nkind_name {kind}\n{id}\
+         field {number}\nfield_name {name}\nvalue {value}\nlimit {limit}\n"
+    )
 }
+
+const KIND_NAMES: [&str; KINDS.len()] = [
+    "conversion",
+    "stock",
+    "harvest",
+    "parameters",
+    "abandoned",
+    "savanna",
+];
 
 /// The names of each row's fields, in their order.
 const NAMES: [&str; KINDS.len()] = [
@@ -56,10 +80,18 @@ fn fields_one_by_one() {
             }
             let limit = of.most;
             let mut rows = Rows::good_in(&mut Rng::new(151), 2, [1; WITH_IDS.len()]);
-            rows.row(kind, 0)[number] = limit + 1;
+            let row = rows.row(kind, 0);
+            row[number] = limit + 1;
+            let id = (kind != 4).then_some(row[0]);
             // One block of each kind, in order.
             let place = 12 * (u32::from(kind) - 1);
-            let due = field(place, (number as u32, name), limit + 1, limit);
+            let kind_name = KIND_NAMES[usize::from(kind) - 1];
+            let due = field(
+                (place, kind_name, id),
+                (number as u32, name),
+                limit + 1,
+                limit,
+            );
             assert_eq!(text_of(&rows.to_bytes()), due);
         }
     }
@@ -71,19 +103,41 @@ fn fields_one_by_one() {
 fn the_first_of_several_fields() {
     let mut rows = Rows::good(&mut Rng::new(152), [3, 14, 1]);
     rows.harvest[0][1] = u32::MAX;
-    let f = field(36, (1, "F"), u32::MAX, 10_000_000);
+    let harvest = (36, "harvest", Some(rows.harvest[0][0]));
+    let f = field(harvest, (1, "F"), u32::MAX, 10_000_000);
     assert_eq!(text_of(&rows.to_bytes()), f);
     rows.stock[13] = [rows.stock[13][0], 255, 65_535, u32::MAX, 65_535];
-    let place = 24 + 1;
-    let unit_code = field(place, (1, "unit_code"), 255, 1);
+    let stock = (24 + 1, "stock", Some(rows.stock[13][0]));
+    let unit_code = field(stock, (1, "unit_code"), 255, 1);
     assert_eq!(text_of(&rows.to_bytes()), unit_code);
     rows.stock[13][1] = 1;
-    let rate = field(place, (2, "rate"), 65_535, 10_000);
+    let rate = field(stock, (2, "rate"), 65_535, 10_000);
     assert_eq!(text_of(&rows.to_bytes()), rate);
     rows.conversion[2][14] = 1_001;
     rows.conversion[2][13] = 1_002;
-    let decay = field(2, (13, "decay_fraction"), 1_002, 1_000);
+    let conversion = (2, "conversion", Some(rows.conversion[2][0]));
+    let decay = field(conversion, (13, "decay_fraction"), 1_002, 1_000);
     assert_eq!(text_of(&rows.to_bytes()), decay);
+}
+
+/// The last row of the last block, and the first of the second: all digits of both.
+#[test]
+fn the_row_is_named() {
+    let first_lines = |text: String| text.lines().take(5).collect::<Vec<_>>().join(" ");
+    let twelve = |place: usize| {
+        let hand = Hand::new(&[(1, 12), (1, 12), (1, 8), (4, 1)]);
+        let hand = hand.ids(0, 12, 0).ids(1, 12, 12).ids(2, 8, 24);
+        first_lines(explained(hand.two(place / 12, place % 12, 8, 10_001)))
+    };
+    for (place, block, row) in [(0, 0, 0), (11, 0, 11), (12, 1, 0), (23, 1, 11), (31, 2, 7)] {
+        let due =
+            format!("refused 6 {place} block {block} row {row} kind_name conversion id {place}");
+        assert_eq!(twelve(place), due);
+    }
+    let b = FULL.len() - 1;
+    let last = explained(full().four(b, 7, 0, u32::MAX).two(b, 7, 8, 10_001));
+    let due = "refused 6 187 block 15 row 7 kind_name savanna id 4294967295";
+    assert_eq!(first_lines(last), due);
 }
 
 #[test]
@@ -93,9 +147,10 @@ fn fractions() {
         let on = hand.two(0, 1, 12, on_site).two(0, 1, 18, off_site);
         explained(on.two(0, 1, 32, decay))
     };
-    let due = "refused 7 1\nonsite 1000\noffsite 1000\ndecay 1000\nsum 3000\n";
+    let row = "refused 7 1\nblock 0\nrow 1\nkind_name conversion\nid 1\n";
+    let due = format!("{row}onsite 1000\noffsite 1000\ndecay 1000\nsum 3000\n");
     assert_eq!(three(1_000, 1_000, 1_000), due);
-    let due = "refused 7 1\nonsite 500\noffsite 300\ndecay 201\nsum 1001\n";
+    let due = format!("{row}onsite 500\noffsite 300\ndecay 201\nsum 1001\n");
     assert_eq!(three(500, 300, 201), due);
     assert!(three(500, 300, 200).starts_with("heaviest_onsite none\n"));
 }

@@ -22,7 +22,7 @@ returns c =
     let t = c .before .before .before in
     let a = t .before .before .before .before .args in (
       c .size-of .ensures ∙ ap sizeOf (t .lines .ensures .0),
-      t .lines .ensures .1 ∙ ap (textAfter (printed (now (a .bytes))) (now (a .room))) (t .lines .ensures .0),
+      (t .lines .ensures .1 .0 ∙ ap (textAfter (printed (now (a .bytes))) (now (a .room))) (t .lines .ensures .0), t .lines .ensures .1 .1),
     )
 
 pub niloferq-lines-spec : {M : Type 1} → statement M

@@ -39,8 +39,11 @@ loop-again c =
     let at-place = c .before .before in
     let turn = at-place .before .before in
     let a = turn .before .before .before .before .args in
-    let v = turn .before .loop in
-    (filling-more (v .inv .0) (turn .loop-test .taken) (at-place .write-place .ensures) (rw (length-on (filedList (a .kind) (a .rows .now)))), omega arith)
+    let v = turn .before .loop in (
+      filling-more (v .inv .0) (omega (arith, turn .loop-test .taken)) (at-place .write-place .ensures)
+          (rw (length-on (filedList (a .kind) (a .rows .now)))),
+      omega arith,
+    )
 
 same-length : tie.Need-same-length Inv-loop μ-loop
 same-length c = search needs

@@ -1,4 +1,5 @@
 -- `headers::bad_check` meets its contract. Assumes nothing.
+use mathlib.Core.Path.{refl}
 use Rattle.form.specs.Block.{badCheck}
 use borrow.Author.Needs.{needs}
 use Rattle.headers.proofs.bad_check.Statement.{statement}
@@ -18,7 +19,7 @@ check-due-requires c κs = search needs
 
 returns : tie.Need-returns
 unfolding badCheck
-returns c = cc
+returns c = rw (c .before .four-at .ensures, c .check-due .ensures) refl
 
 pub bad-check-spec : {M : Type 1} → statement M
 bad-check-spec =

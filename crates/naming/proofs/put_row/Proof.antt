@@ -1,9 +1,11 @@
--- Number by number. Assumes nothing.
+-- Number by number: which row it is, then what clashes. Assumes nothing.
 use mathlib.Core.Path.{refl, sym}
+use mathlib.Core.List.{[], _∷_}
 use native.Mathlib.Nat.{add-zero}
 use Rattle.phrases.specs.Ascii.{codes}
-use Rattle.phrases.specs.Lines.{spaces, linesText}
-use Rattle.phrases.proofs.LineTexts.{as-text, two-text}
+use Rattle.phrases.specs.Lines.{numberLine, spaces, linesText}
+use Rattle.phrases.proofs.LineTexts.{as-text, more-text, two-text}
+use Rattle.naming.specs.RowLines.{placeLines, namedLines, limitLines, fractionsLines}
 use Rattle.naming.proofs.Texts.{no-lines}
 use native.Mathlib.Omega.{arith}
 use borrow.Author.Needs.{needs}
@@ -13,22 +15,32 @@ use Rattle.naming.proofs.put_row.Tie as tie
 enum-known-reason : tie.Need-enum-known-reason
 enum-known-reason c = search needs
 
+put-place-requires : tie.Need-put-place-requires
+put-place-requires c κs = search needs
+
 slice-aggregate-put-two : tie.Need-slice-aggregate-put-two
 slice-aggregate-put-two c = search needs
 
 put-two-requires : tie.Need-put-two-requires
 unfolding spaces
 put-two-requires c κs =
-    (search needs, omega (arith, c .before .before .before .before .before .before .pre))
+    let p = c .before .before .before .before in
+    (search needs, omega (arith, p .put-place .ensures .1, p .before .before .before .before .before .before .pre))
 
 enum-known-reason-2 : tie.Need-enum-known-reason-2
 enum-known-reason-2 c = search needs
+
+put-named-requires : tie.Need-put-named-requires
+put-named-requires c κs = search needs
 
 put-limit-requires : tie.Need-put-limit-requires
 put-limit-requires c κs = search needs
 
 enum-known-reason-3 : tie.Need-enum-known-reason-3
 enum-known-reason-3 c = search needs
+
+put-named-requires-2 : tie.Need-put-named-requires-2
+put-named-requires-2 c κs = search needs
 
 put-fractions-requires : tie.Need-put-fractions-requires
 put-fractions-requires c κs = search needs
@@ -40,8 +52,14 @@ returns : tie.Need-returns
 unfolding spaces
 returns c =
     let w = c .before .before in
-    let r = w .before .before .before .before .reason .given in
-    (rw (r .1) (as-text (two-text (codes "id_before") (codes "id") (r .0 .1 .0) (r .0 .1 .1 .0) refl) (w .put-two .ensures .0)), omega (arith, w .put-two .ensures .1))
+    let p = w .before .before .before .before .before in
+    let r = p .before .before .before .reason .given in
+    let row = r .0 .0 in
+    let x = r .0 .1 .0 in
+    let two = as-text (two-text (codes "id_before") (codes "id") x (row .id) refl) (w .put-two .ensures .0) in (
+      rw (r .1) (more-text (placeLines row) (numberLine (codes "id_before") x ∷ numberLine (codes "id") (row .id) ∷ []) (p .put-place .ensures .0) two),
+      omega (arith, p .put-place .ensures .1, w .put-two .ensures .1),
+    )
 
 same-length-2 : tie.Need-same-length-2
 same-length-2 c = search needs
@@ -49,7 +67,13 @@ same-length-2 c = search needs
 returns-2 : tie.Need-returns-2
 returns-2 c =
     let w = c .before .before in
-    (rw (w .before .before .before .reason2 .given .1) (w .put-limit .ensures .0), omega (arith, w .put-limit .ensures .1))
+    let p = w .before .before .before .before in
+    let r = p .before .before .before .reason2 .given in
+    let v = r .0 .1 in
+    let clash = limitLines (r .0 .0 .kind) (v .0) (v .1 .0) (v .1 .1 .0) in (
+      rw (r .1) (more-text (namedLines (r .0 .0)) clash (p .put-named .ensures .0) (w .put-limit .ensures .0)),
+      omega (arith, p .put-named .ensures .1, w .put-limit .ensures .1),
+    )
 
 same-length-3 : tie.Need-same-length-3
 same-length-3 c = search needs
@@ -57,7 +81,13 @@ same-length-3 c = search needs
 returns-3 : tie.Need-returns-3
 returns-3 c =
     let w = c .before .before in
-    (rw (w .before .before .before .reason3 .given .1) (w .put-fractions .ensures .0), omega (arith, w .put-fractions .ensures .1))
+    let p = w .before .before .before .before in
+    let r = p .before .before .before .reason3 .given in
+    let v = r .0 .1 in
+    let clash = fractionsLines (v .0) (v .1 .0) (v .1 .1 .0) (v .1 .1 .1 .0) in (
+      rw (r .1) (more-text (namedLines (r .0 .0)) clash (p .put-named2 .ensures .0) (w .put-fractions .ensures .0)),
+      omega (arith, p .put-named2 .ensures .1, w .put-fractions .ensures .1),
+    )
 
 returns-4 : tie.Need-returns-4
 unfolding linesText
@@ -70,11 +100,14 @@ put-row-spec =
     tie.close
     (tie.spec
     enum-known-reason
+    put-place-requires
     slice-aggregate-put-two
     put-two-requires
     enum-known-reason-2
+    put-named-requires
     put-limit-requires
     enum-known-reason-3
+    put-named-requires-2
     put-fractions-requires
     same-length
     returns

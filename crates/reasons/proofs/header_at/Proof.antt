@@ -46,7 +46,17 @@ two-at-requires-3 : tie.Need-two-at-requires-3
 two-at-requires-3 c κs = search needs
 
 returns : tie.Need-returns
-returns c = cc
+returns c =
+    let e = c .before in
+    let n = e .before in
+    let k = n .before in
+    λ i. record {
+      kind = k .before .byte-at .ensures .0 i;
+      count = k .byte-at2 .ensures .0 i;
+      number = n .two-at .ensures .0 i;
+      blocks = e .two-at2 .ensures .0 i;
+      edition = c .two-at3 .ensures .0 i;
+    }
 
 pub header-at-spec : {M : Type 1} → statement M
 header-at-spec =

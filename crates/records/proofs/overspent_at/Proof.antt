@@ -1,4 +1,5 @@
 -- `records::overspent_at` meets its contract. Assumes nothing.
+use mathlib.Core.Path.{refl}
 use Rattle.form.specs.Layout.{rowFrom}
 use borrow.Author.Needs.{needs}
 use Rattle.records.proofs.overspent_at.Statement.{statement}
@@ -30,7 +31,7 @@ add-result-2 c = search needs
 
 returns : tie.Need-returns
 unfolding rowFrom
-returns c = cc
+returns c = rw (c .before .before .two-at .ensures .0, c .before .two-at2 .ensures .0, c .two-at3 .ensures .0) refl
 
 pub overspent-at-spec : {M : Type 1} → statement M
 overspent-at-spec =

@@ -20,7 +20,9 @@ returns c =
     let w = c .before .before in
     let i = w .before .before in
     let a = i .before .before .before .args in
-    straight-out (printed (now (a .bytes))) (now (a .room)) _ _ (w .write-lines .ensures .0) (omega (arith, i .if1 .taken, w .write-lines .ensures .1))
+    let fits = w .write-lines .ensures .1 in
+    let p = straight-out (printed (now (a .bytes))) (now (a .room)) _ _ (w .write-lines .ensures .0) (omega (arith, i .if1 .taken, fits)) in
+    (p .0, (p .1, fits))
 
 slice-aggregate-write-lines : tie.Need-slice-aggregate-write-lines
 slice-aggregate-write-lines c = search needs
@@ -44,7 +46,9 @@ returns-2 c =
     let p = c .before .before in
     let w = p .before .before .before .before in
     let a = w .before .before .before .before .before .args in
-    elsewhere-out (printed (now (a .bytes))) _ _ (now (a .room)) _ _ _ (w .write-lines2 .ensures .0) (omega (arith, w .write-lines2 .ensures .0 .place, w .write-lines2 .ensures .1)) (p .put-short .ensures)
+    let fits = w .write-lines2 .ensures .1 in
+    let q = elsewhere-out (printed (now (a .bytes))) _ _ (now (a .room)) _ _ _ (w .write-lines2 .ensures .0) (omega (arith, w .write-lines2 .ensures .0 .place, fits)) (p .put-short .ensures) in
+    (q .0, (q .1, fits))
 
 pub lines-spec : {M : Type 1} → statement M
 lines-spec =

@@ -1,4 +1,5 @@
 -- `sequence::ends_low` meets its contract. Assumes nothing.
+use mathlib.Core.Path.{refl}
 use Rattle.form.specs.Block.{endsLow}
 use native.Mathlib.Omega.{arith}
 use borrow.Author.Needs.{needs}
@@ -19,7 +20,7 @@ cast-result c = search needs
 
 returns : tie.Need-returns
 unfolding endsLow
-returns c = cc
+returns c = rw (c .byte-at .ensures .0) refl
 
 pub ends-low-spec : {M : Type 1} → statement M
 ends-low-spec = tie.close (tie.spec add-last mul-byte-at byte-at-requires cast-result returns)

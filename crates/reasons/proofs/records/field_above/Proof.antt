@@ -5,14 +5,8 @@ use borrow.Author.Needs.{needs}
 use Rattle.reasons.proofs.records.field_above.Statement.{statement}
 use Rattle.reasons.proofs.records.field_above.Tie as tie
 
-cast-byte-at : tie.Need-cast-byte-at
-cast-byte-at c = search needs
-
-mul-byte-at : tie.Need-mul-byte-at
-mul-byte-at c = search needs
-
-byte-at-requires : tie.Need-byte-at-requires
-byte-at-requires c κs = search needs
+row-named-requires : tie.Need-row-named-requires
+row-named-requires c κs = search needs
 
 cast-first-above : tie.Need-cast-first-above
 cast-first-above c = search needs
@@ -25,17 +19,11 @@ first-above-requires c κs = search needs
 
 returns : tie.Need-returns
 returns c =
-    let t = c .before .before in
-    limit-there (now (t .before .before .args .bytes)) (t .before .before .args .place) (t .byte-at .ensures .0) (c .before .row-start .ensures) (c .first-above .ensures)
+    let n = c .before .before .before in
+    let t = n .before .before in
+    limit-there (now (t .args .bytes)) (t .args .place) (n .row-named .ensures) (c .before .row-start .ensures) (c .first-above .ensures)
 
 pub field-above-spec : {M : Type 1} → statement M
 field-above-spec =
     tie.close
-    (tie.spec
-    cast-byte-at
-    mul-byte-at
-    byte-at-requires
-    cast-first-above
-    row-start-requires
-    first-above-requires
-    returns)
+    (tie.spec row-named-requires cast-first-above row-start-requires first-above-requires returns)
