@@ -27,14 +27,19 @@ static void copy_rows(conversion *rows, uint32_t count) {
     }
 }
 
-/* A return of these conversion rows and the parameters; the answer is its number of bytes. */
+/* As much wood used as one harvest row can say, 100 x (10^7 x 10^4 + 1,000 x 2 x 10^7) = 1.2 x 10^13: more than the rows below carry off. */
+static const uint32_t ENOUGH[NILOFERQ_HARVEST_NUMBERS] = {1, 10000000, 10000, 10000000, 10000000};
+
+/* A return of these conversion rows, the harvest above and the parameters; the answer is its number of bytes. */
 static size_t written_rows(conversion *rows, uint32_t count) {
     static uint32_t area[NILOFERQ_ROWS_ROOM];
-    const uint32_t lengths[NILOFERQ_KINDS] = {NILOFERQ_CONVERSION_NUMBERS * count, 0, 0, NILOFERQ_PARAMETERS_NUMBERS};
+    const uint32_t lengths[NILOFERQ_KINDS] = {NILOFERQ_CONVERSION_NUMBERS * count, 0, NILOFERQ_HARVEST_NUMBERS, NILOFERQ_PARAMETERS_NUMBERS};
+    const uint32_t rest = lengths[0] + NILOFERQ_HARVEST_NUMBERS;
     uint32_t size = 0;
     memcpy(area, rows, count * sizeof *rows);
-    must(niloferq_defaults(area + lengths[0], NILOFERQ_PARAMETERS_NUMBERS) == 0, "write: the parameters");
-    must(niloferq_write(1, area, lengths[0] + NILOFERQ_PARAMETERS_NUMBERS, lengths, NILOFERQ_KINDS, bytes, sizeof bytes, &size, 1) == 0,
+    memcpy(area + lengths[0], ENOUGH, sizeof ENOUGH);
+    must(niloferq_defaults(area + rest, NILOFERQ_PARAMETERS_NUMBERS) == 0, "write: the parameters");
+    must(niloferq_write(1, area, rest + NILOFERQ_PARAMETERS_NUMBERS, lengths, NILOFERQ_KINDS, bytes, sizeof bytes, &size, 1) == 0,
          "write: a good return");
     return size;
 }
@@ -107,7 +112,7 @@ static void faults(const uint8_t *day, size_t length) {
     size_t longer = written_rows(rows, NILOFERQ_MOST_ROWS);
     bytes[2 * 512 + 1] = 9;
     put_check(bytes + 2 * 512);
-    must_explain(bytes, longer, "refused 4 2\nfault overfilled\nkind 1\ncount 9\nnumber 2\nblocks 4\nedition 1\n", "explain: overfilled");
+    must_explain(bytes, longer, "refused 4 2\nfault overfilled\nkind 1\ncount 9\nnumber 2\nblocks 5\nedition 1\n", "explain: overfilled");
     must_explain_with(day, length, 1, 13, 255, 1, "refused 4 1\nfault stray\noffset 13\nbyte 255\n", "explain: stray, before the rate of a stock row");
     must_explain_with(day, length, 3, 507, 1, 1, "refused 4 3\nfault stray\noffset 507\nbyte 1\n", "explain: stray, just before the check");
 }
@@ -138,6 +143,32 @@ static void records(const uint8_t *day, size_t length) {
     put_check(bytes + 512);
     must_explain(bytes, longer, "refused 6 23\nblock 1\nrow 11\nkind_name conversion\nid 30\nfield 1\nfield_name area\nvalue 1000001\nlimit 1000000\n",
                  "explain: a row that is neither first nor in the first block");
+}
+
+/* Number 12: the day without its harvest block; less used than cleared; and one more cleared than used, beside as much, which is good. The day's
+ * clearing gives 200 x 900 x 200, and without F its harvest is 100 x 1,000 x 300. */
+static void wood_explained(const uint8_t *day, size_t length) {
+    memcpy(bytes, day, 2 * 512);
+    memcpy(bytes + 2 * 512, day + 3 * 512, 512);
+    for (uint32_t b = 0; b < 3; b++) {
+        put(bytes + 512 * b + 2, b, 2);
+        put(bytes + 512 * b + 4, 3, 2);
+        put_check(bytes + 512 * b);
+    }
+    must_explain(bytes, 3 * 512, "refused 12 0\nused 0\ncleared 36000000\n", "explain: no harvest rows");
+    must_explain_with(day, length, 2, 12, 0, 4, "refused 12 0\nused 30000000\ncleared 36000000\n", "explain: less used than cleared");
+    memcpy(bytes, day, length);
+    put(bytes + 12, 101, 4), put(bytes + 16, 1, 2), put(bytes + 18, 0, 2), put(bytes + 26, 1, 2); /* 101 x (1 - 0) x 1 */
+    put_check(bytes);
+    put(bytes + 1024 + 12, 1, 4), put(bytes + 1024 + 16, 1, 2), put(bytes + 1024 + 20, 0, 4); /* 100 x 1 x 1 */
+    put_check(bytes + 1024);
+    must_explain(bytes, length, "refused 12 0\nused 100\ncleared 101\n", "explain: one more cleared than used");
+    put(bytes + 12, 100, 4);
+    put_check(bytes);
+    must_explain(bytes, length,
+                 "heaviest_onsite 7\nheaviest_onsite_part 18000000000\nheaviest_offsite 7\nheaviest_offsite_part 45000000\n"
+                 "heaviest_decay 7\nheaviest_decay_part 40500000000000\n",
+                 "explain: as much cleared as used");
 }
 
 /* ---- the heaviest row */
@@ -174,7 +205,7 @@ static void refusals(const uint8_t *day, size_t length) {
         uint32_t answer;
         size_t block, at;
         uint32_t value;
-    } BROKEN[] = {{3002, 2, 2, 1}, {4003, 3, 1, 2}, {6012, 1, 20, 1001}, {7000, 0, 20, 501}};
+    } BROKEN[] = {{3002, 2, 2, 1}, {4003, 3, 1, 2}, {6012, 1, 20, 1001}, {7000, 0, 20, 501}, {12000, 2, 12, 0}};
     static const uint32_t codes[] = {3, 4, 255, 256, 257, 65536, 0x7fffffff, 0x80000000, UINT32_MAX};
     must_refuse_all(NULL, 0, 1000, "heaviest: no bytes, NULL");
     memcpy(bytes, day, length);
@@ -275,6 +306,7 @@ void explanations(const uint8_t *day, size_t length) {
     checks_and_headers(day, length);
     faults(day, length);
     records(day, length);
+    wood_explained(day, length);
     refusals(day, length);
     day_row(day, length);
     ties();

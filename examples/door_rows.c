@@ -106,12 +106,11 @@ static uint32_t write_rows(const struct rows *r, size_t room_len, size_t size_le
     return answer;
 }
 
-static void must_write(const struct rows *r, size_t room_len, size_t size_len, size_t due, const char *what) {
+void must_write(const struct rows *r, size_t room_len, size_t size_len, size_t due, const char *what) {
     must(write_rows(r, room_len, size_len, due) == 0 && sizes[0] == due, what);
 }
 
-/* Refused by this answer, also with no room at all for a rule before 9, and nothing has changed. */
-static void must_refuse(const struct rows *r, size_t room_len, size_t size_len, uint32_t answer, const char *what) {
+void must_refuse(const struct rows *r, size_t room_len, size_t size_len, uint32_t answer, const char *what) {
     must(write_rows(r, room_len, size_len, 0) == answer, what);
     if (answer == 9000) return;
     must(write_rows(r, 0, size_len, 0) == answer, what);

@@ -58,10 +58,17 @@ void put_check(uint8_t *block);
 /* Accepted with this edition and these counts, in rooms of every length. */
 void must_judge(const uint8_t *bytes, size_t length, const shape due, const char *what);
 
-/* The trials of reading and writing, of returns byte by byte, of niloferq_table52, and of niloferq_explain and niloferq_heaviest, with the worked day. */
+/* Written into rooms of these lengths as so many bytes; or refused by this answer, also with no room at all for a rule before 9. Nothing else has
+ * changed. */
+void must_write(const struct rows *r, size_t room_len, size_t size_len, size_t due, const char *what);
+void must_refuse(const struct rows *r, size_t room_len, size_t size_len, uint32_t answer, const char *what);
+
+/* The trials of reading and writing, of returns byte by byte, of number 12, of niloferq_table52, and of niloferq_explain and niloferq_heaviest, with the
+ * worked day. */
 void reading(const uint8_t *day, size_t length);
 void writing(const uint8_t *day, size_t length);
 void returns_in_bytes(const uint8_t *day, size_t length);
+void wood(void);
 void table52(void);
 void explanations(const uint8_t *day, size_t length);
 

@@ -12,6 +12,10 @@
  * no number there and are 1 and 2; the refusal of a room that is too short, 9000 and when reading also 9001 to 9006, comes last. On a refusal no lent
  * element has changed, but for niloferq_lines and niloferq_explain: the text of a refusal is its lines, and it is written like any other.
  *
+ * Number 12, always at place 0, is tried straight after 7: L is above 100 K, so that clearing would give more wood than was used. Equality is good.
+ *   K is the sum over the harvest rows of F x G + 1,000 x (I + J), in 10^-4 kt;
+ *   L is the sum over the conversion rows of area x (before - after, or 0 where after is above before) x off-site fraction, in 10^-6 kt.
+ *
  * Rows in lent memory: a row is its fields in the order below, each a uint32_t, with no zero bytes between. The rows of all kinds
  * lie in one area, kind after kind: conversion, stock, harvest, parameters, abandoned land, savanna, which are kinds 1 to 6.
  *
@@ -93,9 +97,9 @@
 #include <stddef.h>
 #include <stdint.h>
 
-/* Of the functions below; 7 named no row in an explanation, 6 had no explanation, 5 no table, 4 had five kinds, 3 number 8 and no `thinner`, 2 four kinds
- * and no edition, 1 an area for each kind. */
-#define NILOFERQ_VERSION 8
+/* Of the functions below; 8 had no number 12, 7 named no row in an explanation, 6 had no explanation, 5 no table, 4 had five kinds, 3 number 8 and no
+ * `thinner`, 2 four kinds and no edition, 1 an area for each kind. */
+#define NILOFERQ_VERSION 9
 
 #define NILOFERQ_EDITIONS 2            /* the latest edition */
 #define NILOFERQ_KINDS 6               /* the kinds of rows */
@@ -132,15 +136,16 @@ extern "C" {
 /* Judges a return: any bytes of any length.
  * 0: accepted, and the first NILOFERQ_COUNTS elements of counts are the edition and the numbers of conversion, stock, harvest,
  *    parameter, abandoned land and savanna rows; later elements keep their values.
- * 1000 to 7191: refused by one of the numbers 1 to 7. 9000: a good return, and counts_len is below NILOFERQ_COUNTS. */
+ * 1000 to 7191: refused by one of the numbers 1 to 7. 12000: then, by 12. 9000: a good return, and counts_len is below NILOFERQ_COUNTS. */
 uint32_t niloferq_judge(const uint8_t *bytes, size_t bytes_len, uint32_t *counts, size_t counts_len);
 
 /* The NILOFERQ_FIGURES figures as numbers, in the order in which `sheets` prints them: E, K, L, M, O, P, Q, report, onsite, offsite, R,
  * decay, co2, ch4, co, n2o, nox, uptake, uptake_co2, thinner, savanna_carbon, savanna_ch4, savanna_co, savanna_n2o, savanna_nox. thinner is
  * a count, of the periods of conversion rows whose density after is above that before, 0 to 64: such a period counts with a difference of 0.
  * 0: the first NILOFERQ_FIGURES_ROOM elements of room are three for each figure: 1 where it is below zero and else 0, then the upper
- *    and the lower word of its size, which is lower + 2^64 upper; later elements keep their values.
- * 1000 to 7191: refused by one of the numbers 1 to 7. 9000: a good return, and room_len is below NILOFERQ_FIGURES_ROOM. */
+ *    and the lower word of its size, which is lower + 2^64 upper; later elements keep their values. Only P, Q and report may be below zero:
+ *    the sign of M and O is always 0, since a return whose M would be below zero is refused.
+ * 1000 to 7191: refused by one of the numbers 1 to 7. 12000: then, by 12. 9000: a good return, and room_len is below NILOFERQ_FIGURES_ROOM. */
 uint32_t niloferq_figures(const uint8_t *bytes, size_t bytes_len, uint64_t *room, size_t room_len);
 
 /* The text that the program `sheets` prints: a line for each figure of a good return, or `refused`, number and place.
@@ -149,8 +154,8 @@ uint32_t niloferq_figures(const uint8_t *bytes, size_t bytes_len, uint64_t *room
 size_t niloferq_lines(const uint8_t *bytes, size_t bytes_len, uint8_t *room, size_t room_len);
 
 /* The text that the program `explain` prints: `refused`, number and place, then, where a row is refused, its block, its position there, its kind and its
- * id, and then the values that clash, a line each; of a good return the heaviest conversion row of each of the three carbon subtotals. docs/EXPLAIN.md has
- * the lines.
+ * id, and then the values that clash, a line each, for 12 `used`, which is 100 K, and `cleared`, which is L; of a good return the heaviest conversion
+ * row of each of the three carbon subtotals. docs/EXPLAIN.md has the lines.
  * The text's length, and the text stands at the front of room, with no zero byte behind it; later bytes keep their values.
  * 0: room_len is below the text's length, and room is unchanged. NILOFERQ_EXPLAIN_ROOM bytes are always enough. */
 size_t niloferq_explain(const uint8_t *bytes, size_t bytes_len, uint8_t *room, size_t room_len);
@@ -159,20 +164,21 @@ size_t niloferq_explain(const uint8_t *bytes, size_t bytes_len, uint8_t *room, s
  * with the lower id on a tie; where the subtotal is zero there is none.
  * 0: the first NILOFERQ_HEAVIEST_ROOM elements of room are 1, the row's id and its part in 10^-12 kt C; or 0, 0, 0 where there is none, so that a
  *    row with id 0 is told apart from none. Later elements keep their values.
- * 1000 to 7191: refused by one of the numbers 1 to 7. 11000: a good return and a code above 2. 9000: and room_len is below NILOFERQ_HEAVIEST_ROOM. */
+ * 1000 to 7191: refused by one of the numbers 1 to 7. 12000: then, by 12. 11000: a good return and a code above 2. Last 9000: room_len is below
+ *    NILOFERQ_HEAVIEST_ROOM. */
 uint32_t niloferq_heaviest(const uint8_t *bytes, size_t bytes_len, uint32_t code, uint64_t *room, size_t room_len);
 
 /* One of the three carbon subtotals as a double, by its code: 0 on-site, 1 off-site, 2 decay.
  * 0: the first eight bytes of room are the double's bits, the lowest byte first; later bytes keep their values. The double is a
  *    whole number of 10^-12 kt C, and its distance from the exact subtotal, times 2^53, is at most n + 2 times the exact subtotal,
  *    where n is the number of conversion rows.
- * 1000 to 7191: refused by one of the numbers 1 to 7. 11000: a good return and a code above 2. 9000: and room_len is below 8. */
+ * 1000 to 7191: refused by one of the numbers 1 to 7. 12000: then, by 12. 11000: a good return and a code above 2. Last 9000: room_len is below 8. */
 uint32_t niloferq_subtotal(const uint8_t *bytes, size_t bytes_len, uint32_t code, uint8_t *room, size_t room_len);
 
 /* The rows of a return, kind after kind. NILOFERQ_ROWS_ROOM and NILOFERQ_COUNTS elements are always enough.
  * 0: the rows of all kinds stand at the front of rows, and the first NILOFERQ_COUNTS elements of counts are the edition and the numbers
  *    of conversion, stock, harvest, parameter, abandoned land and savanna rows; later elements of both keep their values.
- * 1000 to 7191: refused by one of the numbers 1 to 7. Then, of a good return, the lowest place: 9000, counts_len is below
+ * 1000 to 7191: refused by one of the numbers 1 to 7. 12000: then, by 12. Last, of a good return, the lowest place: 9000, counts_len is below
  *    NILOFERQ_COUNTS; 9001 to 9006, the lowest kind whose rows no longer fit: the rows of the kinds up to it have more numbers than
  *    rows_len. */
 uint32_t niloferq_read(const uint8_t *bytes, size_t bytes_len, uint32_t *rows, size_t rows_len, uint32_t *counts, size_t counts_len);
@@ -191,7 +197,7 @@ uint32_t niloferq_defaults(uint32_t *room, size_t room_len);
  *    add up to rows_len; 10001 to 10006, the length of this kind is no whole number of its rows, or is more than NILOFERQ_MOST_ROWS of
  *    them, or for parameters isn't exactly one row, or isn't 0 though the edition does not have the kind. Then 5000 to 7191: refused by
  *    one of the numbers 5 to 7, the place being where the record would stand: above is how to tell which row of which kind that is.
- *    Last 9000: room_len is below the number of bytes, or size_len is 0. */
+ *    Then 12000: refused by 12. Last 9000: room_len is below the number of bytes, or size_len is 0. */
 uint32_t niloferq_write(uint32_t edition, const uint32_t *rows, size_t rows_len, const uint32_t *lengths, size_t lengths_len, uint8_t *room,
                         size_t room_len, uint32_t *size, size_t size_len);
 

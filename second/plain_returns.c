@@ -106,6 +106,21 @@ static int broken(const uint8_t *bytes, uint32_t n, uint32_t rule, uint32_t b, u
     }
 }
 
+/* Before less after, or 0 where there is more after. */
+static uint32_t difference(const uint8_t *p) { return two(p) > two(p + 2) ? two(p) - two(p + 2) : 0; }
+
+/* More wood cleared than used: L above 100 K. */
+static int cleared_above_used(const uint8_t *bytes, uint32_t n) {
+    uint64_t k = 0, l = 0;
+    for (uint32_t b = 0; b < n; b++)
+        for (uint32_t r = 0; r < bytes[512 * b + 1]; r++) {
+            const uint8_t *p = bytes + 512 * b + 8 + 40 * r;
+            if (bytes[512 * b] == 1) l += (uint64_t)four(p + 4) * difference(p + 8) * two(p + 18);
+            if (bytes[512 * b] == 3) k += (uint64_t)four(p + 4) * two(p + 8) + 1000 * ((uint64_t)four(p + 12) + four(p + 16));
+        }
+    return l > 100 * k;
+}
+
 /* 0 with the edition and the counts, or 1,000 times the number plus the place. */
 uint32_t plain_judge(const uint8_t *bytes, size_t length, uint32_t counts[7]) {
     if (length == 0 || length > 8192 || length % 512 != 0) return 1000;
@@ -128,14 +143,12 @@ uint32_t plain_judge(const uint8_t *bytes, size_t length, uint32_t counts[7]) {
         for (uint32_t b = 0; b < n; b++)
             for (uint32_t r = 0; r < bytes[512 * b + 1]; r++)
                 if (broken(bytes, n, rule, b, r)) return 1000 * rule + 12 * b + r;
+    if (cleared_above_used(bytes, n)) return 12000;
     memset(counts, 0, 7 * sizeof *counts);
     counts[0] = two(bytes + 6);
     for (uint32_t b = 0; b < n; b++) counts[bytes[512 * b]] += bytes[512 * b + 1];
     return 0;
 }
-
-/* Before less after, or 0 where there is more after. */
-static uint32_t difference(const uint8_t *p) { return two(p) > two(p + 2) ? two(p) - two(p + 2) : 0; }
 
 uint32_t plain_subtotal(const uint8_t *bytes, size_t length, uint32_t code, double *room) {
     uint32_t counts[7];

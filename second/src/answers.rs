@@ -3,8 +3,8 @@
 use crate::coverage::{Counters, Coverage, Due};
 use crate::kinds::EDITIONS;
 
-/// Refusal numbers go up to 11.
-const NUMBERS: u32 = 12;
+/// Refusal numbers go up to 12.
+const NUMBERS: u32 = 13;
 /// "8 is never given again, its number isn't reused" (02, §3): it fails a
 /// comparison when it is due, and is a difference when the first program gives it.
 const RETIRED: u32 = 8;

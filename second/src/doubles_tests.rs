@@ -38,6 +38,7 @@ fn the_order_shows_in_the_bits() {
         row[0] = id;
         row[1] -= 17 * id;
     }
+    rows.cover_with_more(&mut Rng::new(84), 0);
     let chain = |factors: [f64; 5]| factors.into_iter().reduce(|a, b| a * b).unwrap_or(0.0);
     let areas = [999_983.0, 999_966.0, 999_949.0];
     let on_site = areas.map(|area| chain([area, 9_973.0, 331.0, 997.0, 991.0]));
@@ -59,6 +60,7 @@ fn editions_have_the_same_doubles() {
         counts[..FIRST_WITH_IDS].fill(0);
         rows = Rows {
             conversion: rows.conversion,
+            harvest: rows.harvest,
             ..Rows::good_in(&mut rng, 2, counts)
         };
         let second = subtotals(&rows.to_bytes()).expect("good rows").in_order();

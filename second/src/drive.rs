@@ -2,6 +2,7 @@
 //! answers, the report of differences and the verdict at the end.
 
 use crate::answers::Answers;
+use crate::balances::Balances;
 use crate::coverage::{Asked, Coverage, Due};
 use crate::input::Input;
 use crate::rng::Rng;
@@ -29,6 +30,8 @@ pub struct Plan<'a> {
     pub often: &'a [u32],
     /// The fewest accepted inputs of each sort by their rows.
     pub sorts: usize,
+    /// The fewest inputs by the wood that is cleared and used, of each balance.
+    pub balances: usize,
 }
 
 /// What came of one input.
@@ -116,7 +119,7 @@ impl Ran {
     }
 }
 
-/// Goes over the inputs, and counts the answers, the sentences and the sorts of rows.
+/// Goes over the inputs, and counts the answers, the sentences, the sorts of rows and the balances of wood.
 pub fn run<I: Input>(
     plan: &Plan,
     arguments: Arguments,
@@ -129,6 +132,7 @@ pub fn run<I: Input>(
     let answers = Answers::new("", plan.often, shares, &mut coverage);
     let sentences = coverage.add(Due::Once, I::sentences());
     let sorts = RowSorts::new(Due::Times(plan.sorts), &mut coverage);
+    let balances = Balances::new(Due::Times(plan.balances), &mut coverage);
     let [mut made, mut accepted, mut differences] = [0; 3];
     let start = Instant::now();
     for index in 0..arguments.inputs.unwrap_or(plan.inputs) {
@@ -143,6 +147,7 @@ pub fn run<I: Input>(
         for nth in input.met(outcome.answer) {
             coverage.count(sentences, nth);
         }
+        balances.note(outcome.answer / 1000, || input.lists(), &mut coverage);
         if outcome.answer == 0 {
             accepted += 1;
             sorts.note(&input.lists(), &mut coverage);

@@ -1,12 +1,14 @@
 //! Why a return is refused (02, §7): "for a refusal, the number, the place and
 //! the values that clash: the length, stored and computed check, the block's
 //! header or non-zero byte, the two ids, the field and its limit, the sum of the
-//! fractions". Where the place is a row's, the row is named before them. Of a
-//! return that is accepted, the heaviest rows.
+//! fractions". Where the place is a row's, the row is named before them. With
+//! number 12 it "then shows 100K and L" (02, §8). Of a return that is accepted, the
+//! heaviest rows.
 
 use crate::heaviest;
+use crate::judge::RECORDS_PER_BLOCK;
 use crate::judge::{check, computed_check, edition, first_fault, four, record_at, stored_check};
-use crate::judge::{two, whole_blocks, Block, Fault, Record, Refusal, RECORDS_PER_BLOCK};
+use crate::judge::{two, whole_blocks, wood_of, Block, Fault, Record, Refusal};
 use crate::kinds::{Kind, KINDS};
 use crate::land::Conversion;
 use crate::text::Text;
@@ -55,7 +57,7 @@ fn print_row(bytes: &[u8], Refusal { number, place }: Refusal, text: &mut Text) 
 }
 
 /// The values that clash at a refusal's place, a block up to number 4 and a
-/// record from number 5 on.
+/// record from number 5 to 7. Number 12 is about the return as a whole.
 fn print_clash(bytes: &[u8], refusal: Refusal, text: &mut Text) {
     let (blocks, place) = (whole_blocks(bytes), refusal.place as usize);
     match refusal.number {
@@ -82,7 +84,7 @@ fn print_clash(bytes: &[u8], refusal: Refusal, text: &mut Text) {
             let (kind, record) = record_at(blocks, place);
             print_field(kind_of(kind), record, text);
         }
-        _ => {
+        7 => {
             let row = Conversion::of(record_at(blocks, place).1);
             let fractions =
                 [row.on_site, row.off_site, row.decay].map(|share| u64::from(share.fraction));
@@ -90,6 +92,11 @@ fn print_clash(bytes: &[u8], refusal: Refusal, text: &mut Text) {
                 text.line(name, fraction);
             }
             text.line("sum ", fractions.iter().sum());
+        }
+        _ => {
+            let wood = wood_of(blocks);
+            text.line("used ", wood.used());
+            text.line("cleared ", wood.l);
         }
     }
 }

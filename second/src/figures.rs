@@ -103,11 +103,8 @@ fn carbon_sum(rows: &Rows, shares: &[usize]) -> u128 {
 fn p(rows: &Rows) -> i128 {
     let wide = |row: &[u32], at: &[usize]| at.iter().map(|&i| i128::from(row[i])).product::<i128>();
     let e: i128 = rows.stock.iter().map(|r| wide(r, &[2, 3, 4])).sum();
-    let taken = |r: &[u32; 5]| wide(r, &[1, 2]) + 1_000 * (i128::from(r[3]) + i128::from(r[4]));
-    let k: i128 = rows.harvest.iter().map(taken).sum();
-    let cleared = |r: &[u32; 15]| i128::from(r[1]) * i128::from(counted(r, 0)) * i128::from(r[7]);
-    let l: i128 = rows.conversion.iter().map(cleared).sum();
-    100 * e - (100 * k - l) * i128::from(rows.parameters[0][0])
+    let [used, cleared] = rows.used_and_cleared().map(|sum| sum as i128);
+    100 * e - (used - cleared) * i128::from(rows.parameters[0][0])
 }
 
 /// A remainder at a half of `below`, or now and then one or two steps beside it.
@@ -212,6 +209,7 @@ fn co2_near_half(rng: &mut Rng) -> Rows {
     let below = 3_000_000_000;
     let due = solve(11, near_half(rng, below), below);
     bring_carbon(rng, &mut rows, &[0, 1, 2], due);
+    rows.cover_with_more(rng, 0);
     rows
 }
 
@@ -237,6 +235,7 @@ fn gas_near_half(rng: &mut Rng) -> Rows {
     };
     let due = solve(times, near_half(rng, below), below);
     bring_carbon(rng, &mut rows, &[0], due);
+    rows.cover_with_more(rng, 0);
     rows
 }
 
@@ -266,6 +265,8 @@ fn q_near_half(rng: &mut Rng) -> Rows {
     set_carbon(rng, &mut rows.conversion[last], 1, 0, 0);
     let stock = rows.stock.len() - 1;
     rows.stock[stock][2..].copy_from_slice(&[1, 0, 1]);
+    // With what the last conversion row clears at most.
+    rows.cover_with_more(rng, 100);
 
     let (due, _) = solve(11, near_half(rng, below), below);
     let missing = (due as i128 - p(&rows)).rem_euclid(below as i128) as u32;
@@ -317,10 +318,13 @@ fn large(rng: &mut Rng) -> Rows {
         row[at] -= rng.pick(&[0, 0, 1]);
     }
     savanna::enlarge(rng, &mut rows.savanna);
-    // All of one sign, or the largest of both.
+    // P as far below zero as there can be, as far above, or both sides large.
     match rng.below(3) {
         0 => rows.stock.clear(),
-        1 => rows.harvest.clear(),
+        1 => {
+            rows.harvest.clear();
+            rows.cover_with_more(rng, 0);
+        }
         _ => {}
     }
     if rng.one_in(2) {

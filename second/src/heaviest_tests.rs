@@ -6,7 +6,7 @@ use crate::sheets::Worksheets;
 use crate::weights::{alike, set, Factors};
 
 /// Conversion rows with these ids, whose parts of one subtotal have these factors
-/// and whose other parts are zero.
+/// and whose other parts are zero; and the harvest that they need.
 fn with_parts(code: usize, parts: &[(u32, Factors)]) -> Rows {
     let mut rng = Rng::new(161);
     let row = |&(id, factors): &(u32, Factors)| {
@@ -15,11 +15,13 @@ fn with_parts(code: usize, parts: &[(u32, Factors)]) -> Rows {
         set(&mut rng, &mut row, code, factors);
         row
     };
-    Rows {
+    let mut rows = Rows {
         conversion: parts.iter().map(row).collect(),
         parameters: vec![[0; 6]],
         ..Rows::default()
-    }
+    };
+    rows.cover_with_more(&mut rng, 0);
+    rows
 }
 
 fn found(rows: &Rows, code: u32) -> [u64; 3] {

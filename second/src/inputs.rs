@@ -2,7 +2,7 @@
 
 use crate::case::Case;
 use crate::rng::Rng;
-use crate::{clashes, figures, mix, sweep, weights};
+use crate::{clashes, clearings, figures, mix, sweep, weights};
 
 /// One input in this many comes from the sweeps, until they are used up.
 const SWEEP_EVERY: usize = 4;
@@ -50,11 +50,13 @@ pub fn explained(index: usize, rng: &mut Rng) -> Case {
     }
 }
 
-/// The mixture, several clashes at one place, and rows by their weight.
+/// The mixture, several clashes at one place, rows by their weight, and wood that is
+/// cleared and used nearly alike.
 pub fn drawn_explained(rng: &mut Rng) -> Case {
-    match rng.below(4) {
-        0 | 1 => mix::case(rng),
-        2 => clashes::case(rng),
-        _ => weights::case(rng),
+    match rng.below(9) {
+        0..4 => mix::case(rng),
+        4 | 5 => clashes::case(rng),
+        6 | 7 => weights::case(rng),
+        _ => clearings::case(rng),
     }
 }

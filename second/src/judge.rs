@@ -1,22 +1,28 @@
 //! The judge of a return: refusal numbers 1 to 7 of the paper (01), in order,
 //! with edition 2 and its kinds 5 and 6 from the requests on abandoned land and
-//! on savannas (02, §1 and §5). "8 is never given again, its number isn't reused,
-//! and 01's order closes over it" (02, §3).
+//! on savannas (02, §1 and §5), then number 12 from the request on fuelwood (02,
+//! §8). "8 is never given again, its number isn't reused, and 01's order closes
+//! over it" (02, §3).
 //!
 //! "Each number is tried over the whole input before the next, and the lowest
 //! place is given": numbers 1 to 4 are a pass each. The faults of 5 to 7 belong
 //! to single records and don't lean on each other, so one pass notes the first
-//! place of each, and the lowest number that was noted is given.
+//! place of each, and the lowest number that was noted is given. Number 12 adds
+//! records up, and is a pass again.
 
 mod blocks;
+mod clearing;
 mod layout;
 mod records;
 
 pub(crate) use blocks::{computed_check, stored_check};
+pub(crate) use clearing::wood_of;
 pub(crate) use layout::first_fault;
 pub use layout::Fault;
 
+use crate::wood::Wood;
 use blocks::{blocks_of, check_holds, first_block, header_holds};
+use clearing::clearing_holds;
 use layout::layout_holds;
 use records::records_hold;
 
@@ -71,11 +77,13 @@ const LAST_KIND: usize = SAVANNA as usize;
 pub(crate) type Block = [u8; BLOCK];
 pub type Record = [u8; RECORD];
 
-/// A return that was accepted: the caller's own bytes and the row counts.
+/// A return that was accepted: the caller's own bytes and the row counts, with the
+/// sums that number 12 has taken.
 #[derive(Clone, Copy)]
 pub struct Checked<'a> {
     blocks: &'a [Block],
     pub counts: Counts,
+    pub wood: Wood,
 }
 
 impl<'a> Checked<'a> {
@@ -127,6 +135,7 @@ pub fn check(bytes: &[u8]) -> Result<Checked<'_>, Refusal> {
     first_block(blocks, 3, header_holds)?;
     layout_holds(blocks)?;
     records_hold(blocks)?;
+    let wood = clearing_holds(blocks)?;
 
     let mut rows = [0; LAST_KIND];
     for block in blocks {
@@ -134,7 +143,11 @@ pub fn check(bytes: &[u8]) -> Result<Checked<'_>, Refusal> {
     }
     let edition = edition(&blocks[0]);
     let counts = Counts { edition, rows };
-    Ok(Checked { blocks, counts })
+    Ok(Checked {
+        blocks,
+        counts,
+        wood,
+    })
 }
 
 /// All whole blocks of any bytes.

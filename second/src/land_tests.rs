@@ -21,12 +21,15 @@ fn row(id: u32, [year, ten_years]: [[u32; 2]; 2]) -> [u32; 15] {
     ]
 }
 
+/// With the harvest that they need, which is none where nothing is cleared.
 fn return_of(rows: &[[u32; 15]]) -> Rows {
-    Rows {
+    let mut rows = Rows {
         conversion: rows.to_vec(),
         parameters: vec![[500, 12, 60, 10, 7, 121]],
         ..Rows::default()
-    }
+    };
+    rows.cover_with_more(&mut Rng::new(133), 0);
+    rows
 }
 
 fn sheets_of(rows: &[[u32; 15]]) -> Worksheets {

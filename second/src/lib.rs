@@ -1,6 +1,6 @@
 //! The second program, written from the paper (01) and the requests on abandoned
-//! land, on halves, on thinner grass, on savannas, on table 5-2 and on reasons (02,
-//! §1 to §3 and §5 to §7) alone: a judge, a reader and a writer of returns, the
+//! land, on halves, on thinner grass, on savannas, on table 5-2, on reasons and on
+//! fuelwood (02, §1 to §3 and §5 to §8) alone: a judge, a reader and a writer of returns, the
 //! worksheets, the doubles, the table, the explanations and the heaviest rows, with
 //! makers of good and damaged inputs to compare all of it with the first program.
 //! The table is read from docs/TABLE52.csv.
@@ -13,10 +13,12 @@
 #![deny(unsafe_code)]
 
 pub mod answers;
+pub mod balances;
 pub mod bound;
 pub mod burned;
 pub mod case;
 pub mod clashes;
+pub mod clearings;
 pub mod coverage;
 pub mod damage;
 pub mod doubles;
@@ -57,6 +59,8 @@ pub mod text;
 pub mod thinner;
 pub mod timing;
 pub mod weights;
+pub mod wood;
+pub mod wood_sweeps;
 pub mod worst;
 pub mod writer;
 

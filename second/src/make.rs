@@ -7,11 +7,13 @@
 mod bytes;
 mod draw;
 mod good;
+mod harvest;
 mod savannas;
 
 pub use bytes::{renumber, repair_check, repair_checks, seal};
 pub use draw::good_ids;
 pub use good::{drawn_counts, later, thin};
+pub use harvest::used_and_cleared;
 pub use savannas::{enlarge, savanna_carbon};
 
 use crate::kinds::{full_blocks, Field, Kind, EDITIONS, KINDS};

@@ -1,7 +1,8 @@
 //! Inputs drawn at random: good returns, each number broken alone, in pairs
-//! and several times, and random blocks.
+//! and several times, wood that is cleared and used nearly alike, and random blocks.
 
 use crate::case::Case;
+use crate::clearings;
 use crate::damage::{block, block_count, break_number, random_blocks};
 use crate::make::{drawn_counts, repair_checks, seal, Rows, BLOCK};
 use crate::rng::Rng;
@@ -10,11 +11,12 @@ use crate::spoil::spoil;
 type Weighted = (usize, fn(&mut Rng) -> Case);
 
 /// How often each way is taken, out of the sum of all.
-const WEIGHTS: [Weighted; 7] = [
+const WEIGHTS: [Weighted; 8] = [
     (18, good),
     (36, alone),
     (20, two_numbers),
     (12, one_number_often),
+    (8, clearings::case),
     (6, random),
     (5, changed_bytes),
     (3, reordered),
@@ -42,12 +44,13 @@ fn good(rng: &mut Rng) -> Case {
 }
 
 /// Breaks these numbers, the ones of the rows first, so that no later damage
-/// is made good again by the repair after an earlier one.
-fn broken(rng: &mut Rng, mut numbers: Vec<u32>) -> Case {
+/// is made good again by the repair after an earlier one; of these too the highest
+/// first, for number 12 is brought about in rows that are good.
+pub fn broken(rng: &mut Rng, mut numbers: Vec<u32>) -> Case {
     numbers.sort_unstable();
     let mut rows = Rows::good_from(rng, 2);
     let mut how = String::from("broken");
-    for &number in numbers.iter().filter(|&&number| number >= 5) {
+    for &number in numbers.iter().rev().filter(|&&number| number >= 5) {
         how += &format!(", {}", spoil(rng, &mut rows, number));
     }
     let mut bytes = rows.to_bytes();
@@ -58,7 +61,7 @@ fn broken(rng: &mut Rng, mut numbers: Vec<u32>) -> Case {
 }
 
 fn alone(rng: &mut Rng) -> Case {
-    let number = rng.pick(&[1, 2, 2, 3, 3, 4, 4, 4, 5, 5, 6, 6, 7, 7, 7]);
+    let number = rng.pick(&[1, 2, 2, 3, 3, 4, 4, 4, 5, 5, 6, 6, 7, 7, 7, 12]);
     if number == 4 && rng.one_in(3) {
         // Small returns, where a block more or less has room.
         let counts = drawn_counts(rng, |rng| rng.pick(&[0, 1, 5, 12, 13]));
@@ -72,12 +75,15 @@ fn alone(rng: &mut Rng) -> Case {
     broken(rng, vec![number])
 }
 
+/// The numbers that returns are refused by, in order.
+const NUMBERS: [u32; 8] = [1, 2, 3, 4, 5, 6, 7, 12];
+
 /// Two different numbers at places of their own: the lower number shows, from
 /// the lower place or from the higher.
 fn two_numbers(rng: &mut Rng) -> Case {
-    let low = if rng.one_in(20) { 1 } else { rng.from_to(2, 6) };
-    let high = rng.from_to(low + 1, 7);
-    broken(rng, vec![low, high])
+    let low = if rng.one_in(20) { 0 } else { 1 + rng.below(6) };
+    let high = low + 1 + rng.below(NUMBERS.len() - low - 1);
+    broken(rng, vec![NUMBERS[low], NUMBERS[high]])
 }
 
 /// One number at several places, so that the lowest shows.
@@ -147,8 +153,8 @@ mod tests {
     #[test]
     fn the_lower_number_shows() {
         let mut rng = Rng::new(31);
-        for low in 5..7 {
-            for high in low + 1..=7 {
+        for low in [5, 6, 7] {
+            for high in [6, 7, 12].into_iter().filter(|&high| high > low) {
                 let mut own = 0;
                 for _ in 0..300 {
                     let bytes = broken(&mut rng, vec![low, high]).bytes;
@@ -163,14 +169,15 @@ mod tests {
 
     #[test]
     fn every_answer_comes_often() {
-        // One for each number that is given, 8 no more among them.
-        let mut given = [0; 8];
+        let mut given = [0; 13];
         for index in 0..20_000 {
             match judge(&case(&mut Rng::for_input(32, index)).bytes) {
                 Verdict::Accepted(_) => given[0] += 1,
                 Verdict::Refused(refusal) => given[refusal.number as usize] += 1,
             }
         }
-        assert!(given.iter().all(|&times| times > 400), "{given:?}");
+        let often = |&number: &u32| given[number as usize] > 400;
+        assert!(given[0] > 4_000 && NUMBERS.iter().all(often), "{given:?}");
+        assert_eq!(given[8], 0, "8 is never given again");
     }
 }

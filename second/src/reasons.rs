@@ -46,9 +46,12 @@ const KIND_NAMES: [&str; KINDS.len()] = [
     "savanna",
 ];
 
+/// Acceptance, and the numbers that are explained.
+const NUMBERS: [usize; 9] = [0, 1, 2, 3, 4, 5, 6, 7, 12];
+
 /// Counters for all of it.
 pub struct Reasons {
-    /// Acceptance and the numbers 1 to 7.
+    /// By [`NUMBERS`].
     numbers: Counters,
     /// Each in edition 1 and in the later ones.
     faults: Counters,
@@ -72,7 +75,7 @@ impl Reasons {
     /// So many of each are due, and of each number with each kind of row, but for
     /// what can't come.
     pub fn new(due: Due, due_rows: Due, coverage: &mut Coverage) -> Self {
-        let numbers = (0..8).map(|number| format!("explained, number {number}"));
+        let numbers = NUMBERS.map(|number| format!("explained, number {number}"));
         let numbers = coverage.add(due, numbers);
         let faults = coverage.add(due, [""; 0]);
         for fault in Fault::ALL {
@@ -137,7 +140,8 @@ impl Reasons {
             return self.note_heaviest(bytes, coverage);
         };
         let [number, place] = [number, place].map(|word| word.parse().expect("a number"));
-        coverage.count(self.numbers, number);
+        let known = NUMBERS.iter().position(|&known| known == number);
+        coverage.count(self.numbers, known.expect("a number that is explained"));
         if let Some(nth) = OF_ROWS.iter().position(|&(of_rows, _)| of_rows == number) {
             let kind = value("kind_name").expect("a kind is named");
             let kind = KIND_NAMES.iter().position(|&name| name == kind);

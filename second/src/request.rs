@@ -2,6 +2,7 @@
 //! that is too slow for the whole sweeps.
 
 use crate::case::Case;
+use crate::clearings;
 use crate::damage::block;
 use crate::families::Families;
 use crate::kinds::KINDS;
@@ -15,7 +16,11 @@ static FAMILIES: Families<Case> = Families(&[
     (SHORT_EDITIONS, editions),
     (2 * CROWDS, crowds),
     (WAYS * TRIES * LATER, later),
+    (CLEARINGS, |_, rng| clearings::case(rng)),
 ]);
+
+/// How many are made for the sake of number 12.
+const CLEARINGS: usize = 60;
 
 /// Ways in which rows of a kind above 4 are at fault, and how often each is drawn.
 const WAYS: usize = 6;

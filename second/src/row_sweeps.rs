@@ -9,6 +9,8 @@ use crate::make::{FIRST_WITH_IDS, LIMITED, MOST_ROWS, WITH_IDS};
 use crate::rng::Rng;
 use crate::rowlists::{wrap_sum, UNKNOWN_EDITIONS};
 use crate::spoil::{spoil_id, value, BAD_IDS, VALUES};
+use crate::wood_sweeps::{written_alone, written_balances, written_with_12};
+use crate::wood_sweeps::{ALONE, BALANCES, WITH_12_WRITING};
 
 /// More rows than are allowed, far enough to see 33, 34, 36 and 37.
 const COUNTS: usize = MOST_ROWS + 6;
@@ -22,6 +24,9 @@ static FAMILIES: Families<RowLists> = Families(&[
     (PARAMETER_ROWS * 8, parameter_rows),
     (LENGTH_COUNTS * 3 * 8, length_counts),
     (2 * AREAS, areas),
+    (BALANCES, written_balances),
+    (ALONE, written_alone),
+    (WITH_12_WRITING, written_with_12),
     (WRAPS, wraps),
 ]);
 
@@ -104,6 +109,10 @@ fn values(index: usize, rng: &mut Rng) -> RowLists {
     let limit = fields(kind)[field].most;
     let value = value(which, limit, rng);
     rows.row(kind, row)[field] = value;
+    if kind == 1 && value <= limit {
+        // Good as far as it can be: a large row has to have its harvest.
+        rows.cover_with_more(rng, 0);
+    }
     RowLists::of(
         format!("kind {kind} row {row} field {field}: {value}"),
         &rows,

@@ -1,7 +1,9 @@
 //! A maker of rows for the writer: good ones, lengths that are no whole number
 //! of rows, too many or don't add up, editions that there aren't or that don't
-//! have a kind, and each rule broken alone and beside others.
+//! have a kind, wood that is cleared and used nearly alike, and each rule broken
+//! alone and beside others.
 
+use crate::clearings;
 use crate::kinds::KINDS;
 use crate::lists::{Lists, RowLists};
 use crate::make::{fields, Rows};
@@ -10,10 +12,10 @@ use crate::spoil::{any_limited, spoil, value, VALUES};
 
 /// Random rows with their lengths.
 pub fn case(rng: &mut Rng) -> RowLists {
-    match rng.below(22) {
+    match rng.below(24) {
         0..5 => RowLists::of("good".to_string(), &Rows::any_good(rng)),
         5..12 => {
-            let number = rng.pick(&[5, 6, 7, 7, 10]);
+            let number = rng.pick(&[5, 6, 7, 7, 10, 12]);
             broken(rng, &[number])
         }
         12 => {
@@ -23,7 +25,7 @@ pub fn case(rng: &mut Rng) -> RowLists {
         }
         13..18 => {
             let low = rng.pick(&[5, 6, 7, 10]);
-            let high = rng.pick(&[5, 6, 7]);
+            let high = rng.pick(&[5, 6, 7, 12]);
             broken(rng, &[low, high])
         }
         18 => {
@@ -31,13 +33,14 @@ pub fn case(rng: &mut Rng) -> RowLists {
             broken(rng, &[number; 4])
         }
         19 | 20 => {
-            let numbers = some_of(rng, &[5, 6, 7], 4);
+            let numbers = some_of(rng, &[5, 6, 7, 12], 4);
             let mut made = broken(rng, &numbers);
             break_edition(rng, &mut made);
             made
         }
+        21 | 22 => clearings::lists(rng),
         _ => {
-            let numbers = some_of(rng, &[5, 6, 7, 10], 2);
+            let numbers = some_of(rng, &[5, 6, 7, 10, 12], 2);
             broken(rng, &numbers)
         }
     }
@@ -49,10 +52,14 @@ fn some_of(rng: &mut Rng, numbers: &[u32], one_in: usize) -> Vec<u32> {
     taken.copied().collect()
 }
 
-/// Breaks these numbers; 10 goes last, because it may take the rows' order.
-fn broken(rng: &mut Rng, numbers: &[u32]) -> RowLists {
+/// Breaks these numbers; 10 goes last, because it may take the rows' order, and 12
+/// first, because it is brought about in rows that are good.
+pub fn broken(rng: &mut Rng, numbers: &[u32]) -> RowLists {
     let mut rows = Rows::good_from(rng, 2);
     let mut how = String::from("broken");
+    if numbers.contains(&12) {
+        how += &format!(", {}", spoil(rng, &mut rows, 12));
+    }
     for &number in numbers.iter().filter(|&&number| number < 10) {
         if number == 6 && rng.one_in(2) {
             how += &far_above(rng, &mut rows);

@@ -10,12 +10,12 @@ fn answer(made: &RowLists) -> u32 {
 
 #[test]
 fn every_index_makes_lists() {
-    let mut given = [0; 12];
+    let mut given = [0; 13];
     for index in 0..row_sweeps::size() {
         let made = row_sweeps::case(index, &mut Rng::for_input(41, index as u64));
         given[(answer(&made) / 1000) as usize] += 1;
     }
-    for number in [0, 5, 6, 7, 10] {
+    for number in [0, 5, 6, 7, 10, 12] {
         assert!(given[number] > 20, "{given:?}");
     }
     assert_eq!(given[8], 0, "8 is never given again");
@@ -24,7 +24,7 @@ fn every_index_makes_lists() {
 
 #[test]
 fn every_answer_comes_often() {
-    let mut given = [0; 12];
+    let mut given = [0; 13];
     let mut places = [0; KINDS.len() + 1];
     // 20,000 for the first six kinds, and for each kind more as many more.
     for index in 0..20_000 * KINDS.len() as u64 / 6 {
@@ -34,7 +34,7 @@ fn every_answer_comes_often() {
             places[(answer % 1000) as usize] += 1;
         }
     }
-    for number in [0, 5, 6, 7, 10] {
+    for number in [0, 5, 6, 7, 10, 12] {
         assert!(given[number] > 600, "{given:?}");
     }
     assert_eq!(given[8], 0, "8 is never given again");
@@ -44,7 +44,7 @@ fn every_answer_comes_often() {
 #[test]
 fn numbers_broken_alone_are_given() {
     let mut rng = Rng::new(43);
-    for number in [5, 6, 7, 10] {
+    for number in [5, 6, 7, 10, 12] {
         for _ in 0..1_000 {
             let made = broken(&mut rng, &[number]);
             assert_eq!(answer(&made) / 1000, number, "{}", made.how);
@@ -52,7 +52,7 @@ fn numbers_broken_alone_are_given() {
     }
 }
 
-/// By hand: the order 10, 5, 6, 7, and places counted in whole blocks.
+/// By hand: the order 10, 5, 6, 7, 12, and places counted in whole blocks.
 #[test]
 fn order_and_places() {
     let mut rows = Rows {
@@ -70,6 +70,9 @@ fn order_and_places() {
     rows.conversion[12][3] = 10;
     rows.conversion[11][12] = 10;
     assert_eq!(judged(&rows), 0);
+    // 12 rows that clear 6 each: 72, and nothing used.
+    rows.harvest[0][1..].fill(0);
+    assert_eq!(judged(&rows), 12_000);
     rows.conversion[12][4] = 999;
     assert_eq!(judged(&rows), 7012);
     rows.parameters[0][5] = 65_536;

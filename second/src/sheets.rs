@@ -3,8 +3,8 @@
 //!
 //! The largest values at the limits say how wide each figure must be:
 //! E 3.2 x 10^15, K 3.84 x 10^12, L 3.2 x 10^14, O 3.84 x 10^17, 11 P
-//! 7.04 x 10^18, the uptake 6.4 x 10^15 and 11 times that fit 64 bits, and so
-//! does one conversion row (10^19, unsigned).
+//! 4.224 x 10^18 below zero and 3.52 x 10^18 above, the uptake 6.4 x 10^15 and 11
+//! times that fit 64 bits, and so does one conversion row (10^19, unsigned).
 //! A sum of rows (3.2 x 10^20) doesn't, nor do the numerators of the gases; the
 //! widest, 23 C x N/C x ratio, is 7.36 x 10^27 and well inside 128 bits.
 
@@ -104,10 +104,9 @@ struct Sums {
 
 impl Sums {
     fn of(checked: Checked) -> Self {
-        let [mut l, mut thinner] = [0; 2];
+        let mut thinner = 0;
         let [mut onsite, mut offsite, mut decay] = [0u128; 3];
         for row in checked.records(1).map(Conversion::of) {
-            l += cleared(row.year) * u64::from(row.off_site.fraction);
             onsite += u128::from(carbon(row.year, row.on_site));
             offsite += u128::from(carbon(row.year, row.off_site));
             decay += u128::from(carbon(row.ten_years, row.decay));
@@ -116,8 +115,8 @@ impl Sums {
         let parameters = checked.parameters();
         Sums {
             e: checked.records(2).map(grown).sum(),
-            k: checked.records(3).map(taken).sum(),
-            l,
+            k: checked.wood.k,
+            l: checked.wood.l,
             onsite,
             offsite,
             decay,
@@ -128,6 +127,7 @@ impl Sums {
         }
     }
 
+    /// "M, O then never fall below zero" (02, §8), since number 12 comes before.
     fn m(&self) -> i64 {
         100 * self.k as i64 - self.l as i64
     }
@@ -304,12 +304,6 @@ enum Figure {
 /// nothing: "nothing is multiplied".
 fn grown(r: &Record) -> u64 {
     u64::from(four(r, 8)) * u64::from(two(r, 6)) * u64::from(two(r, 12))
-}
-
-/// F x G + 1,000 x (I + J) of a harvest record.
-fn taken(r: &Record) -> u64 {
-    u64::from(four(r, 4)) * u64::from(two(r, 8))
-        + 1_000 * (u64::from(four(r, 12)) + u64::from(four(r, 16)))
 }
 
 /// Area x rate x carbon fraction of an abandoned record, for up to twenty years

@@ -116,10 +116,11 @@ fn halves_of_q_go_to_the_even_neighbour() {
     assert_eq!(with_harvest(105_000), (-10_500_000, -38, 38));
 }
 
-/// Off-site carbon of one row: it, R and co2.
+/// Off-site carbon of one row: it, R and co2. Its harvest is above what it clears.
 fn with_offsite(area: u32) -> (u128, u128, u64) {
     let mut rows = zero_parameters();
     rows.conversion = vec![[1, area, 1, 0, 0, 0, 0, 15, 100, 1000, 0, 0, 0, 0, 0]];
+    rows.harvest = vec![[1, 0, 0, 1, 0]];
     let figures = figures_of(&rows);
     (figures.offsite, figures.r(), figures.co2)
 }
@@ -193,7 +194,8 @@ fn f_the_largest_on_site_rows() {
     assert!(text_of(&rows.to_bytes()).contains("\nonsite 320000000000000000000\n"));
 }
 
-/// The far ends of worksheet 5-1: nothing overflows.
+/// The far ends of worksheet 5-1: nothing overflows. P is largest where nothing is used
+/// beyond what is cleared.
 #[test]
 fn the_largest_of_5_1() {
     let mut rows = zero_parameters();
@@ -208,13 +210,13 @@ fn the_largest_of_5_1() {
             ]
         })
         .collect();
+    // 32 times 10^11 of K, as much as is cleared.
+    rows.harvest = (0..32).map(|id| [id, 10_000_000, 10_000, 0, 0]).collect();
     let up = figures_of(&rows);
     assert_eq!((up.e, up.l), (3_200_000_000_000_000, 320_000_000_000_000));
-    assert_eq!(
-        (up.o, up.p),
-        (-320_000_000_000_000_000, 640_000_000_000_000_000)
-    );
-    assert_eq!(up.q, 2_346_666_666_667);
+    assert_eq!((up.k, up.m), (3_200_000_000_000, 0));
+    assert_eq!((up.o, up.p), (0, 320_000_000_000_000_000));
+    assert_eq!(up.q, 1_173_333_333_333);
     rows.stock.clear();
     rows.conversion.clear();
     rows.harvest = (0..32)

@@ -1,4 +1,5 @@
-//! Rows that are bad in one chosen way: numbers 5 to 7 of the paper.
+//! Rows that are bad in one chosen way: numbers 5 to 7 of the paper, and 12 of the
+//! request on fuelwood (02, §8).
 
 use crate::kinds::Field;
 use crate::make::{fields, Rows, FIRST_WITH_IDS, SUMMED, WITH_IDS};
@@ -140,6 +141,19 @@ pub fn spoil_fractions(rng: &mut Rng, row: &mut [u32; 15]) {
     }
 }
 
+/// Breaks number 12 and nothing else: L above 100 K by one, by a few or by many, or
+/// nothing used at all. By how much.
+pub fn spoil_clearing(rng: &mut Rng, rows: &mut Rows) -> u128 {
+    let any = 1 + rng.below(900_000) as i64;
+    let more = rng.pick(&[1, 1, 1, 2, 99, 100, any, any]);
+    rows.balance(rng, more);
+    if rng.one_in(4) {
+        rows.harvest.iter_mut().for_each(|row| row[1..].fill(0));
+    }
+    let [used, cleared] = rows.used_and_cleared();
+    cleared - used
+}
+
 /// A kind with ids that this edition has.
 fn any_with_ids(rng: &mut Rng, rows: &Rows) -> u8 {
     let known = if rows.edition == 1 {
@@ -167,7 +181,7 @@ pub fn any_limited_of(rng: &mut Rng, kind: u8) -> usize {
     rng.pick(&limited.map(|(at, _)| at).collect::<Vec<_>>())
 }
 
-/// Breaks one of the numbers 5 to 7 at a random place. The rows must hold two
+/// Breaks one of the numbers 5 to 7 at a random place, or 12. The rows must hold two
 /// or more of each kind with ids that their edition has.
 pub fn spoil(rng: &mut Rng, rows: &mut Rows, number: u32) -> String {
     match number {
@@ -194,6 +208,7 @@ pub fn spoil(rng: &mut Rng, rows: &mut Rows, number: u32) -> String {
             spoil_fractions(rng, &mut rows.conversion[row]);
             format!("7: at row {row}")
         }
+        12 => format!("12: by {}", spoil_clearing(rng, rows)),
         _ => unreachable!("number {number} is not broken in rows"),
     }
 }
@@ -206,7 +221,7 @@ mod tests {
     #[test]
     fn each_number_broken_alone_is_given() {
         let mut rng = Rng::new(11);
-        for number in 5..=7 {
+        for number in [5, 6, 7, 12] {
             for _ in 0..2_000 {
                 let mut rows = Rows::good_from(&mut rng, 2);
                 let how = spoil(&mut rng, &mut rows, number);

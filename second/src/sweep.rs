@@ -10,6 +10,7 @@ use crate::make::{LIMITED, MOST_BLOCKS, MOST_ROWS, SUMMED, WITH_IDS};
 use crate::order_sweeps::{crowds, editions, orders, CROWDS, EDITIONS, ORDERS};
 use crate::rng::Rng;
 use crate::spoil::{spoil_id, spoil_limit, ABOVES, BAD_IDS};
+use crate::wood_sweeps::{alone, balances, with_12, ALONE, BALANCES, WITH_12};
 
 /// Some more than the most blocks have.
 const LENGTHS: usize = BLOCK * MOST_BLOCKS + 81;
@@ -36,6 +37,9 @@ static FAMILIES: Families<Case> = Families(&[
     (2 * ORDERS, orders),
     (EDITIONS, editions),
     (2 * CROWDS * CROWD_TRIES, crowds),
+    (BALANCES, balances),
+    (ALONE, alone),
+    (WITH_12, with_12),
 ]);
 
 /// How many inputs the sweeps have together.
@@ -208,6 +212,8 @@ fn limits(index: usize, rng: &mut Rng) -> Case {
         spoil_limit(rng, &mut rows, (kind, row, field), ABOVES[way]);
     } else {
         at_limit(&mut rows, kind, row, field);
+        // A large conversion row has to have its harvest.
+        rows.cover_with_more(rng, 0);
     }
     let how = format!("kind {kind} row {row} field {field} limit way {way}");
     Case {

@@ -69,6 +69,7 @@ pub fn case(rng: &mut Rng) -> Case {
     for code in (0..codes).map(|turn| (first + turn) % 3) {
         how += &format!(", {} of code {code}", weigh(rng, &mut rows, code));
     }
+    rows.cover_with_more(rng, 0);
     Case {
         how,
         bytes: rows.to_bytes(),

@@ -64,6 +64,8 @@ fn rows_of(ids: &[u32], which: Which, factors: &[Factors]) -> Rows {
         }
         rows.conversion.push(row);
     }
+    // The harvest changes no carbon, so that any will do.
+    rows.cover_with_more(&mut Rng::new(1), 0);
     rows
 }
 

@@ -2,6 +2,7 @@
 
 use crate::judge::{Record, Refusal};
 use crate::kinds::{FirstPlaces, Kind, EDITIONS, KINDS};
+use crate::wood::Wood;
 
 const BLOCK: usize = 512;
 const RECORD: usize = 40;
@@ -32,8 +33,8 @@ pub fn write(
 /// How many rows of each kind there are.
 type Counts = [usize; KINDS.len()];
 
-/// "Writing: 10, then 5 to 9", without 8 (02, §3). The rows of each kind, and the
-/// blocks they take.
+/// "Writing: 10, then 5 to 9", without 8 (02, §3) and with 12 "straight after 7" (02,
+/// §8). The rows of each kind, and the blocks they take.
 fn checked(
     edition: u32,
     rows: &[u32],
@@ -42,6 +43,12 @@ fn checked(
 ) -> Result<(Counts, usize), Refusal> {
     let counts = counts_of(edition, rows, lengths)?;
     rows_hold(rows, &counts)?;
+    if !wood_of(rows, &counts).holds() {
+        return Err(Refusal {
+            number: 12,
+            place: 0,
+        });
+    }
     let blocks = counts
         .iter()
         .map(|rows| rows.div_ceil(RECORDS_PER_BLOCK))
@@ -108,6 +115,21 @@ fn rows_hold(rows: &[u32], counts: &Counts) -> Result<(), Refusal> {
             place: place as u32,
         }),
     }
+}
+
+/// The sums of number 12, of rows whose fields are within their limits.
+fn wood_of(rows: &[u32], counts: &Counts) -> Wood {
+    let mut wood = Wood::default();
+    for (number, kind, _, rows) in parts(rows, counts) {
+        for row in rows.chunks(kind.numbers) {
+            match number {
+                1 => wood.clear([row[1], row[2], row[3], row[7]]),
+                3 => wood.use_up([row[1], row[2], row[3], row[4]]),
+                _ => {}
+            }
+        }
+    }
+    wood
 }
 
 /// Fills `room`, which is exactly as long as the blocks.

@@ -1,6 +1,6 @@
 -- Single cases of the table, as the promises take them to shut a wrong answer out. Assumes nothing.
---     day-answered, lone-answered, many-answered    cases (a), (b) and (f)
---     each-differs              every figure of (a) is another than that of (b)
+--     lone-answered, spent-answered, many-answered    cases (b), (d) and (f); land-answered, the day with a row each of grass, land and savanna
+--     each-differs              every figure of that day is another than that of (b)
 --     first-row, first-block    what the first row and the first block of (f) alone would give
 use Prim.Native.Nat.{ℕ, _*_, _^_, _<_}
 use mathlib.Core.Path.{_≡_, refl, ap}
@@ -44,6 +44,9 @@ land-answered = ap (sheetsAt landCase) all-answered
 
 pub lone-answered : outcomeOf (nth 1 .bytes) ≡ nth 1 .answer .sheets
 lone-answered = ap (sheetsAt 1) all-answered
+
+pub spent-answered : outcomeOf (nth 3 .bytes) ≡ nth 3 .answer .sheets
+spent-answered = ap (sheetsAt 3) all-answered
 
 pub many-answered : outcomeOf (nth 5 .bytes) ≡ nth 5 .answer .sheets
 many-answered = ap (sheetsAt 5) all-answered

@@ -1,4 +1,4 @@
--- "Proved as a single table, under one claim about all of it": 01's cases (a) to (j), seven of edition 2, four of halves, one of a row thinner in both periods and one of the largest savannas, each a whole return with its complete answer, every figure of it.
+-- "Proved as a single table, under one claim about all of it": 01's cases (a) to (j), seven of edition 2, four of halves, one of a row thinner in both periods, one of the largest savannas and two of wood, each a whole return with its complete answer, every figure of it.
 -- Where the case is about rows, the return is made of them by the definition of writing; where it is about bytes, the bytes stand here. An accepted return of rows is answered from the rows (FromRows), any other from its bytes.
 use Prim.Native.Nat.{ℕ, zero, suc}
 use mathlib.Core.Path.{_≡_, refl, ap, ap₂, _∙_}
@@ -138,21 +138,28 @@ defaults = parameterNumbers standard
 abbrev row : ℕ → ℕ → ℕ → ℕ → ℕ → List ℕ
 row i area before after onsite = i ∷ area ∷ before ∷ after ∷ onsite ∷ 1000 ∷ 1000 ∷ 0 ∷ 0 ∷ 0 ∷ 0 ∷ 0 ∷ 0 ∷ 0 ∷ 0 ∷ []
 
--- its three fractions alone, on no area
-abbrev split : ℕ → ℕ → ℕ → List ℕ
-split onsite offsite decay = 1 ∷ 0 ∷ 0 ∷ 0 ∷ onsite ∷ 0 ∷ 0 ∷ offsite ∷ 0 ∷ 0 ∷ 0 ∷ 0 ∷ 0 ∷ decay ∷ 0 ∷ []
+-- wood cleared and not burned: an area, its difference, and the three fractions
+abbrev wood : ℕ → ℕ → ℕ → ℕ → ℕ → List ℕ
+wood area difference onsite offsite decay = 1 ∷ area ∷ difference ∷ 0 ∷ onsite ∷ 0 ∷ 0 ∷ offsite ∷ 0 ∷ 0 ∷ 0 ∷ 0 ∷ 0 ∷ decay ∷ 0 ∷ []
+
+-- wood used: F x G
+abbrev used : ℕ → List ℕ
+used f = 1 ∷ f ∷ 1 ∷ 0 ∷ 0 ∷ []
 
 -- n of the largest on-site rows, with the ids i, i + 1 and so on
 unfoldable pub largest : ℕ → ℕ → List ℕ
 largest i zero = []
 largest i (suc n) = row i 1000000 10000 0 1000 ++ largest (suc i) n
 
--- conversion rows alone, and stock and harvest rows alone, with the default parameters
+-- conversion rows alone, with harvest rows, and stock rows alone, with the default parameters
 abbrev converted : List ℕ → Lists
 converted c = c ∷ [] ∷ [] ∷ defaults ∷ [] ∷ [] ∷ []
 
-abbrev grown : List ℕ → List ℕ → Lists
-grown s h = [] ∷ s ∷ h ∷ defaults ∷ [] ∷ [] ∷ []
+abbrev cleared : List ℕ → List ℕ → Lists
+cleared c h = c ∷ [] ∷ h ∷ defaults ∷ [] ∷ [] ∷ []
+
+abbrev grown : List ℕ → Lists
+grown s = [] ∷ s ∷ [] ∷ defaults ∷ [] ∷ [] ∷ []
 
 -- 10 kha growing 6.8 t/ha a year, half of it carbon; and 20 kha, abandoned longer, growing 3 t/ha, 0.45 of it carbon
 abbrev land : List ℕ
@@ -202,9 +209,9 @@ table01 =
     -- (b) "the lone parameter block of zero values, check 18: all figures 0"
     ∷ of-bytes (lone 18) (figured none51 none52 none53 none54 none43 zeros)
     -- (c) "P = 1,500,000 gives Q = 6": a stock row of 15 x 100 x 10
-    ∷ worked-out 1 (grown (1 ∷ 0 ∷ 100 ∷ 15 ∷ 10 ∷ []) []) (sheet51 15000 0 0 (pos 0) (pos 0) (pos 1500000) (pos 6) (negsuc 5)) none52 none53 none54 zeros
-    -- (d) "P = -1,500,000 gives -6": a harvest row with F 30 and G 1, at N 500
-    ∷ worked-out 1 (grown [] (1 ∷ 30 ∷ 1 ∷ 0 ∷ 0 ∷ [])) (sheet51 0 30 0 (pos 3000) (pos 1500000) (negsuc 1499999) (negsuc 5) (pos 6)) none52 none53 none54 zeros
+    ∷ worked-out 1 (grown (1 ∷ 0 ∷ 100 ∷ 15 ∷ 10 ∷ [])) (sheet51 15000 0 0 (pos 0) (pos 0) (pos 1500000) (pos 6) (negsuc 5)) none52 none53 none54 zeros
+    -- (d) "P = -1,500,000 gives -6": wood used, 40, above the wood cleared, 10 x 10 x 10, at N 500
+    ∷ worked-out 1 (cleared (wood 10 10 0 10 0) (used 40)) (sheet51 0 40 1000 (pos 3000) (pos 1500000) (negsuc 1499999) (negsuc 5) (pos 6)) none52 none53 none54 zeros
     -- (e) "1.5 x 10^9 units of conversion carbon give 6 tonnes": an area of 15, a difference of 100, a fraction of 1, all of it oxidised and carbon
     ∷ worked-out 1 (converted (row 1 15 100 0 1)) none51 (sheet52 1500000000 0 1500000000 0 6 0) none53 none54 (4744078263993761792 ∷ 0 ∷ 0 ∷ [])
     -- (f) "32 largest on-site rows give 3.2 x 10^20"
@@ -215,9 +222,9 @@ table01 =
     (4913806406333840640 ∷ 0 ∷ 0 ∷ [])
     -- (g) "(b) with check 17 is refused 2, place 0"
     ∷ refused (lone 17) 2 0
-    -- (h) "fractions 500, 300, 200 pass, and 500, 300, 201 are refused 7"
-    ∷ worked-out 1 (converted (split 500 300 200)) none51 none52 none53 none54 zeros
-    ∷ refused (written 1 (converted (split 500 300 201))) 7 0
+    -- (h) "fractions 500, 300, 200 pass, and 500, 300, 201 are refused 7": both with wood used, 31, above the wood cleared, 1 x 10 x 300
+    ∷ worked-out 1 (cleared (wood 1 10 500 300 200) (used 31)) (sheet51 0 31 3000 (pos 100) (pos 50000) (negsuc 49999) (pos 0) (pos 0)) none52 none53 none54 zeros
+    ∷ refused (written 1 (cleared (wood 1 10 500 300 201) (used 31))) 7 0
     -- (i) "before 100, after 100 passes with zero", and since "case (i) changes" so does after 101, counted as thinner
     ∷ worked-out 1 (converted (row 1 1 100 100 1000)) none51 none52 none53 none54 zeros
     ∷ worked-out 1 (converted (row 1 1 100 101 1000)) none51 (thin52 1) none53 none54 zeros
@@ -240,7 +247,7 @@ table-1 =
     -- the same rows in edition 1: "3 for .. a kind above 4 in edition 1", at the block of abandoned land
     ∷ refused (written 1 with-land) 3 4
     -- edition 2 that ends with a harvest row: "4 .. a last block below kind 4"
-    ∷ refused (written 2 ([] ∷ [] ∷ (1 ∷ 30 ∷ 1 ∷ 0 ∷ 0 ∷ []) ∷ [] ∷ [] ∷ [] ∷ [])) 4 0
+    ∷ refused (written 2 ([] ∷ [] ∷ used 30 ∷ [] ∷ [] ∷ [] ∷ [])) 4 0
     -- "kind 4 before a kind below 5", at the block of kind 4; "a kind above 4 with no kind 4 before it"
     ∷ refused (blocksFrom 0 2 (4 ∷ 3 ∷ [])) 4 0
     ∷ refused (blocksFrom 0 1 (5 ∷ [])) 4 0
@@ -253,8 +260,8 @@ table-1 =
 abbrev table-2 : List Entry
 table-2 =
     -- "P = 4,500,000 then gives 16, not 17"; and below zero
-    worked-out 1 (grown (1 ∷ 0 ∷ 100 ∷ 45 ∷ 10 ∷ []) []) (sheet51 45000 0 0 (pos 0) (pos 0) (pos 4500000) (pos 16) (negsuc 15)) none52 none53 none54 zeros
-    ∷ worked-out 1 (grown [] (1 ∷ 90 ∷ 1 ∷ 0 ∷ 0 ∷ [])) (sheet51 0 90 0 (pos 9000) (pos 4500000) (negsuc 4499999) (negsuc 15) (pos 16)) none52 none53 none54 zeros
+    worked-out 1 (grown (1 ∷ 0 ∷ 100 ∷ 45 ∷ 10 ∷ [])) (sheet51 45000 0 0 (pos 0) (pos 0) (pos 4500000) (pos 16) (negsuc 15)) none52 none53 none54 zeros
+    ∷ worked-out 1 (cleared [] (used 90)) (sheet51 0 90 0 (pos 9000) (pos 4500000) (negsuc 4499999) (negsuc 15) (pos 16)) none52 none53 none54 zeros
     -- 0.5 tonnes of CH4 go down to 0, and an uptake of 5.5 up to 6
     ∷ worked-out 2 (burned 125 15) none51 (sheet52 31250000000 0 31250000000 0 115 0) (sheet53 0 4 0 0) (sheet54 15000 6) (4763993206503243776 ∷ 0 ∷ 0 ∷ [])
     -- 1.5 tonnes of CH4 go up to 2, and an uptake of 16.5 down to 16
@@ -273,8 +280,15 @@ table-5 =
     zeros
     ∷ []
 
+-- wood cleared as much as used passes, and M is 0; one more is refused 12
+abbrev table-8 : List Entry
+table-8 =
+    worked-out 1 (cleared (wood 100 1 0 1 0) (used 1)) (sheet51 0 1 100 (pos 0) (pos 0) (pos 0) (pos 0) (pos 0)) none52 none53 none54 zeros
+    ∷ refused (written 1 (cleared (wood 101 1 0 1 0) (used 1))) 12 0
+    ∷ []
+
 abbrev entries : List Entry
-entries = table01 ++ (table-1 ++ (table-2 ++ (table-3 ++ table-5)))
+entries = table01 ++ (table-1 ++ (table-2 ++ (table-3 ++ (table-5 ++ table-8))))
 
 abbrev pub table : List Case
 table = map caseOf entries

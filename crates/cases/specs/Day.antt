@@ -9,7 +9,8 @@ use Rattle.form.specs.Bytes.{number, littleEndian}
 use Rattle.form.specs.Layout.{kinds, rowFrom, aboveLimit}
 use Rattle.form.specs.Edition.{lastKind}
 use Rattle.form.specs.Block.{weighed}
-use Rattle.form.specs.Records.{badId, brokenBy, rowsBelow}
+use Rattle.form.specs.Records.{countedDifference, badId, brokenBy, rowsBelow}
+use Rattle.form.specs.Sums.{sumOf, harvestPart, clearedPart}
 use Rattle.form.specs.Verdict.{countBelow, countsOf, verdictOf}
 use Rattle.form.specs.declared.Counts.{Counts}
 use Rattle.form.specs.declared.Ruling.the-variants.{Clean}
@@ -37,7 +38,7 @@ day-parameters = refl
 
 -- the answer of a write, opened for computing
 unfoldable answered : List ℕ → List ℕ → List ℕ → Written
-unfolding first ruling kinds lastKind aboveLimit badId brokenBy cut total filedList behind filedFrom badList badLengths notAllowed listRules littleEndian recordFrom inTurn headOf sealed weighed recordOn usedFrom bodyOf blockOf bytesOf writeAnswer
+unfolding first ruling kinds lastKind aboveLimit countedDifference badId brokenBy rowsBelow sumOf harvestPart clearedPart cut total filedList behind filedFrom badList badLengths notAllowed listRules littleEndian recordFrom inTurn headOf sealed weighed recordOn usedFrom bodyOf blockOf bytesOf writeAnswer
 answered lengths rows room = writeAnswer 1 lengths rows room
 
 -- written to one byte more than it needs, and to one less

@@ -4,13 +4,15 @@
 --     refused-short     how long its line is
 --     ruling-explained  an explanation's number and place are the verdict's
 --     values-stand      its values are what is said of the bytes; fourth-never, one fault that is never named
-use Prim.Native.Nat.{ℕ, _≤_}
+--     wood-place, wood-above, wood-text    where 12 is given: its place, which of the two masses is above the other, and the whole text
+use Prim.Native.Nat.{ℕ, _*_, _<_, _≤_}
 use mathlib.Core.Path.{_≡_, refl, ap, subst, _∙_}
 use mathlib.Core.List.{List, _++_}
 use native.Mathlib.Omega.{arith}
 use lib.ListN.{length}
 use Rattle.form.specs.Ruling.{ruling}
-use Rattle.form.specs.Verdict.{rules, verdictBy, verdictOf}
+use Rattle.form.specs.Sums.{columnK, columnL}
+use Rattle.form.specs.Verdict.{rules, rows, verdictBy, verdictOf}
 use Rattle.form.specs.declared.Counts.{Counts}
 use Rattle.form.specs.declared.Ruling.{Ruling}
 use Rattle.form.specs.declared.Ruling.the-variants.{Clean, Broken}
@@ -22,13 +24,13 @@ use Rattle.heaviest.specs.Heaviest.{heaviestOf}
 use Rattle.phrases.specs.Lines.{refusedLine, linesText}
 use Rattle.phrases.proofs.Room.{refused-length}
 use Rattle.reasons.specs.Reasons.{reasonOf}
-use Rattle.reasons.specs.Explains.{Explains}
+use Rattle.reasons.specs.Explains.{Explains, wood-12}
 use Rattle.reasons.specs.declared.Reason.{Reason}
 use Rattle.reasons.proofs.Explains.{reason-told, explains, no-fourth}
 use Rattle.faults.specs.declared.Fault.the-variants.{Fourth}
 use Rattle.reasons.specs.declared.Header.{Header}
-use Rattle.reasons.specs.declared.Reason.the-variants.{BadBlock}
-use Rattle.wording.specs.Wording.{valueLines}
+use Rattle.reasons.specs.declared.Reason.the-variants.{BadBlock, ClearedAbove}
+use Rattle.wording.specs.Wording.{woodLines, valueLines}
 use Rattle.explained.specs.Explained.{explainedBy, explanationOf, rulingOf, refusedText, explainedText, explained}
 use Rattle.explained.specs.declared.Explanation.the-variants.{Accepted, Refused}
 
@@ -49,6 +51,23 @@ module _ (s : List ℕ) where
     refused-short =
         let h = small s n p e in
         omega (arith, refused-length n p, decimal-length 1 n (omega arith), decimal-length 2 p (omega (arith, few-kinds)))
+
+  -- ---- number 12
+  clash-above : {u l : ℕ} → Explains s (ClearedAbove u l) → u < l
+  clash-above (wood-12 h) = h
+
+  module _ {p : ℕ} (e : verdictOf s ≡ verdict.Refused 12 p) where
+    pub wood-place : p ≡ 0
+    unfolding reasonOf
+    wood-place = let told : Broken 12 0 ≡ Broken 12 p = reason-told s e in cc
+
+    pub wood-above : 100 * columnK (rows 3 s) < columnL (rows 1 s)
+    unfolding reasonOf
+    wood-above = clash-above (explains s e)
+
+    pub wood-text : explained s ≡ refusedLine 12 0 ++ linesText (woodLines (100 * columnK (rows 3 s)) (columnL (rows 1 s)))
+    unfolding reasonOf
+    wood-text = refused-text e ∙ ap (λ (q : ℕ). refusedLine 12 q ++ linesText (woodLines (100 * columnK (rows 3 s)) (columnL (rows 1 s)))) wood-place
 
   -- ---- whatever is explained
   by-ruling : (u : Ruling) → ruling (rules s) ≡ u → rulingOf (explainedBy s u) ≡ u

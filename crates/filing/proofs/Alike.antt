@@ -2,6 +2,7 @@
 --     turn-add, turn-same    things one after the other, in two parts, and each by its equal
 --     alike-part, alike-then, alike-join    some of the places, from one to the next, and one behind the other
 --     block-alike            one block; blocks-behind, the blocks of records behind others
+--     one-alike, rows-alike  the rows of a kind that one place adds, and that the first n places have
 use Prim.Native.Nat.{ℕ, zero, suc, _+_, _-_, _*_, _<_, _≤_}
 use mathlib.Core.Path.{_≡_, refl, sym, ap₂, _∙_}
 use mathlib.Core.Bool.{Bool, true, false, cond, _&&_}
@@ -126,14 +127,19 @@ module _ (f g : Filed) where
       (turn-same h (blockOf ed g (start + a) n) (0 + a) 0 b
       (λ k l. block-alike ed (0 + a + k) (0 + k) start (start + a) n (alike-part (back-alike (12 * (0 + k) + 12)) (12 * (0 + k)) 12 (omega arith) (omega arith) (omega arith)) (omega arith)))
 
--- ---- trial: the rows of a kind among alike places are the same rows
+-- ---- the rows of a kind among alike places are the same rows
+
+-- what one place adds to the rows of a kind
+pub one-alike : {f g : Filed} {i j : ℕ} (k : ℕ) → Same f i g j
+    → cond (f .used i && eqb (f .kind i) k) (f .row i ∷ []) [] ≡ cond (g .used j && eqb (g .kind j) k) (g .row j ∷ []) []
+one-alike {f} {g} {i} {j} k s = one (f .used i) (g .used j) (s .used) (s .row)
+  where
+    one : (b d : Bool) → b ≡ d → (b ≡ true → f .row i ≡ g .row j) → cond (b && eqb (f .kind i) k) (f .row i ∷ []) [] ≡ cond (d && eqb (g .kind j) k) (g .row j ∷ []) []
+    one true d e r = rw (← e, r refl, s .kind)
+    one false d e r = rw (← e)
+
 pub rows-alike : {f g : Filed} (k n : ℕ) → ((j : ℕ) → j < n → Same f j g j) → rowsBelow f k n ≡ rowsBelow g k n
 unfolding rowsBelow
 rows-alike k zero h = refl
-rows-alike {f} {g} k (suc n) h =
-    let s = h n (omega arith) in
-    ap₂ (λ (x y : List (List ℕ)). x ++ y) (rows-alike k n (λ j l. h j (omega arith))) (one (f .used n) (g .used n) (s .used) (s .row))
-  where
-    one : (b d : Bool) → b ≡ d → (b ≡ true → f .row n ≡ g .row n) → cond (b && eqb (f .kind n) k) (f .row n ∷ []) [] ≡ cond (d && eqb (g .kind n) k) (g .row n ∷ []) []
-    one true d e r = rw (← e, r refl, h n (omega arith) .kind)
-    one false d e r = rw (← e)
+rows-alike k (suc n) h =
+    ap₂ (λ (x y : List (List ℕ)). x ++ y) (rows-alike k n (λ j l. h j (omega arith))) (one-alike k (h n (omega arith)))

@@ -1,9 +1,11 @@
 -- What rows add up to, and the rules that are about it: stated once over filed records, so that they are the same of bytes and of rows to be written.
 use Prim.Native.Nat.{ℕ, _+_, _*_}
+use mathlib.Core.Bool.{Bool}
 use mathlib.Core.List.{List, [], _∷_, _++_}
 use lib.ListN.{getD}
-use Rattle.form.specs.Ruling.{Rule}
-use Rattle.form.specs.Records.{Filed, recordRules, areaOf, difference, offsite}
+use lib.Dec.{ltb}
+use Rattle.form.specs.Ruling.{Rule, rule}
+use Rattle.form.specs.Records.{Filed, filedRows, recordRules, areaOf, difference, offsite}
 
 -- a figure of each row, added up over the rows
 unfoldable pub sumOf : (List ℕ → ℕ) → List (List ℕ) → ℕ
@@ -38,9 +40,13 @@ columnK harvest = sumOf harvestPart harvest
 abbrev pub columnL : List (List ℕ) → ℕ
 columnL conversion = sumOf clearedPart conversion
 
--- the rules that add rows up, in the paper's order: none so far. A new one is a new line, over the rows of a kind, `filedRows f`.
+-- 12: "when L is above 100K", of the harvest rows' K and the conversion rows' L; "equality still good"
+abbrev pub clearedAbove : List (List ℕ) → List (List ℕ) → Bool
+clearedAbove harvest conversion = ltb (100 * columnK harvest) (columnL conversion)
+
+-- the rules that add rows up, in the paper's order: 12, "place 0". A new one is a new line, over the rows of a kind, `filedRows f`.
 abbrev pub sumRules : Filed → List Rule
-sumRules f = []
+sumRules f = rule 12 1 (λ p. clearedAbove (filedRows f 3) (filedRows f 1)) ∷ []
 
 -- all rules of filed records: those of a record by itself, then those that add rows up
 abbrev pub filedRules : ℕ → Filed → List Rule

@@ -5,7 +5,7 @@ ghost use lib.ListN.{length};
 ghost use Rattle.form.specs.Ruling.{ruling};
 ghost use Rattle.form.specs.Block.{edition};
 ghost use Rattle.form.specs.Records.{filed, recordRules};
-ghost use Rattle.form.specs.Verdict.{blockRules, formRules, rowCount, countsOf, verdictOf};
+ghost use Rattle.form.specs.Verdict.{blockRules, formRules, rowCount, countsOf, Formed, verdictOf};
 use form::Counts;
 use form::RECORD_RULES;
 use form::Ruling;
@@ -85,7 +85,7 @@ fn rows_of(bytes: &[u8], kind: u32) -> u32
 }
 
 // The edition, from block 0, and the rows. A new kind is a new line.
-fn count_rows(bytes: &[u8]) -> Counts
+pub fn count_rows(bytes: &[u8]) -> Counts
     requires { ⌜ (8 ≤ length (now bytes)) × (length (now bytes) < 2 ^ 24) ⌝ }
     ensures { λ r. ⌜ r ≡ countsOf (now (bytes .entry)) ⌝ }
 {
@@ -100,12 +100,23 @@ fn count_rows(bytes: &[u8]) -> Counts
     }
 }
 
-// Any bytes of any length, read in place. No rule adds rows up yet: it would be tried here, behind the counts.
+// What is accepted of a return that can be read row by row: one that keeps the rules that add rows up.
+fn judge_sums(bytes: &[u8], counts: Counts) -> Verdict
+    requires { ⌜ Formed (now bytes) counts ⌝ }
+    ensures { λ r. ⌜ r ≡ verdictOf (now (bytes .entry)) ⌝ }
+{
+    match balance::rule_sums(bytes, counts) {
+        Ruling::Broken { number, place } => Verdict::Refused { number, place },
+        Ruling::Clean => Verdict::Accepted(counts),
+    }
+}
+
+// Any bytes of any length, read in place: 1 to 7, then what the rows add up to.
 pub fn judge(bytes: &[u8]) -> Verdict
     ensures { λ r. ⌜ r ≡ verdictOf (now (bytes .entry)) ⌝ }
 {
     match rule_form(bytes) {
         Ruling::Broken { number, place } => Verdict::Refused { number, place },
-        Ruling::Clean => Verdict::Accepted(count_rows(bytes)),
+        Ruling::Clean => judge_sums(bytes, count_rows(bytes)),
     }
 }

@@ -7,7 +7,8 @@ use Rattle.form.specs.First.{first}
 use Rattle.form.specs.Ruling.{ruling}
 use Rattle.form.specs.Layout.{kinds, aboveLimit}
 use Rattle.form.specs.Edition.{lastKind}
-use Rattle.form.specs.Records.{badId, brokenBy}
+use Rattle.form.specs.Records.{countedDifference, badId, brokenBy, rowsBelow}
+use Rattle.form.specs.Sums.{sumOf, harvestPart, clearedPart}
 use Rattle.form.specs.declared.Ruling.{Ruling}
 use Rattle.form.specs.declared.Ruling.the-variants.{Clean, Broken}
 use Rattle.filing.specs.Lists.{cut, total, filedList, behind, filedFrom}
@@ -35,7 +36,7 @@ dayLengths = 15 ∷ 5 ∷ 5 ∷ 6 ∷ 0 ∷ 0 ∷ []
 
 -- the ruling, opened for computing
 unfoldable computed : List ℕ → List ℕ → Ruling
-unfolding first ruling kinds aboveLimit badId brokenBy cut total filedList behind filedFrom lastKind badList badLengths notAllowed listRules
+unfolding first ruling kinds aboveLimit countedDifference badId brokenBy rowsBelow sumOf harvestPart clearedPart cut total filedList behind filedFrom lastKind badList badLengths notAllowed listRules
 computed lengths area = ruling (listRules 1 lengths area)
 
 day-clean : ruling (listRules 1 dayLengths dayArea) ≡ Clean
@@ -71,6 +72,11 @@ repeated = refl
 wide : ruling (listRules 1 (0 ∷ 5 ∷ 0 ∷ 6 ∷ 0 ∷ 0 ∷ []) (1 ∷ 256 ∷ 0 ∷ 0 ∷ 0 ∷ parametersDay)) ≡ Broken 6 0
 unfolding computed
 wide = refl
+
+-- the day without its harvest: what is cleared is above what is used
+uncovered : ruling (listRules 1 (15 ∷ 5 ∷ 0 ∷ 6 ∷ 0 ∷ 0 ∷ []) (conversionDay ++ (stockDay ++ parametersDay))) ≡ Broken 12 0
+unfolding computed
+uncovered = refl
 
 -- a row of abandoned land: in edition 2, and refused in edition 1 and in one that there is not
 abbrev abandonedDay : List ℕ

@@ -20,7 +20,7 @@ use form::layout::numbers;
 use form::record_rule;
 
 // How many rows of a kind some numbers are.
-fn count(kind: usize, n: usize) -> usize
+pub fn count(kind: usize, n: usize) -> usize
     requires { ⌜ (0 < kind) × (kind ≤ kinds) ⌝ }
     ensures { λ r. ⌜ (r ≡ rowsIn kind n) × (r ≤ n) ⌝ }
 {

@@ -13,7 +13,7 @@ use Rattle.phrases.proofs.LineTexts.{text-append, item, lines}
 use Rattle.reasons.proofs.Reason.{the-type}
 use Rattle.reasons.specs.declared.Row.{Row}
 use Rattle.reasons.specs.declared.Reason.{Reason}
-use Rattle.reasons.specs.declared.Reason.the-variants.{BadLength, BadCheck, BadHeader, BadBlock, IdBelow, FieldAbove, FractionsAbove}
+use Rattle.reasons.specs.declared.Reason.the-variants.{BadLength, BadCheck, BadHeader, BadBlock, IdBelow, FieldAbove, FractionsAbove, ClearedAbove}
 use Rattle.form.specs.Layout.{parametersKind}
 use Rattle.naming.specs.Names.{fieldName, kindName}
 use Rattle.naming.specs.RowLines.{wordLine, placeLines, namedLines, limitLines, fractionsLines, rowLines}
@@ -25,14 +25,15 @@ pub fractions-text : (n f d t : ℕ) → filledIn fractionsNames (unsigned (n �
 unfolding flatMap spaces
 fractions-text n f d t = lines (item (codes "onsite") n ∷ item (codes "offsite") f ∷ item (codes "decay") d ∷ item (codes "sum") t ∷ []) refl
 
-pub no-lines : (r : Reason) → OneOf (0 ∷ 1 ∷ 2 ∷ 3 ∷ []) (tagOf the-type r) → rowLines r ≡ []
+pub no-lines : (r : Reason) → OneOf (0 ∷ 1 ∷ 2 ∷ 3 ∷ 7 ∷ []) (tagOf the-type r) → rowLines r ≡ []
 no-lines (BadLength n) o = refl
 no-lines (BadCheck b x y) o = refl
 no-lines (BadHeader b h n e) o = refl
 no-lines (BadBlock b h f) o = refl
-no-lines (IdBelow w x) o = absurd (miss (0 ∷ 1 ∷ 2 ∷ 3 ∷ []) 4 tt o)
-no-lines (FieldAbove w i v l) o = absurd (miss (0 ∷ 1 ∷ 2 ∷ 3 ∷ []) 5 tt o)
-no-lines (FractionsAbove w n f d t) o = absurd (miss (0 ∷ 1 ∷ 2 ∷ 3 ∷ []) 6 tt o)
+no-lines (IdBelow w x) o = absurd (miss (0 ∷ 1 ∷ 2 ∷ 3 ∷ 7 ∷ []) 4 tt o)
+no-lines (FieldAbove w i v l) o = absurd (miss (0 ∷ 1 ∷ 2 ∷ 3 ∷ 7 ∷ []) 5 tt o)
+no-lines (FractionsAbove w n f d t) o = absurd (miss (0 ∷ 1 ∷ 2 ∷ 3 ∷ 7 ∷ []) 6 tt o)
+no-lines (ClearedAbove u l) o = refl
 
 -- the field's number, its name and its value, part by part
 four : (x f n e t : List ℕ) → ((((x ++ f) ++ n) ++ e) ++ t) ≡ x ++ (f ++ (n ++ (e ++ t)))

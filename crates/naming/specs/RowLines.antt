@@ -8,7 +8,7 @@ use Rattle.phrases.specs.Ascii.{codes}
 use Rattle.phrases.specs.Lines.{Line, numberLine}
 use Rattle.reasons.specs.declared.Row.{Row}
 use Rattle.reasons.specs.declared.Reason.{Reason}
-use Rattle.reasons.specs.declared.Reason.the-variants.{BadLength, BadCheck, BadHeader, BadBlock, IdBelow, FieldAbove, FractionsAbove}
+use Rattle.reasons.specs.declared.Reason.the-variants.{BadLength, BadCheck, BadHeader, BadBlock, IdBelow, FieldAbove, FractionsAbove, ClearedAbove}
 use Rattle.naming.specs.Names.{fieldName, kindName}
 
 -- a name and a word
@@ -44,12 +44,13 @@ limitLines k i v l =
 abbrev pub fractionsLines : ℕ → ℕ → ℕ → ℕ → List Line
 fractionsLines n f d t = numberLine (codes "onsite") n ∷ numberLine (codes "offsite") f ∷ numberLine (codes "decay") d ∷ numberLine (codes "sum") t ∷ []
 
--- by the number; 1 to 4 are of the whole return and of a block. A new number is a new case.
+-- by the number; 1 to 4 and 12 are of a block or of the whole return. A new number is a new case.
 abbrev pub rowLines : Reason → List Line
 rowLines (BadLength n) = []
 rowLines (BadCheck b x y) = []
 rowLines (BadHeader b h n e) = []
 rowLines (BadBlock b h f) = []
+rowLines (ClearedAbove u l) = []
 -- 5
 rowLines (IdBelow w x) = placeLines w ++ (numberLine (codes "id_before") x ∷ numberLine (codes "id") (w .id) ∷ [])
 -- 6: the first field above its limit

@@ -1,12 +1,14 @@
 -- §7. "A small tool takes a return and says, for a refusal, the number, the place and the values that clash .. Values that stand in the return are proved to be those at that place,
 -- a computed one to follow its rule in 01, and no earlier number, or lower place under that number, to be at fault."
-use Prim.Native.Nat.{ℕ, _≤_}
+-- §8. "The explaining tool then shows 100K and L."
+use Prim.Native.Nat.{ℕ, _*_, _<_, _≤_}
 use mathlib.Core.Path.{_≡_, refl, ap}
 use mathlib.Core.List.{List, _++_}
 use borrow.Author.Tests.{le-ltb}
 use lib.ListN.{length, drop}
 use Rattle.form.specs.Ruling.{ruling}
-use Rattle.form.specs.Verdict.{rules, verdictOf}
+use Rattle.form.specs.Sums.{columnK, columnL}
+use Rattle.form.specs.Verdict.{rules, rows, verdictOf}
 use Rattle.form.specs.declared.Counts.{Counts}
 use Rattle.form.specs.declared.Ruling.{Ruling}
 use Rattle.form.specs.declared.Ruling.the-variants.{Clean, Broken}
@@ -25,10 +27,10 @@ use Rattle.faults.specs.declared.Fault.the-variants.{Fourth}
 use Rattle.reasons.specs.declared.Header.{Header}
 use Rattle.reasons.specs.declared.Reason.{Reason}
 use Rattle.reasons.specs.declared.Reason.the-variants.{BadBlock}
-use Rattle.wording.specs.Wording.{valueLines}
+use Rattle.wording.specs.Wording.{woodLines, valueLines}
 use Rattle.explained.specs.Explained.{explanationOf, rulingOf, weightsLines, explainedText, explained}
 use Rattle.explained.specs.declared.Explanation.the-variants.{Accepted, Refused}
-use Rattle.explained.proofs.Laws.{accepted-explained, ruling-explained, refused-explained, refused-text, values-stand, fourth-never}
+use Rattle.explained.proofs.Laws.{accepted-explained, ruling-explained, refused-explained, refused-text, values-stand, fourth-never, wood-place, wood-above, wood-text}
 use Rattle.reasons.proofs.Explains.{reason-told}
 use Rattle.reasons.proofs.Unexplained.{unexplained}
 use Rattle.door.specs.Door.{sizeOf}
@@ -86,6 +88,15 @@ accepted-unexplained s c e r w = unexplained s e w
 -- or the lines of the three rows
 pub explained-heaviest : (s : List ℕ) (c : Counts) → verdictOf s ≡ verdict.Accepted c → explained s ≡ linesText (weightsLines (heaviestOf s))
 explained-heaviest s c e = ap explainedText (accepted-explained s e)
+
+-- where 12 is given, it is at place 0, L is above 100 K, and behind `refused 12 0` the text has the two lines of these and no other
+pub record WoodTold (s : List ℕ) (p : ℕ) : Type 0 where
+  pub place : p ≡ 0
+  pub above : 100 * columnK (rows 3 s) < columnL (rows 1 s)
+  pub text : explained s ≡ refusedLine 12 0 ++ linesText (woodLines (100 * columnK (rows 3 s)) (columnL (rows 1 s)))
+
+pub explained-wood : (s : List ℕ) (p : ℕ) → verdictOf s ≡ verdict.Refused 12 p → WoodTold s p
+explained-wood s p e = record { place = wood-place s e; above = wood-above s e; text = wood-text s e }
 
 -- whatever the text is, the contracts of `explain_lines` and of `niloferq_explain` put it into room that is long enough: its length is answered, and it
 -- stands at the front

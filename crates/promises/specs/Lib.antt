@@ -6,7 +6,8 @@
 --     Demand3     each subtotal's double is as near as 01 says
 --     FromC       what success leaves in memory that is lent from C, and demands 2 and 3 of it
 --     Lent        what is lent as `&[u8]` is bytes, so that the round trips ask nothing of running code
---     Editions    edition 1 returns are read as before
+--     Wood        no accepted return clears more wood than it uses, so M and O are never below zero
+--     Editions    edition 1 returns are read as before, but for 12
 --     Adding      the check is the last total of a department's adding sheet
 --     Table52     a lookup answers the printed entry of table 5-2, or which number is off it
 --     Heaviest    the row that is named has the largest part in a subtotal, and the lower id on a tie; none is named where the subtotal is zero
@@ -22,6 +23,7 @@ pub mod Demand2
 pub mod Demand3
 pub mod FromC
 pub mod Lent
+pub mod Wood
 pub mod Editions
 pub mod Adding
 pub mod Table52

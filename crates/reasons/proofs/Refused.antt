@@ -1,22 +1,26 @@
 -- What a refusal says of its place, by its number: the rule's place, broken there and at no lower one. Assumes nothing.
---     at-length to at-fractions    for each number; a new number is a new entry
---     last-number                  a number that is none of 1 to 6 is 7
---     known-kinds                  behind number 3 every record is of a kind that there is
+--     at-length to at-wood    for each number; a new number is a new entry
+--     last-number             a number that is none of 1 to 7 is 12
+--     known-kinds             behind number 3 every record is of a kind that there is
+--     wood-formed             where 12 is given, the return can be read row by row
 use Prim.Native.Nat.{ℕ, _*_, _/_, _<_, _≤_}
-use mathlib.Core.Path.{_≡_, sym, _∙_}
-use mathlib.Core.Bool.{false, or-false}
+use mathlib.Core.Path.{_≡_, refl, sym, _∙_}
+use mathlib.Core.Bool.{false, or-false, false≢true}
 use mathlib.Core.List.{List}
 use native.Mathlib.Omega.{arith}
 use borrow.Author.Tests.{eqb-true}
 use lib.Dec.{eqb}
-use Rattle.form.specs.Ruling.{rule}
+use Rattle.form.specs.Ruling.{Rule, rule, ruling}
 use Rattle.form.specs.Layout.{kinds}
 use Rattle.form.specs.Block.{blocks, edition, badLength, badCheck, badHeader, badBlock}
 use Rattle.form.specs.Records.{filed, badId, brokenBy, fieldAbove, fractionsAbove}
-use Rattle.form.specs.Verdict.{blockRules, rules, verdictOf}
+use Rattle.form.specs.Sums.{clearedAbove, sumRules}
+use Rattle.form.specs.Verdict.{blockRules, formRules, rules, rows, countsOf, Formed, verdictOf}
+use Rattle.form.specs.declared.Ruling.{Ruling}
+use Rattle.form.specs.declared.Ruling.the-variants.{Clean, Broken}
 use Rattle.form.specs.declared.Verdict.the-variants.{Refused}
-use Rattle.form.proofs.Order.{Kept, Least, this, later, BrokenAt}
-use Rattle.form.proofs.Meaning.{refused, broken-at, given-number}
+use Rattle.form.proofs.Order.{Kept, Least, this, later, has, BrokenAt, orRule, ruling-append, ruling-least, least-has}
+use Rattle.form.proofs.Meaning.{refused-ruling, refused, broken-at, given-number}
 use Rattle.form.proofs.EachKind.{last-kinds}
 use Rattle.standing.proofs.Stand.{headed}
 
@@ -27,6 +31,11 @@ headers-kept s (this l e h) d b i = absurd (omega arith)
 headers-kept s (later k (this l e h)) d b i = absurd (omega arith)
 headers-kept s (later k (later m (this l e h))) d b i = absurd (omega arith)
 headers-kept s (later k (later m (later g t))) d b i = g b i
+
+-- rules are kept where a list behind them is refused by a number that none of them has
+kept-by-number : (rs : List Rule) (u v : Ruling) {n p : ℕ} → ruling rs ≡ u → has n rs ≡ false → orRule u v ≡ Broken n p → u ≡ Clean
+kept-by-number rs Clean v r h e = refl
+kept-by-number rs (Broken m i) v r h e = absurd (false≢true (sym h ∙ least-has (ruling-least (r ∙ e))))
 
 module _ (s : List ℕ) {n p : ℕ} (e : verdictOf s ≡ Refused n p) where
   pub at-length : n ≡ 1 → BrokenAt (rule 1 1 (λ q. badLength s)) p
@@ -57,11 +66,22 @@ module _ (s : List ℕ) {n p : ℕ} (e : verdictOf s ≡ Refused n p) where
   unfolding blockRules
   at-fractions = broken-at s 7 e
 
-  pub last-number : eqb n 1 ≡ false → eqb n 2 ≡ false → eqb n 3 ≡ false → eqb n 4 ≡ false → eqb n 5 ≡ false → eqb n 6 ≡ false → n ≡ 7
+  pub at-wood : n ≡ 12 → BrokenAt (rule 12 1 (λ q. clearedAbove (rows 3 s) (rows 1 s))) p
   unfolding blockRules
-  last-number a b c d f g = eqb-true n 7 (sym (or-false (eqb n 7)) ∙ rw (a, b, c, d, f, g) at (given-number s n p e))
+  at-wood = broken-at s 12 e
+
+  pub last-number : eqb n 1 ≡ false → eqb n 2 ≡ false → eqb n 3 ≡ false → eqb n 4 ≡ false → eqb n 5 ≡ false → eqb n 6 ≡ false → eqb n 7 ≡ false → n ≡ 12
+  unfolding blockRules
+  last-number a b c d f g h = eqb-true n 12 (sym (or-false (eqb n 12)) ∙ rw (a, b, c, d, f, g, h) at (given-number s n p e))
 
   pub known-kinds : 3 < n → (j : ℕ) → j < 12 * blocks s → (0 < filed s .kind j) × (filed s .kind j ≤ kinds)
   known-kinds d j i =
       let h = headed s (j / 12) (headers-kept s (refused s n p .0 e) d (j / 12) (omega arith)) in
       (omega (arith, h .low), omega (arith, h .high, last-kinds (edition s (j / 12))))
+
+  -- no rule of formRules has the number 12
+  pub wood-formed : n ≡ 12 → Formed s (countsOf s)
+  unfolding blockRules
+  wood-formed q =
+      let behind = sym (ruling-append (formRules s) (sumRules (filed s))) ∙ refused-ruling s n p e in
+      record { clean = kept-by-number (formRules s) (ruling (formRules s)) _ refl (rw q) behind; counts = refl }

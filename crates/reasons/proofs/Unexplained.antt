@@ -10,7 +10,8 @@ use lib.Dec.{ltb, leb, eqb}
 use Rattle.form.specs.Layout.{field, kinds, parametersKind, layout, aboveLimit}
 use Rattle.form.specs.Block.{blocks, edition, checkSaid, checkDue, badLength, badCheck, badHeader, badBlock}
 use Rattle.form.specs.Records.{filed, hasId, badId, brokenBy, fieldAbove, fractionsAbove, overspent, onsite, offsite, decay}
-use Rattle.form.specs.Verdict.{blockRules, rules, verdictOf}
+use Rattle.form.specs.Sums.{columnK, columnL, clearedAbove}
+use Rattle.form.specs.Verdict.{blockRules, rules, rows, verdictOf}
 use Rattle.form.specs.declared.Counts.{Counts}
 use Rattle.form.specs.declared.Verdict.the-variants.{Accepted}
 use Rattle.form.proofs.Tests.{and-true, and-rest, same-of}
@@ -18,7 +19,7 @@ use Rattle.form.proofs.Order.{Kept, ruleOf, ruling-clean, kept-of}
 use Rattle.standing.proofs.Accepted.{accepted-ruling, limit-of}
 use Rattle.faults.proofs.First.{faulty-bad}
 use Rattle.reasons.specs.declared.Reason.{Reason}
-use Rattle.reasons.specs.Explains.{Explains, length-1, check-2, header-3, block-4, ids-5, field-6, fractions-7}
+use Rattle.reasons.specs.Explains.{Explains, length-1, check-2, header-3, block-4, ids-5, field-6, fractions-7, wood-12}
 use Rattle.reasons.proofs.Rows.{id-broken}
 
 -- a kind with an id is another than the parameters'
@@ -58,6 +59,10 @@ module _ (s : List ℕ) {c : Counts} (acc : verdictOf s ≡ Accepted c) where
   unfolding blockRules Kept
   fractions-kept = kept 7
 
+  wood-kept : clearedAbove (rows 3 s) (rows 1 s) ≡ false
+  unfolding blockRules Kept
+  wood-kept = kept 12 0 (omega arith)
+
   pub unexplained : {r : Reason} → Explains s r → ⊥
   unfolding badCheck brokenBy
   unexplained (length-1 h) = false≢true (sym length-kept ∙ h)
@@ -79,3 +84,4 @@ module _ (s : List ℕ) {c : Counts} (acc : verdictOf s ≡ Accepted c) where
       let spent = and-rest (eqb (filed s .kind p) 1) (overspent (filed s .row p)) (eq-eqb (filed s .kind p) 1 (sym (t .kind-there) ∙ k)) none in
       let r = filed s .row p in
       absurd (omega (arith, ltb-false 1000 (onsite r + offsite r + decay r) spent, h))
+  unexplained (wood-12 h) = absurd (omega (arith, ltb-false (100 * columnK (rows 3 s)) (columnL (rows 1 s)) wood-kept, h))

@@ -1,6 +1,6 @@
 -- §7. "says, for a refusal, the number, the place and the values that clash: the length, stored and computed check, the block's header or non-zero byte, the two ids,
--- the field and its limit, the sum of the fractions."
-use Prim.Native.Nat.{ℕ, _+_, _-_, _/_, _%_}
+-- the field and its limit, the sum of the fractions." §8: "The explaining tool then shows 100K and L."
+use Prim.Native.Nat.{ℕ, _+_, _-_, _*_, _/_, _%_}
 use mathlib.Core.Bool.{cond}
 use mathlib.Core.List.{List}
 use lib.ListN.{length}
@@ -9,6 +9,8 @@ use Rattle.form.specs.Bytes.{number}
 use Rattle.form.specs.Layout.{layout}
 use Rattle.form.specs.Block.{blocks, kindOf, countOf, blockNumber, blocksSaid, edition, recordAt, checkSaid, checkDue}
 use Rattle.form.specs.Records.{filed, idOf, onsite, offsite, decay}
+use Rattle.form.specs.Sums.{columnK, columnL}
+use Rattle.form.specs.Verdict.{rows}
 use Rattle.form.specs.declared.Ruling.{Ruling}
 use Rattle.form.specs.declared.Ruling.the-variants.{Broken}
 use Rattle.faults.specs.Faults.{faultOf}
@@ -16,7 +18,7 @@ use Rattle.reasons.specs.declared.records.Above.{Above}
 use Rattle.reasons.specs.declared.Header.{Header}
 use Rattle.reasons.specs.declared.Row.{Row}
 use Rattle.reasons.specs.declared.Reason.{Reason}
-use Rattle.reasons.specs.declared.Reason.the-variants.{BadLength, BadCheck, BadHeader, BadBlock, IdBelow, FieldAbove, FractionsAbove}
+use Rattle.reasons.specs.declared.Reason.the-variants.{BadLength, BadCheck, BadHeader, BadBlock, IdBelow, FieldAbove, FractionsAbove, ClearedAbove}
 use Rattle.reasons.specs.Above.{aboveFrom}
 
 -- "a definition gives this paper's number and values for each of its cases": the number and the place of a reason
@@ -28,6 +30,7 @@ refusalOf (BadBlock b h f) = Broken 4 b
 refusalOf (IdBelow w x) = Broken 5 (w .place)
 refusalOf (FieldAbove w i v l) = Broken 6 (w .place)
 refusalOf (FractionsAbove w n f d t) = Broken 7 (w .place)
+refusalOf (ClearedAbove u l) = Broken 12 0
 
 -- the header of block b, as it stands there
 abbrev pub headerOf : List ℕ → ℕ → Header
@@ -68,6 +71,10 @@ fractionsBy w r = FractionsAbove w (onsite r) (offsite r) (decay r) (onsite r + 
 abbrev pub fractionsReason : List ℕ → ℕ → Reason
 fractionsReason s p = fractionsBy (rowNamed s p) (filed s .row p)
 
+-- 12: the wood that was used, 100 K, and the wood that clearing gave, L, both in 10^-6 kt
+abbrev pub woodReason : List ℕ → Reason
+woodReason s = ClearedAbove (100 * columnK (rows 3 s)) (columnL (rows 1 s))
+
 -- the values that clash where number n is given at place p. A new number is a new line.
 unfoldable pub reasonOf : List ℕ → ℕ → ℕ → Reason
 reasonOf s n p =
@@ -77,4 +84,5 @@ reasonOf s n p =
     (cond (eqb n 4) (blockReason s p)
     (cond (eqb n 5) (idReason s p)
     (cond (eqb n 6) (limitReason s p)
-    (fractionsReason s p))))))
+    (cond (eqb n 7) (fractionsReason s p)
+    (woodReason s)))))))

@@ -5,18 +5,20 @@ ghost use mathlib.Core.Path.{_≡_};
 ghost use Prim.Native.Nat.{_^_, _<_};
 ghost use lib.ListN.{length};
 ghost use Rattle.form.specs.Block.{blocks};
-ghost use Rattle.form.specs.Verdict.{verdictOf};
+ghost use Rattle.form.specs.Verdict.{countsOf, Formed, verdictOf};
 ghost use Rattle.form.specs.declared.Verdict.the-variants.{Refused};
-ghost use Rattle.reasons.specs.Reasons.{headerOf, checkReason, headerReason, blockReason, reasonOf};
+ghost use Rattle.reasons.specs.Reasons.{headerOf, checkReason, headerReason, blockReason, woodReason, reasonOf};
 use crate::records::field_above;
 use crate::records::fractions_above;
 use crate::records::id_below;
+use balance::weigh_wood;
 use faults::Fault;
 use faults::first_fault;
 use form::byte_at;
 use form::check_due;
 use form::four_at;
 use form::two_at;
+use judge::count_rows;
 
 // A block's header, as it stands there.
 pub struct Header {
@@ -72,6 +74,10 @@ pub enum Reason {
         decay: u32,
         sum: u32,
     },
+    ClearedAbove {
+        used: u64,
+        cleared: u64,
+    },
 }
 
 fn header_at(bytes: &[u8], b: usize) -> Header
@@ -124,6 +130,18 @@ fn bad_block(bytes: &[u8], b: u32) -> Reason
     }
 }
 
+// 12: of the whole return. Both masses are below 2^64, so their lower words say them.
+fn cleared_above(bytes: &[u8]) -> Reason
+    requires { ⌜ Formed (now bytes) (countsOf (now bytes)) ⌝ }
+    ensures { λ r. ⌜ r ≡ woodReason (now (bytes .entry)) ⌝ }
+{
+    let wood = weigh_wood(bytes, count_rows(bytes));
+    Reason::ClearedAbove {
+        used: wood.used.0.lo,
+        cleared: wood.cleared.0.lo,
+    }
+}
+
 // The reason of a refusal, by its number and its place. A new number is a new line.
 pub fn reason_of(bytes: &[u8], number: u8, place: u32) -> Reason
     requires { ⌜ verdictOf (now bytes) ≡ Refused number place ⌝ }
@@ -138,6 +156,7 @@ pub fn reason_of(bytes: &[u8], number: u8, place: u32) -> Reason
         4 => bad_block(bytes, place),
         5 => id_below(bytes, place),
         6 => field_above(bytes, place),
-        _ => fractions_above(bytes, place),
+        7 => fractions_above(bytes, place),
+        _ => cleared_above(bytes),
     }
 }

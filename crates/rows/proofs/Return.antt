@@ -4,7 +4,7 @@
 --     no-room, .. lists-kept    the answers, from rule to rule; done-by, what an answer that is done comes of
 use Prim.Native.Nat.{ℕ, suc, _+_, _-_, _*_, _/_, _≤_, _<_}
 use mathlib.Core.Path.{_≡_, refl, sym, ap, _∙_}
-use mathlib.Core.List.{List, [], _∷_, _++_, map}
+use mathlib.Core.List.{List, [], _∷_, _++_, map, append-assoc}
 use native.Mathlib.Numerals.{add-one}
 use native.Mathlib.Omega.{arith}
 use lib.ListN.{length, getD, take, drop, drop-of-length-le}
@@ -26,7 +26,7 @@ use Rattle.filing.proofs.Alike.{blocks-behind}
 use Rattle.filing.proofs.Cut.{cut-length, cut-lengths, total-none}
 use Rattle.lists.proofs.Scan.{in-lengths, part-is, part-long, part-next}
 use Rattle.lists.specs.Rules.{badAt, listRules, Good, blocksFrom}
-use Rattle.rows.specs.Writing.{written, roomRule, writtenBy, writeAnswer, bytesAfter, answerFrom5, answerFrom9}
+use Rattle.rows.specs.Writing.{written, roomRule, writtenBy, writeAnswer, bytesAfter, answerFrom5, answerFrom12, answerFrom9}
 use Rattle.rows.specs.declared.Written.{Written}
 use Rattle.rows.specs.declared.Written.the-variants.{Done, Refused}
 
@@ -151,9 +151,19 @@ module _ (e : ℕ) (lengths area room : List ℕ) where
   unfolding f
   record-broken b = ap (writtenBy e (cut lengths area)) (sym (ruled-before (filedRules e f) (roomRule e (cut lengths area) room ∷ []) (ruled-before (recordRules e f) (sumRules f) b)))
 
-  pub records-kept : {r : Written} → ruling (recordRules e (filedLists (cut lengths area))) ≡ Clean → r ≡ answerFrom9 e lengths area room → r ≡ answerFrom5 e lengths area room
-  unfolding f ruling
-  records-kept c q = q ∙ ap (writtenBy e (cut lengths area)) (sym (kept-before (filedRules e f) (roomRule e (cut lengths area) room ∷ []) (kept-before (recordRules e f) (sumRules f) c)))
+  pub records-kept : {r : Written} → ruling (recordRules e (filedLists (cut lengths area))) ≡ Clean → r ≡ answerFrom12 e lengths area room → r ≡ answerFrom5 e lengths area room
+  unfolding f
+  records-kept c q =
+      let last = roomRule e (cut lengths area) room ∷ [] in
+      q ∙ ap (writtenBy e (cut lengths area)) (sym (ap ruling (append-assoc (recordRules e f) (sumRules f) last) ∙ kept-before (recordRules e f) (sumRules f ++ last) c))
+
+  pub sum-broken : {n p : ℕ} → ruling (sumRules (filedLists (cut lengths area))) ≡ Broken n p → Refused n p ≡ answerFrom12 e lengths area room
+  unfolding f
+  sum-broken b = ap (writtenBy e (cut lengths area)) (sym (ruled-before (sumRules f) (roomRule e (cut lengths area) room ∷ []) b))
+
+  pub sums-kept : {r : Written} → ruling (sumRules (filedLists (cut lengths area))) ≡ Clean → r ≡ answerFrom9 e lengths area room → r ≡ answerFrom12 e lengths area room
+  unfolding f
+  sums-kept c q = q ∙ ap (writtenBy e (cut lengths area)) (sym (kept-before (sumRules f) (roomRule e (cut lengths area) room ∷ []) c))
 
   pub list-broken : {kind : ℕ} → first (badAt e lengths (length area)) (suc kinds) ≡ At kind → Refused 10 kind ≡ writeAnswer e lengths area room
   unfolding writeAnswer listRules

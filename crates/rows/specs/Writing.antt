@@ -1,9 +1,9 @@
--- "Writing: 10, then 5 to 9." "Success writes exactly the blocks at the front; later elements keep their values."
+-- "Writing: 10, then 5 to 9", with 12 "straight after 7". "Success writes exactly the blocks at the front; later elements keep their values."
 use Prim.Native.Nat.{ℕ}
 use mathlib.Core.List.{List, [], _∷_, _++_}
 use lib.ListN.{length}
 use Rattle.form.specs.Ruling.{Rule, tooShort, ruling, onFront}
-use Rattle.form.specs.Sums.{filedRules}
+use Rattle.form.specs.Sums.{sumRules, filedRules}
 use Rattle.form.specs.declared.Ruling.{Ruling}
 use Rattle.form.specs.declared.Ruling.the-variants.{Clean, Broken}
 use Rattle.filing.specs.Lists.{Lists, cut, filedLists}
@@ -36,12 +36,17 @@ abbrev pub bytesAfter : ℕ → List ℕ → List ℕ → List ℕ → Written �
 bytesAfter edition lengths area room (Done n) = onFront (written edition (cut lengths area)) room
 bytesAfter edition lengths area room (Refused n p) = room
 
--- ---- as the code goes through the rules: the answer from 5 on, where 10 is kept, and from 9 on, where all others are
+-- ---- as the code goes through the rules: the answer from 5 on, where 10 is kept, from 12 on, where 5 to 7 are too, and from 9 on, where all others are
 
 abbrev pub answerFrom5 : ℕ → List ℕ → List ℕ → List ℕ → Written
 answerFrom5 edition lengths area room =
     let l = cut lengths area in
     writtenBy edition l (ruling (filedRules edition (filedLists l) ++ (roomRule edition l room ∷ [])))
+
+abbrev pub answerFrom12 : ℕ → List ℕ → List ℕ → List ℕ → Written
+answerFrom12 edition lengths area room =
+    let l = cut lengths area in
+    writtenBy edition l (ruling (sumRules (filedLists l) ++ (roomRule edition l room ∷ [])))
 
 abbrev pub answerFrom9 : ℕ → List ℕ → List ℕ → List ℕ → Written
 answerFrom9 edition lengths area room = let l = cut lengths area in writtenBy edition l (ruling (roomRule edition l room ∷ []))

@@ -10,7 +10,8 @@ ghost use Rattle.form.specs.declared.Verdict.the-variants.{Accepted};
 ghost use Rattle.filing.specs.Lists.{cut};
 ghost use Rattle.lists.specs.Rules.{Good, blocksFrom};
 ghost use Rattle.rows.specs.Reading.{areaTo, outgrown, readAnswer, roomAfter};
-ghost use Rattle.rows.specs.Writing.{written, answerFrom5, answerFrom9, writeAnswer, bytesAfter};
+ghost use Rattle.rows.specs.Writing.{written, answerFrom5, answerFrom12, answerFrom9, writeAnswer, bytesAfter};
+use balance::unwritten::rule_lists;
 use decoding::decode_kind;
 use filing::write_kind;
 use form::Counts;
@@ -70,6 +71,18 @@ fn write_sound(edition: u32, lengths: &[u32], rows: &[u32], room: &mut [u8]) -> 
     Written::Done(512 * n)
 }
 
+// Rows that keep the rules of one row: then what they add up to.
+fn write_each(edition: u32, lengths: &[u32], rows: &[u32], room: &mut [u8]) -> Written
+    requires { ⌜ Good (now lengths) (length (now rows)) ⌝ }
+    ensures { λ r. ⌜ r ≡ answerFrom12 edition (now (lengths .entry)) (now (rows .entry)) (now (room .entry)) ⌝ }
+    ensures { λ r. ⌜ now (room .exit) ≡ bytesAfter edition (now (lengths .entry)) (now (rows .entry)) (now (room .entry)) r ⌝ }
+{
+    match rule_lists(lengths, rows) {
+        Ruling::Broken { number, place } => Written::Refused { number, place },
+        Ruling::Clean => write_sound(edition, lengths, rows, room),
+    }
+}
+
 // Lists of whole rows.
 fn write_whole(edition: u32, lengths: &[u32], rows: &[u32], room: &mut [u8]) -> Written
     requires { ⌜ Good (now lengths) (length (now rows)) ⌝ }
@@ -78,7 +91,7 @@ fn write_whole(edition: u32, lengths: &[u32], rows: &[u32], room: &mut [u8]) -> 
 {
     match rule_records(edition, lengths, rows) {
         Ruling::Broken { number, place } => Written::Refused { number, place },
-        Ruling::Clean => write_sound(edition, lengths, rows, room),
+        Ruling::Clean => write_each(edition, lengths, rows, room),
     }
 }
 

@@ -16,7 +16,7 @@ use Rattle.form.specs.Verdict.{rows, Formed}
 use Rattle.form.specs.declared.Counts.{Counts}
 use Rattle.standing.proofs.Accepted.{limit-of}
 use Rattle.totals.specs.Abandoned.{abandonedPart, growthAt}
-use Rattle.totals.proofs.Limits.{stock-below, harvest-below, abandoned-below}
+use Rattle.totals.proofs.Limits.{cleared-below, stock-below, harvest-below, abandoned-below}
 use Rattle.totals.proofs.Sums.{sum-le}
 use Rattle.totals.proofs.Accepted.{small}
 use Rattle.sums.specs.Parts.{partIn}
@@ -45,21 +45,21 @@ growths s at h =
 
 pub small-part : (k : ℕ) (r : List ℕ) → aboveLimit (layout k) r ≡ false → partIn k r ≤ 2 * 10 ^ 14
 small-part zero r h = lit≤ tt
-small-part (suc zero) r h = lit≤ tt
+small-part (suc zero) r h = omega (arith, cleared-below r h)
 small-part (suc (suc zero)) r h = omega (arith, stock-below r h)
 small-part (suc (suc (suc zero))) r h = omega (arith, harvest-below r h)
 small-part (suc (suc (suc (suc zero)))) r h = lit≤ tt
 small-part (suc (suc (suc (suc (suc zero))))) r h = abandoned-below r h
 small-part (suc (suc (suc (suc (suc (suc k)))))) r h = lit≤ tt
 
-pub no-part : (k : ℕ) (r : List ℕ) → (k ≡ 2 → ⊥) → (k ≡ 3 → ⊥) → (k ≡ 5 → ⊥) → 0 ≡ partIn k r
-no-part zero r a b c = refl
-no-part (suc zero) r a b c = refl
-no-part (suc (suc zero)) r a b c = absurd (a refl)
-no-part (suc (suc (suc zero))) r a b c = absurd (b refl)
-no-part (suc (suc (suc (suc zero)))) r a b c = refl
-no-part (suc (suc (suc (suc (suc zero))))) r a b c = absurd (c refl)
-no-part (suc (suc (suc (suc (suc (suc k)))))) r a b c = refl
+pub no-part : (k : ℕ) (r : List ℕ) → (k ≡ 1 → ⊥) → (k ≡ 2 → ⊥) → (k ≡ 3 → ⊥) → (k ≡ 5 → ⊥) → 0 ≡ partIn k r
+no-part zero r o a b c = refl
+no-part (suc zero) r o a b c = absurd (o refl)
+no-part (suc (suc zero)) r o a b c = absurd (a refl)
+no-part (suc (suc (suc zero))) r o a b c = absurd (b refl)
+no-part (suc (suc (suc (suc zero)))) r o a b c = refl
+no-part (suc (suc (suc (suc (suc zero))))) r o a b c = absurd (c refl)
+no-part (suc (suc (suc (suc (suc (suc k)))))) r o a b c = refl
 
 pub sum-room : (s : List ℕ) (c : Counts) → Formed s c → (k i : ℕ) → 1 ≤ k → k ≤ kinds → sumOf (partIn k) (take i (rows k s)) < 2 ^ 60
 sum-room s c acc k i lo hi = omega (arith, sum-le (partIn k) (rows k s) i, small s c acc k (partIn k) (2 * 10 ^ 14) lo hi (small-part k))

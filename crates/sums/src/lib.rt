@@ -1,11 +1,11 @@
-// Sums of one number a row: E of the stocks, K of the harvest, and worksheet 5-4's uptake of land given up by farmers. One loop for all kinds.
+// Sums of one number a row: E of the stocks, K of the harvest, L of the conversion, and worksheet 5-4's uptake of land given up by farmers. One loop for all kinds.
 ghost use mathlib.Core.Path.{_≡_};
 ghost use mathlib.Core.Bool.{false};
 ghost use Prim.Native.Nat.{_+_, _^_, _≤_, _<_};
 ghost use lib.ListN.{length};
-ghost use Rattle.form.specs.Layout.{kinds, layout, stock, harvest, abandoned, rowAt, aboveLimit};
+ghost use Rattle.form.specs.Layout.{kinds, layout, conversion, stock, harvest, abandoned, rowAt, aboveLimit};
 ghost use Rattle.form.specs.Verdict.{rows, Formed};
-ghost use Rattle.form.specs.Sums.{sumOf, harvestPart, columnK};
+ghost use Rattle.form.specs.Sums.{sumOf, harvestPart, clearedPart, columnK, columnL};
 ghost use Rattle.wide.specs.Numbers.{Is};
 ghost use Rattle.totals.specs.Masses.{dryMatter, carbon};
 ghost use Rattle.totals.specs.Columns.{stockPart, columnE};
@@ -22,9 +22,25 @@ use totals::CarbonPart;
 use totals::DryMatter;
 use totals::DryMatterPart;
 use totals::carbon_of;
+use totals::lost;
+use totals::share_of;
 use wide::Wide;
 use wide::add_word;
 use wide::of;
+
+// One conversion row's part in L.
+fn cleared_at(bytes: &[u8], at: usize) -> DryMatterPart
+    requires { ⌜ at + 40 ≤ length (now bytes) ⌝ }
+    requires { ⌜ aboveLimit conversion (rowAt conversion (now bytes) at) ≡ false ⌝ }
+    ensures { λ r. ⌜ r .0 ≡ clearedPart (rowAt conversion (now (bytes .entry)) at) ⌝ }
+{
+    let biomass = lost(
+        four_at(bytes, at + 4),
+        two_at(bytes, at + 8),
+        two_at(bytes, at + 10),
+    );
+    share_of(biomass, two_at(bytes, at + 18))
+}
 
 // One stock row's part in E.
 fn stock_at(bytes: &[u8], at: usize) -> CarbonPart
@@ -71,6 +87,7 @@ fn part_at(bytes: &[u8], at: usize, kind: usize) -> u64
     ensures { λ r. ⌜ r ≡ partIn kind (rowAt (layout kind) (now (bytes .entry)) at) ⌝ }
 {
     match kind {
+        1 => cleared_at(bytes, at).0,
         2 => stock_at(bytes, at).0,
         3 => harvest_at(bytes, at).0,
         5 => land_at(bytes, at).0,
@@ -109,6 +126,14 @@ pub fn sum_harvest(bytes: &[u8], c: Counts) -> DryMatter
     ensures { λ r. ⌜ r ≡ dryMatter (columnK (rows 3 (now (bytes .entry)))) ⌝ }
 {
     DryMatter(sum_parts(bytes, c, 3))
+}
+
+// L: the biomass that clearing gives, off site.
+pub fn sum_cleared(bytes: &[u8], c: Counts) -> DryMatter
+    requires { ⌜ Formed (now bytes) c ⌝ }
+    ensures { λ r. ⌜ r ≡ dryMatter (columnL (rows 1 (now (bytes .entry)))) ⌝ }
+{
+    DryMatter(sum_parts(bytes, c, 1))
 }
 
 // The uptake.

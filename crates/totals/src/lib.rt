@@ -34,7 +34,7 @@ pub struct CarbonPart(pub u64);
 pub struct PeriodsPart(pub u64);
 
 // The biomass that an area loses.
-fn lost(area: u32, before: u32, after: u32) -> DryMatterPart
+pub fn lost(area: u32, before: u32, after: u32) -> DryMatterPart
     requires { ⌜ (area ≤ 1000000) × (before ≤ 10000) ⌝ }
     ensures { λ r. ⌜ (r .0 ≡ area * countedDifference before after) × (r .0 ≤ 10 ^ 10) ⌝ }
 {
@@ -42,7 +42,7 @@ fn lost(area: u32, before: u32, after: u32) -> DryMatterPart
 }
 
 // A fraction of dry matter.
-fn share_of(mass: DryMatterPart, fraction: u32) -> DryMatterPart
+pub fn share_of(mass: DryMatterPart, fraction: u32) -> DryMatterPart
     requires { ⌜ mass .0 * fraction < 2 ^ 64 ⌝ }
     ensures { λ r. ⌜ r .0 ≡ mass .0 * fraction ⌝ }
 {

@@ -10,14 +10,14 @@ use borrow.Author.Tests.{eqb-true, ltb-true, lt-ltb, le-ltb}
 use lib.Dec.{ltb, leb, eqb}
 use lib.ListN.{length}
 use Rattle.form.specs.First.{first}
-use Rattle.form.specs.Ruling.{refuse, ruling}
-use Rattle.form.specs.Records.{Filed, RowTest, RowRule, hasId, idOf, badId, brokenBy, rowRules, overPlaces, recordRules}
-use Rattle.form.specs.Sums.{sumRules, filedRules}
+use Rattle.form.specs.Ruling.{rule, refuse, ruling}
+use Rattle.form.specs.Records.{Filed, RowTest, RowRule, hasId, idOf, badId, brokenBy, rowRules, overPlaces, recordRules, rowsBelow, filedRows}
+use Rattle.form.specs.Sums.{clearedAbove, sumRules, filedRules}
 use Rattle.form.proofs.Order.{orRule, ruling-append}
 use Rattle.form.proofs.Tests.{guarded}
 use Rattle.form.proofs.Search.{first-same}
 use Rattle.filing.specs.Lists.{Lists, rowsIn, filedList, behind, filedFrom}
-use Rattle.filing.proofs.Alike.{Same, Alike}
+use Rattle.filing.proofs.Alike.{Same, Alike, rows-alike}
 use Rattle.lists.proofs.Places.{kinds-from}
 
 -- a used place behind one of its kind: that one is used too
@@ -59,9 +59,12 @@ module _ (e : ℕ) (f g : Filed) (a : Alike f 0 g 0 (f .places)) (same : f .plac
   unfolding ruling
   records-same solid = ap₂ (refuse 5) (at (badId f) (badId g) (id-same a solid)) (over-same rowRules)
 
-  -- no rule adds rows up yet; those of alike places add up the same rows (filing/Alike.rows-alike)
+  -- rules that add rows up: alike places have the same rows
+  kind-same : (k : ℕ) → filedRows f k ≡ filedRows g k
+  kind-same k = rows-alike k (f .places) (same-at a) ∙ ap (rowsBelow g k) same
+
   sums-same : ruling (sumRules f) ≡ ruling (sumRules g)
-  sums-same = refl
+  sums-same = ap₂ (λ (h c : List (List ℕ)). ruling (rule 12 1 (λ p. clearedAbove h c) ∷ [])) (kind-same 3) (kind-same 1)
 
   pub rules-same : Solid f (f .places) → ruling (filedRules e f) ≡ ruling (filedRules e g)
   rules-same solid =

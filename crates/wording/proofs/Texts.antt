@@ -16,9 +16,9 @@ use Rattle.faults.specs.declared.Fault.the-variants.{Order, End, Fourth, Count,
 use Rattle.reasons.proofs.Reason as reason
 use Rattle.reasons.specs.declared.Header.{Header}
 use Rattle.reasons.specs.declared.Reason.{Reason}
-use Rattle.reasons.specs.declared.Reason.the-variants.{BadLength, BadCheck, BadHeader, BadBlock, IdBelow, FieldAbove, FractionsAbove}
+use Rattle.reasons.specs.declared.Reason.the-variants.{BadLength, BadCheck, BadHeader, BadBlock, IdBelow, FieldAbove, FractionsAbove, ClearedAbove}
 use Rattle.naming.specs.RowLines.{rowLines}
-use Rattle.wording.specs.Wording.{wordOf, faultWords, faultNumber, faultLine, headerLines, faultLines, dueLines, valueLines}
+use Rattle.wording.specs.Wording.{wordOf, faultWords, faultNumber, faultLine, headerLines, faultLines, dueLines, woodLines, valueLines}
 
 abbrev pub headerNames : List ℕ
 headerNames = codes "kind count number blocks edition "
@@ -33,6 +33,13 @@ header-text h = lines (item (codes "kind") (h .kind) ∷ item (codes "count") (h
 pub due-text : (b n e : ℕ) → filledIn dueNames (unsigned (b ∷ n ∷ e ∷ [])) ≡ linesText (dueLines b n e)
 unfolding flatMap spaces
 due-text b n e = lines (item (codes "number_due") b ∷ item (codes "blocks_due") n ∷ item (codes "edition_first") e ∷ []) refl
+
+abbrev pub woodNames : List ℕ
+woodNames = codes "used cleared "
+
+pub wood-text : (u l : ℕ) → filledIn woodNames (unsigned (u ∷ l ∷ [])) ≡ linesText (woodLines u l)
+unfolding flatMap spaces
+wood-text u l = lines (item (codes "used") u ∷ item (codes "cleared") l ∷ []) refl
 
 -- the faults that have nothing beside the header
 pub plain-lines : (h : Header) (f : Fault) → OneOf (1 ∷ 2 ∷ 3 ∷ 5 ∷ []) (tagOf the-type f) → faultLines h f ≡ headerLines h
@@ -85,3 +92,4 @@ row-lines (BadBlock b h f) o = absurd (miss (4 ∷ 5 ∷ 6 ∷ []) 3 tt o)
 row-lines (IdBelow w x) o = refl
 row-lines (FieldAbove w i v l) o = refl
 row-lines (FractionsAbove w n f d t) o = refl
+row-lines (ClearedAbove u l) o = absurd (miss (4 ∷ 5 ∷ 6 ∷ []) 7 tt o)

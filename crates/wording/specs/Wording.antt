@@ -1,4 +1,4 @@
--- §7: the lines of a refusal behind its first, `name value` each: the values that clash.
+-- §7: the lines of a refusal behind its first, `name value` each: the values that clash; §8: "The explaining tool then shows 100K and L."
 use Prim.Native.Nat.{ℕ}
 use mathlib.Core.List.{List, [], _∷_, _++_}
 use Rattle.phrases.specs.Ascii.{codes}
@@ -7,7 +7,7 @@ use Rattle.faults.specs.declared.Fault.{Fault}
 use Rattle.faults.specs.declared.Fault.the-variants.{Order, End, Fourth, Count, Unfilled, Overfilled, Stray}
 use Rattle.reasons.specs.declared.Header.{Header}
 use Rattle.reasons.specs.declared.Reason.{Reason}
-use Rattle.reasons.specs.declared.Reason.the-variants.{BadLength, BadCheck, BadHeader, BadBlock, IdBelow, FieldAbove, FractionsAbove}
+use Rattle.reasons.specs.declared.Reason.the-variants.{BadLength, BadCheck, BadHeader, BadBlock, IdBelow, FieldAbove, FractionsAbove, ClearedAbove}
 use Rattle.naming.specs.RowLines.{wordLine, rowLines}
 
 -- "the block's header, five lines"
@@ -60,6 +60,10 @@ faultLines h (Stray i b) = numberLine (codes "offset") i ∷ numberLine (codes "
 abbrev pub dueLines : ℕ → ℕ → ℕ → List Line
 dueLines b n e = numberLine (codes "number_due") b ∷ numberLine (codes "blocks_due") n ∷ numberLine (codes "edition_first") e ∷ []
 
+-- `used`, 100 K, and `cleared`, L
+abbrev pub woodLines : ℕ → ℕ → List Line
+woodLines u l = numberLine (codes "used") u ∷ numberLine (codes "cleared") l ∷ []
+
 -- by the number. A new number is a new case.
 abbrev pub valueLines : Reason → List Line
 -- 1
@@ -74,3 +78,5 @@ valueLines (BadBlock b h f) = faultLine f ∷ faultLines h f
 valueLines (IdBelow w x) = rowLines (IdBelow w x)
 valueLines (FieldAbove w i v l) = rowLines (FieldAbove w i v l)
 valueLines (FractionsAbove w n f d t) = rowLines (FractionsAbove w n f d t)
+-- 12: of the whole return, and of no row
+valueLines (ClearedAbove u l) = woodLines u l

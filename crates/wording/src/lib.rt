@@ -9,6 +9,7 @@ ghost use Rattle.phrases.specs.Lines.{WrittenIn, linesText};
 ghost use Rattle.wording.specs.Wording.{faultNumber, faultLine, faultLines, valueLines};
 use crate::lines::put_due;
 use crate::lines::put_header;
+use crate::lines::put_wood;
 use faults::Fault;
 use naming::put_row;
 use phrases::put_one;
@@ -98,6 +99,7 @@ pub fn put_reason(reason: Reason, out: &mut [u8], at: usize) -> usize
             let next = put_fault_word(fault, out, at);
             put_fault(said, fault, out, next)
         }
+        Reason::ClearedAbove { used, cleared } => put_wood(used, cleared, out, at),
         _ => put_row(reason, out, at),
     }
 }

@@ -2,7 +2,7 @@
 ghost use Prim.Native.Nat.{_+_, _≤_};
 ghost use lib.ListN.{length};
 ghost use Rattle.phrases.specs.Lines.{WrittenIn, linesText};
-ghost use Rattle.wording.specs.Wording.{headerLines, dueLines};
+ghost use Rattle.wording.specs.Wording.{headerLines, dueLines, woodLines};
 use phrases::put_lines;
 use reasons::Header;
 
@@ -53,4 +53,13 @@ pub fn put_due(number: u32, blocks: u32, edition: u32, out: &mut [u8], at: usize
         edition as u64,
     ];
     put_lines(b"number_due blocks_due edition_first ", &values, out, at)
+}
+
+// The wood that was used, and what clearing gave.
+pub fn put_wood(used: u64, cleared: u64, out: &mut [u8], at: usize) -> usize
+    requires { ⌜ at + 60 ≤ length (now out) ⌝ }
+    ensures { λ r. ⌜ WrittenIn 60 (linesText (woodLines used cleared)) (now (out .entry)) (now (out .exit)) at r ⌝ }
+{
+    let values = [0, 0, used, 0, 0, cleared];
+    put_lines(b"used cleared ", &values, out, at)
 }

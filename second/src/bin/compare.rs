@@ -33,24 +33,30 @@ mod run {
             name: "judge",
             inputs: inputs::least(),
             least: inputs::least(),
-            often: &[0, 1, 2, 3, 4, 5, 6, 7, 9],
+            often: &[0, 1, 2, 3, 4, 5, 6, 7, 9, 12],
             sorts: 100,
+            balances: 1_000,
         };
         let mut coverage = Coverage::default();
         let calls = coverage.add(
             Due::Told,
             ["calls", "calls with the input at an odd address"],
         );
+        let before_9 = coverage.add(Due::Times(1_000), ["12, and the room too short"]);
         let ran = run(&plan, arguments, inputs::plain, |case, rng| {
-            try_one(case, rng, |nth| coverage.count(calls, nth))
+            let lent = rng.below(MOST_LENT + 1);
+            let outcome = try_one(case, lent, rng, |nth| coverage.count(calls, nth));
+            if outcome.answer == 12_000 && lent < COUNTS_ROOM {
+                coverage.count(before_9, 0);
+            }
+            outcome
         });
         exit(ran.with(&coverage).good())
     }
 
-    fn try_one(case: &Case, rng: &mut Rng, mut called: impl FnMut(usize)) -> Outcome {
+    fn try_one(case: &Case, lent: usize, rng: &mut Rng, mut called: impl FnMut(usize)) -> Outcome {
         let mut before = [0u32; ROOM];
         before.fill_with(|| rng.word());
-        let lent = rng.below(MOST_LENT + 1);
 
         // "Lent room too short" is tried last; a refusal leaves the room as it
         // was, and acceptance writes the edition and the counts at its front.

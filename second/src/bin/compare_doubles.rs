@@ -37,8 +37,9 @@ mod run {
             name: "doubles",
             inputs: inputs::least(),
             least: inputs::least(),
-            often: &[0, 1, 2, 3, 4, 5, 6, 7, 9, 11],
+            often: &[0, 1, 2, 3, 4, 5, 6, 7, 9, 11, 12],
             sorts: 100,
+            balances: 1_000,
         };
         let mut coverage = Coverage::default();
         let tried = [
@@ -46,17 +47,50 @@ mod run {
             "doubles of accepted inputs that demand 3 was tried on",
         ];
         let tried = coverage.add(Due::Told, tried);
+        let before = ["12, and a code above 2", "12, and the room too short"];
+        let before = coverage.add(Due::Times(1_000), before);
         let ran = run(&plan, arguments, inputs::with_figures, |case, rng| {
-            try_one(case, rng, |nth| coverage.count(tried, nth))
+            let asked = (any_code(rng), any_lent(rng));
+            let outcome = try_one(case, asked, rng, |nth| coverage.count(tried, nth));
+            let wrong = [asked.0 > 2, asked.1 < 8];
+            for (nth, _) in wrong.iter().enumerate().filter(|(_, &wrong)| wrong) {
+                if outcome.answer == 12_000 {
+                    coverage.count(before, nth);
+                }
+            }
+            outcome
         });
         exit(ran.with(&coverage).good())
+    }
+
+    /// A wrong code with a short room shows which of 11 and 9 comes first.
+    fn any_code(rng: &mut Rng) -> u32 {
+        match rng.below(8) {
+            0 => 3,
+            1 => rng.pick(&[4, 255, 256, 65_536, 1 << 31, u32::MAX - 1, u32::MAX]),
+            2 => rng.word(),
+            _ => rng.below(3) as u32,
+        }
+    }
+
+    fn any_lent(rng: &mut Rng) -> usize {
+        match rng.below(4) {
+            0 => rng.below(8),
+            1 => rng.pick(&[7, 8, 9]),
+            _ => rng.below(MOST_LENT + 1),
+        }
     }
 
     /// What is counted.
     const CALL: usize = 0;
     const HELD: usize = 1;
 
-    fn try_one(case: &Case, rng: &mut Rng, mut tried: impl FnMut(usize)) -> Outcome {
+    fn try_one(
+        case: &Case,
+        (code, lent): (u32, usize),
+        rng: &mut Rng,
+        mut tried: impl FnMut(usize),
+    ) -> Outcome {
         let mut before = [0; MEMORY];
         rng.fill(&mut before);
         let placed = Placed::new(&case.bytes, rng);
@@ -66,18 +100,6 @@ mod run {
             ask(bytes, case, before, (code, lent))
         };
 
-        // A wrong code with a short room shows which of 11 and 9 comes first.
-        let code = match rng.below(8) {
-            0 => 3,
-            1 => rng.pick(&[4, 255, 256, 65_536, 1 << 31, u32::MAX - 1, u32::MAX]),
-            2 => rng.word(),
-            _ => rng.below(3) as u32,
-        };
-        let lent = match rng.below(4) {
-            0 => rng.below(8),
-            1 => rng.pick(&[7, 8, 9]),
-            _ => rng.below(MOST_LENT + 1),
-        };
         let (answer, drawn) = ask(code, lent);
         // The room may be exact or longer.
         let longer = 8 + rng.below(MOST_LENT - 7);

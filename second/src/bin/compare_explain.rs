@@ -50,6 +50,8 @@ mod run {
         /// Calls for a row, refused with 11, and with 9.
         rows: Counters,
         refused: Counters,
+        /// Refused with 12, though the code is above 2, and though the room is short.
+        refused_12: Counters,
         reasons: Reasons,
     }
 
@@ -57,11 +59,14 @@ mod run {
         fn new() -> Self {
             let (mut coverage, due) = (Coverage::default(), Due::Times(LEAST));
             let refused = ["11", "9"].map(|number| format!("heaviest rows refused {number}"));
+            let refused_12 = ["a code above 2", "the room too short"];
+            let refused_12 = refused_12.map(|more| format!("heaviest rows refused 12, and {more}"));
             Tally {
                 reasons: Reasons::new(due, Due::Times(LEAST_ROWS), &mut coverage),
                 texts: coverage.add(Due::Told, ["texts"]),
                 rows: coverage.add(Due::Told, ["heaviest rows asked for"]),
                 refused: coverage.add(due, refused),
+                refused_12: coverage.add(Due::Times(1_000), refused_12),
                 coverage,
             }
         }
@@ -75,8 +80,9 @@ mod run {
             name: "reasons",
             inputs: inputs::least_explained(),
             least: inputs::least_explained(),
-            often: &[0, 1, 2, 3, 4, 5, 6, 7],
+            often: &[0, 1, 2, 3, 4, 5, 6, 7, 12],
             sorts: 100,
+            balances: 1_000,
         };
         let mut tally = Tally::new();
         let ran = run(&plan, arguments, inputs::explained, |case, rng| {
@@ -168,6 +174,12 @@ mod run {
         tally.coverage.count(tally.rows, 0);
         if let Some(nth) = [11_000, 9000].iter().position(|&due| due == expected) {
             tally.coverage.count(tally.refused, nth);
+        }
+        let wrong = [code > 2, lent < HEAVIEST_ROOM];
+        for (nth, _) in wrong.iter().enumerate().filter(|(_, &wrong)| wrong) {
+            if expected == 12_000 {
+                tally.coverage.count(tally.refused_12, nth);
+            }
         }
         let answer = first_heaviest(bytes, code, Lent::front(&mut room, lent));
         let difference = first_of([

@@ -49,8 +49,9 @@ mod run {
             name: "lines",
             inputs: inputs::least(),
             least: inputs::least(),
-            often: &[0, 1, 2, 3, 4, 5, 6, 7],
+            often: &[0, 1, 2, 3, 4, 5, 6, 7, 12],
             sorts: 100,
+            balances: 1_000,
         };
         let mut coverage = Coverage::default();
         let calls = coverage.add(Due::Told, ["calls, lines and figures"]);

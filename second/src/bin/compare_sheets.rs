@@ -47,8 +47,9 @@ fn main() -> ExitCode {
         name: "sheets",
         inputs: INPUTS,
         least: INPUTS,
-        often: &[0, 1, 2, 3, 4, 5, 6, 7],
+        often: &[0, 1, 2, 3, 4, 5, 6, 7, 12],
         sorts: 10,
+        balances: 5,
     };
     let mut coverage = Coverage::default();
     let halves = Halves::new(Due::Times(1), &mut coverage);

@@ -83,7 +83,8 @@ pub(super) fn break_header(rng: &mut Rng, bytes: &mut [u8]) -> String {
         // In edition 1 each later kind too.
         0 => match rng.below(4) {
             0 => rng.pick(&[0, 128, 255]),
-            1 => last + 1,
+            // The first that it doesn't have, or the last that another edition has.
+            1 => rng.pick(&[last + 1, (KINDS.len() as u8).max(last + 1)]),
             _ => last + 1 + rng.below(KINDS.len() + 2 - usize::from(last)) as u8,
         },
         _ => match rng.below(3) {

@@ -18,6 +18,7 @@ fn the_longest_text_has_207_bytes() {
     };
     let top = u32::MAX;
     rows.conversion = vec![row(top - 2, 4), row(top - 1, 7), row(top, 13)];
+    rows.cover_with_more(&mut Rng::new(155), 0);
     let part = 10_000_000_000_000_000_000u64;
     let due = format!(
         "heaviest_onsite 4294967293\nheaviest_onsite_part {part}\n\
@@ -58,7 +59,20 @@ fn refusals_are_shorter() {
     let top = u32::MAX - 20;
     let ids = high(full(), land).four(land + 1, 10, 0, top);
     let ids = ids.four(land + 1, 11, 0, top);
+    // As much as can be cleared, and a little less used: 15 digits each.
+    let mut cleared = Rows::default();
+    let row = |id| {
+        let mut row = [0; 15];
+        row[..4].copy_from_slice(&[id, 1_000_000, 10_000, 0]);
+        row[7] = 1_000;
+        row
+    };
+    cleared.conversion = (0..32).map(row).collect();
+    let used = |id| [id, 9_999_999, 10_000, 0, 0];
+    cleared.harvest = (0..32).map(used).collect();
+    cleared.parameters = vec![[0; 6]];
     for (text, length) in [
+        (text_of(&cleared.to_bytes()), 58),
         (text_of(&unfit), 49),
         (explained(header(0)), 118),
         (explained(header(b)), 116),

@@ -1,4 +1,4 @@
-//! Numbers 5 to 7.
+//! Numbers 5 to 7, and 12.
 
 use super::*;
 use crate::judge::tests::{full, FULL};
@@ -153,4 +153,41 @@ fn fractions() {
     let due = format!("{row}onsite 500\noffsite 300\ndecay 201\nsum 1001\n");
     assert_eq!(three(500, 300, 201), due);
     assert!(three(500, 300, 200).starts_with("heaviest_onsite none\n"));
+}
+
+/// Number 12 names no row: "shows 100K and L" of the whole return.
+#[test]
+fn clearing() {
+    let with = |used: u32, cleared: u32| {
+        let mut rows = worked_day();
+        // K = 10 x used, and L = 2 x (1 + cleared) x 1.
+        rows.harvest = vec![[1, used, 10, 0, 0], [2, 0, 9_999, 0, 0]];
+        rows.conversion = vec![rows.conversion[0]; 2];
+        for (id, row) in (3..).zip(&mut rows.conversion) {
+            row[..4].copy_from_slice(&[id, 1, 12, 10]);
+            row[7] = 1;
+        }
+        rows.conversion[1][1] = cleared;
+        text_of(&rows.to_bytes())
+    };
+    assert_eq!(with(1, 500), "refused 12 0\nused 1000\ncleared 1002\n");
+    assert_eq!(with(0, 0), "refused 12 0\nused 0\ncleared 2\n");
+    let large = "refused 12 0\nused 1999000\ncleared 2000002\n";
+    assert_eq!(with(1_999, 1_000_000), large);
+    assert!(with(1, 499).starts_with("heaviest_onsite 4\n"));
+}
+
+/// A thinner row clears nothing, and doesn't take away from what others clear.
+#[test]
+fn thinner_rows_clear_nothing() {
+    let mut rows = worked_day();
+    rows.harvest[0] = [1, 0, 0, 0, 0];
+    let mut thinner = rows.conversion[0];
+    (thinner[0], thinner[2], thinner[3]) = (8, 100, 1_000);
+    rows.conversion.push(thinner);
+    let due = "refused 12 0\nused 0\ncleared 36000000\n";
+    assert_eq!(text_of(&rows.to_bytes()), due);
+    rows.conversion.remove(0);
+    let due = "heaviest_onsite none\nheaviest_offsite none\nheaviest_decay 8\n";
+    assert!(text_of(&rows.to_bytes()).starts_with(due));
 }

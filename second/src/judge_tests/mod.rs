@@ -2,6 +2,7 @@
 //! slip in the maker and one in the judge can't hide each other.
 
 mod blocks;
+mod clearing;
 mod later;
 mod records;
 mod second_edition;

@@ -37,6 +37,7 @@ impl Rows {
             good_conversion(rng, row, thinner);
         }
         style_savannas(rng, &mut rows.savanna);
+        rows.cover(rng);
         rows
     }
 

@@ -1,12 +1,10 @@
 -- `judge::judge` meets its contract. Assumes nothing.
 use mathlib.Core.Path.{sym, ap, _∙_}
 use denote.Ref.{now}
-use Rattle.form.specs.declared.Verdict.the-variants.{Accepted}
-use Rattle.form.specs.Ruling.{ruling}
 use Rattle.form.specs.Records.{filed}
 use Rattle.form.specs.Sums.{sumRules}
 use Rattle.form.specs.Verdict.{formRules, verdictBy, verdictOf}
-use Rattle.form.proofs.Order.{ruled-before, kept-before}
+use Rattle.form.proofs.Order.{ruled-before}
 use Rattle.form.proofs.Lengths.{clean-length}
 use borrow.Author.Needs.{needs}
 use Rattle.judge.proofs.judge.Statement.{statement}
@@ -31,14 +29,15 @@ returns c =
     let s = now (e .before .before .args .bytes) in
     sym (ap (verdictBy s) (ruled-before (formRules s) (sumRules (filed s)) (sym (e .rule-form .ensures) ∙ c .before .number .given .1)))
 
+judge-sums-requires : tie.Need-judge-sums-requires
+judge-sums-requires c κs =
+    let told = c .before in
+    record { clean = sym (told .before .before .rule-form .ensures) ∙ told .enum-told .given .1; counts = c .count-rows .ensures }
+
 returns-2 : tie.Need-returns-2
-unfolding verdictOf ruling
-returns-2 c =
-    let e = c .before .before .before in
-    let s = now (e .before .before .args .bytes) in
-    ap Accepted (c .count-rows .ensures) ∙ sym (ap (verdictBy s) (kept-before (formRules s) (sumRules (filed s)) (sym (e .rule-form .ensures) ∙ c .before .enum-told .given .1)))
+returns-2 c = c .judge-sums .ensures
 
 pub judge-spec : {M : Type 1} → statement M
 judge-spec =
     tie.close
-    (tie.spec rule-form-requires enum-known-number enum-told count-rows-requires returns returns-2)
+    (tie.spec rule-form-requires enum-known-number enum-told count-rows-requires judge-sums-requires returns returns-2)

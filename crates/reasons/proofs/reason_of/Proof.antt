@@ -1,5 +1,5 @@
 -- Number by number; the place is one of the rule's, as the return is refused there. Assumes nothing.
-use mathlib.Core.Path.{refl}
+use mathlib.Core.Path.{_≡_, refl}
 use denote.Ref.{now}
 use native.Mathlib.Omega.{arith}
 use lib.Dec.{eqb}
@@ -8,9 +8,17 @@ use Rattle.form.specs.Records.{filed, brokenBy}
 use Rattle.form.proofs.Tests.{and-true}
 use Rattle.form.proofs.Meaning.{length-first}
 use Rattle.reasons.specs.Reasons.{reasonOf}
-use Rattle.reasons.proofs.Refused.{at-check, at-header, at-block, at-id, at-field, at-fractions, last-number}
+use Rattle.reasons.proofs.Refused.{at-check, at-header, at-block, at-id, at-field, at-fractions, last-number, wood-formed}
 use Rattle.reasons.proofs.reason_of.Statement.{statement}
 use Rattle.reasons.proofs.reason_of.Tie as tie
+
+-- past the arms of all other numbers
+twelve : (c : tie.At-match-rest) → c .before .before .args .number ≡ 12
+twelve c =
+    let t = c .before .before in
+    let r = c .match .rest in
+    last-number (now (t .args .bytes)) (t .pre) (ne-eqb _ 1 (r .0 .0 .0 .0 .0 .0 .1)) (ne-eqb _ 2 (r .0 .0 .0 .0 .0 .1)) (ne-eqb _ 3 (r .0 .0 .0 .0 .1))
+    (ne-eqb _ 4 (r .0 .0 .0 .1)) (ne-eqb _ 5 (r .0 .0 .1)) (ne-eqb _ 6 (r .0 .1)) (ne-eqb _ 7 (r .1))
 
 bad-check-requires : tie.Need-bad-check-requires
 bad-check-requires c κs = let t = c .before .before in at-check (now (t .args .bytes)) (t .pre) (c .match .keys2) .inside
@@ -39,10 +47,11 @@ fractions-above-requires c κs =
     let t = c .before .before in
     let s = now (t .args .bytes) in
     let p = t .args .place in
-    let r = c .match .rest in
-    let n = last-number s (t .pre) (ne-eqb _ 1 (r .0 .0 .0 .0 .0 .1)) (ne-eqb _ 2 (r .0 .0 .0 .0 .1)) (ne-eqb _ 3 (r .0 .0 .0 .1)) (ne-eqb _ 4 (r .0 .0 .1)) (ne-eqb _ 5 (r .0 .1)) (ne-eqb _ 6 (r .1)) in
-    let w = at-fractions s (t .pre) n in
+    let w = at-fractions s (t .pre) (c .match .keys7) in
     (w .inside, eqb-true (filed s .kind p) 1 (and-true (eqb (filed s .kind p) 1) _ (and-true (filed s .used p) _ (w .broken) .1) .0))
+
+cleared-above-requires : tie.Need-cleared-above-requires
+cleared-above-requires c κs = let t = c .before .before in wood-formed (now (t .args .bytes)) (t .pre) (twelve c)
 
 returns : tie.Need-returns
 unfolding reasonOf
@@ -70,10 +79,11 @@ returns-6 c = rw (c .before .match .keys6) (c .field-above .ensures)
 
 returns-7 : tie.Need-returns-7
 unfolding reasonOf
-returns-7 c =
-    let r = c .before .match .rest in
-    rw (ne-eqb _ 1 (r .0 .0 .0 .0 .0 .1), ne-eqb _ 2 (r .0 .0 .0 .0 .1), ne-eqb _ 3 (r .0 .0 .0 .1), ne-eqb _ 4 (r .0 .0 .1), ne-eqb _ 5 (r .0 .1), ne-eqb _ 6 (r .1))
-    (c .fractions-above .ensures)
+returns-7 c = rw (c .before .match .keys7) (c .fractions-above .ensures)
+
+returns-8 : tie.Need-returns-8
+unfolding reasonOf
+returns-8 c = rw (twelve (c .before)) (c .cleared-above .ensures)
 
 pub reason-of-spec : {M : Type 1} → statement M
 reason-of-spec =
@@ -85,10 +95,12 @@ reason-of-spec =
     id-below-requires
     field-above-requires
     fractions-above-requires
+    cleared-above-requires
     returns
     returns-2
     returns-3
     returns-4
     returns-5
     returns-6
-    returns-7)
+    returns-7
+    returns-8)

@@ -16,8 +16,8 @@ enum-known-number c = search needs
 enum-told : tie.Need-enum-told
 enum-told c = search needs
 
-write-sound-requires : tie.Need-write-sound-requires
-write-sound-requires c κs = search needs
+write-each-requires : tie.Need-write-each-requires
+write-each-requires c κs = search needs
 
 returns : tie.Need-returns
 returns c =
@@ -30,11 +30,11 @@ same-length c = search needs
 
 returns-2 : tie.Need-returns-2
 returns-2 c =
-    let at-sound = c .before .before in
-    let told = at-sound .before .before in
+    let at-each = c .before .before in
+    let told = at-each .before .before in
     let at-rule = told .before .before in
     let a = at-rule .before .before .before .before .args in
-    (records-kept (a .edition) (a .lengths .now) (a .rows .now) (now (a .room)) (sym (at-rule .rule-records .ensures) ∙ told .enum-told .given .1) (at-sound .write-sound .ensures .0), at-sound .write-sound .ensures .1)
+    (records-kept (a .edition) (a .lengths .now) (a .rows .now) (now (a .room)) (sym (at-rule .rule-records .ensures) ∙ told .enum-told .given .1) (at-each .write-each .ensures .0), at-each .write-each .ensures .1)
 
 pub write-whole-spec : {M : Type 1} → statement M
 write-whole-spec =
@@ -43,7 +43,7 @@ write-whole-spec =
     rule-records-requires
     enum-known-number
     enum-told
-    write-sound-requires
+    write-each-requires
     returns
     same-length
     returns-2)

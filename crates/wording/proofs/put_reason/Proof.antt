@@ -49,6 +49,12 @@ put-fault-word-requires c κs = search needs
 put-fault-requires : tie.Need-put-fault-requires
 put-fault-requires c κs = search needs
 
+enum-known-reason-5 : tie.Need-enum-known-reason-5
+enum-known-reason-5 c = search needs
+
+put-wood-requires : tie.Need-put-wood-requires
+put-wood-requires c κs = search needs
+
 put-row-requires : tie.Need-put-row-requires
 put-row-requires c κs = search needs
 
@@ -98,8 +104,17 @@ same-length-5 c = search needs
 returns-5 : tie.Need-returns-5
 returns-5 c =
     let w = c .before .before in
+    let r = w .before .before .before .reason5 .given in
+    (rw (r .1) (w .put-wood .ensures .0), omega (arith, w .put-wood .ensures .1))
+
+same-length-6 : tie.Need-same-length-6
+same-length-6 c = search needs
+
+returns-6 : tie.Need-returns-6
+returns-6 c =
+    let w = c .before .before in
     let m = w .before .before in
-    (rw (← row-lines (m .before .before .args .reason) (m .match .keys5)) (w .put-row .ensures .0), omega (arith, w .put-row .ensures .1))
+    (rw (← row-lines (m .before .before .args .reason) (m .match .keys6)) (w .put-row .ensures .0), omega (arith, w .put-row .ensures .1))
 
 pub put-reason-spec : {M : Type 1} → statement M
 put-reason-spec =
@@ -117,6 +132,8 @@ put-reason-spec =
     enum-known-reason-4
     put-fault-word-requires
     put-fault-requires
+    enum-known-reason-5
+    put-wood-requires
     put-row-requires
     same-length
     returns
@@ -127,4 +144,6 @@ put-reason-spec =
     same-length-4
     returns-4
     same-length-5
-    returns-5)
+    returns-5
+    same-length-6
+    returns-6)

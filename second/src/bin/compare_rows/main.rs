@@ -64,6 +64,8 @@ mod run {
         /// 10 when writing.
         number: u32,
         places: Counters,
+        /// Number 12, though the rooms are too short for any return.
+        before_9: Counters,
     }
 
     impl Tally {
@@ -75,12 +77,16 @@ mod run {
                 round_trips: coverage.add(Due::Told, ["round trips"]),
                 number,
                 places: coverage.add(Due::Once, places),
+                before_9: coverage.add(Due::Times(1_000), ["12, and the rooms too short"]),
                 coverage,
             }
         }
 
-        pub fn note(&mut self, answer: u32) {
+        pub fn note(&mut self, answer: u32, too_short: bool) {
             self.coverage.count(self.calls, 0);
+            if answer == 12_000 && too_short {
+                self.coverage.count(self.before_9, 0);
+            }
             if answer / 1000 == self.number {
                 self.coverage.count(self.places, (answer % 1000) as usize);
             }

@@ -24,8 +24,9 @@ pub fn compare(arguments: Arguments) -> bool {
         name: "write",
         inputs: least,
         least,
-        often: &[0, 5, 6, 7, 9, 10],
+        often: &[0, 5, 6, 7, 9, 10, 12],
         sorts: 100,
+        balances: 1_000,
     };
     let make = |index: usize, rng: &mut Rng| {
         let turn = index / SWEEP_EVERY;
@@ -105,7 +106,8 @@ fn try_one(lists: &RowLists, rng: &mut Rng, tally: &mut Tally) -> Outcome {
     let mut difference = None;
     for (turn, lent) in rooms.into_iter().enumerate() {
         let (expected, paper, found) = call(&before, lists, lent);
-        tally.note(expected);
+        // What is refused by 12 has conversion rows, and the parameters behind them.
+        tally.note(expected, lent.blocks < 2 * BLOCK || lent.sizes == 0);
         if turn == drawn {
             answer = expected;
         }

@@ -8,7 +8,8 @@
 //! an area on purpose and must be stopped. Without `heap` that is tried first.
 //! All answers and all memory are compared with the second program's. The exact
 //! halves among the figures are counted, and so are the returns with thinner
-//! rows and with savannas; each sort is due.
+//! rows and with savannas, and those by the wood that is cleared and used; each sort
+//! is due.
 
 #[cfg(door_missing)]
 compile_error!(
@@ -29,6 +30,7 @@ mod run {
     use crate::cross::{cross_on_purpose, fences_stop};
     use crate::rooms::{Fit, Rooms};
     use second::answers::Answers;
+    use second::balances::Balances;
     use second::case::Case;
     use second::coverage::{Asked, Coverage, Due};
     use second::drive::{exit, Arguments};
@@ -49,8 +51,8 @@ mod run {
     pub const USAGE: &str = "fenced [heap] [SEED [INPUTS]], or \
         fenced cross [heap] [before|behind] [read|write]";
 
-    const JUDGED: &[u32] = &[0, 1, 2, 3, 4, 5, 6, 7, 9];
-    const BY_CODE: &[u32] = &[0, 1, 2, 3, 4, 5, 6, 7, 9, 11];
+    const JUDGED: &[u32] = &[0, 1, 2, 3, 4, 5, 6, 7, 9, 12];
+    const BY_CODE: &[u32] = &[0, 1, 2, 3, 4, 5, 6, 7, 9, 11, 12];
     /// Each function, with the answers that must come in each edition.
     const FUNCTIONS: [(&str, &[u32]); 10] = [
         ("judge", JUDGED),
@@ -60,7 +62,7 @@ mod run {
         ("explain", JUDGED),
         ("heaviest", BY_CODE),
         ("read", JUDGED),
-        ("write", &[0, 5, 6, 7, 9, 10]),
+        ("write", &[0, 5, 6, 7, 9, 10, 12]),
         ("table52", &[0, 1, 2, 9]),
         ("defaults", &[0, 9]),
     ];
@@ -92,6 +94,7 @@ mod run {
         });
         let halves = Halves::new(Due::Times(1), &mut coverage);
         let sorts = RowSorts::new(Due::Times(1), &mut coverage);
+        let balances = Balances::new(Due::Times(1), &mut coverage);
         let (table, mut calls) = (Table::read(), 0);
         for index in 0..arguments.inputs.unwrap_or(INPUTS) {
             let mut rng = Rng::for_input(arguments.seed, index as u64);
@@ -136,7 +139,9 @@ mod run {
             }
             // A difference has ended the program before this.
             halves.note(&case.bytes, &mut coverage);
-            if judge(&case.bytes).answer() == 0 {
+            let answer = judge(&case.bytes).answer();
+            balances.note(answer / 1000, || case.lists(), &mut coverage);
+            if answer == 0 {
                 sorts.note(&case.lists(), &mut coverage);
             }
         }

@@ -1,0 +1,3 @@
+pub mod Weighing
+pub mod KindRows
+pub mod Parts
