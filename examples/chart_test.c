@@ -1,146 +1,8 @@
 /* Tries the comparison and the pictures of examples/chart.c: chart_test DAY.return DIRECTORY, an empty one for its own files.
  * Prints a line per part with its number of cases. Status 0 only if all of them hold. */
-#define _POSIX_C_SOURCE 200809L
-#include "niloferq.h"
-
-/* The chart's own calls come through here, so that it can be given the doubles of another return. */
-static const uint8_t *other_bytes;
-static size_t other_length;
-static uint32_t subtotal_for_chart(const uint8_t *bytes, size_t length, uint32_t code, uint8_t *room, size_t room_length) {
-    if (other_bytes) return niloferq_subtotal(other_bytes, other_length, code, room, room_length);
-    return niloferq_subtotal(bytes, length, code, room, room_length);
-}
-#define niloferq_subtotal subtotal_for_chart
-#define main chart_main
-#include "chart.c"
-#undef main
-#undef niloferq_subtotal
+#include "chart_test.h"
 #include <dirent.h>
 #include <sys/resource.h>
-
-enum { FIELDS = NILOFERQ_CONVERSION_NUMBERS, ROWS = NILOFERQ_MOST_ROWS };
-typedef uint32_t row[FIELDS];
-struct bytes {
-    uint8_t b[NILOFERQ_RETURN_ROOM];
-    size_t length;
-};
-
-static unsigned long failures;
-static void must(bool holds, const char *what, unsigned long which) {
-    if (holds) return;
-    if (failures++ < 20) printf("FAILED: %s, case %lu\n", what, which);
-}
-
-/* ---- numbers drawn from a seed ---- */
-
-static uint64_t state = 20240501;
-static uint64_t draw64(void) { /* splitmix64 */
-    uint64_t z = state += UINT64_C(0x9e3779b97f4a7c15);
-    z = (z ^ z >> 30) * UINT64_C(0xbf58476d1ce4e5b9);
-    z = (z ^ z >> 27) * UINT64_C(0x94d049bb133111eb);
-    return z ^ z >> 31;
-}
-static uint32_t from_to(uint32_t least, uint32_t most) { return least + (uint32_t)(draw64() % ((uint64_t)most - least + 1)); }
-/* As often an end of the range, or a small number, as one from the middle. */
-static uint32_t up_to(uint32_t most) {
-    switch (draw64() % 6) {
-    case 0: return most;
-    case 1: return draw64() % 2 && most ? most - 1 : 0;
-    case 2: return from_to(0, most < 9 ? most : 9);
-    default: return from_to(0, most);
-    }
-}
-
-/* ---- returns made from rows, by the block layout ---- */
-
-static void put(uint8_t *at, uint32_t value, int width) {
-    for (int i = 0; i < width; i++) at[i] = (uint8_t)(value >> 8 * i);
-}
-
-static void put_record(uint8_t *at, const uint32_t *numbers, const int *widths, int count) {
-    for (int k = 0; k < count; at += widths[k++]) put(at, numbers[k], widths[k]);
-}
-
-/* A block's front; its records are put next, and its check last. */
-static void put_front(uint8_t *block, uint32_t kind, uint32_t count, uint32_t place, uint32_t blocks, uint32_t edition) {
-    put(block, kind, 1);
-    put(block + 1, count, 1);
-    put(block + 2, place, 2);
-    put(block + 4, blocks, 2);
-    put(block + 6, edition, 2);
-}
-
-static void put_check(uint8_t *block) {
-    uint32_t check = 0;
-    for (uint32_t i = 0; i < 508; i++) check += (i + 1) * block[i];
-    put(block + 508, check, 4);
-}
-
-/* What a return has besides its conversion rows and the default parameters, which no subtotal takes: so many of the largest rows. */
-struct besides {
-    uint32_t edition, land, savanna;
-};
-
-/* A row of a kind above 1 as a record, by its position in its kind. */
-static void put_other(uint8_t *at, uint32_t kind, uint32_t position) {
-    static const int parameters[7] = {4, 2, 2, 2, 2, 2, 2}, abandoned[NILOFERQ_ABANDONED_NUMBERS] = {4, 4, 2, 2, 4, 2, 2};
-    static const int savanna[NILOFERQ_SAVANNA_NUMBERS] = {4, 4, 2, 2, 2, 2, 2, 2, 2, 2, 2, 2, 2, 2};
-    static const uint32_t defaults[7] = {0, 500, 12, 60, 10, 7, 121}; /* the zero is no number of the row */
-    uint32_t land[NILOFERQ_ABANDONED_NUMBERS] = {position, 10000000, 10000, 1000, 10000000, 10000, 1000};
-    uint32_t grass[NILOFERQ_SAVANNA_NUMBERS] = {position, 1000000, 10000, 1000, 500, 1000, 1000, 1000, 1000, 1000, 1000, 1000, 1000, 1000};
-    if (kind == 4) put_record(at, defaults, parameters, 7);
-    else if (kind == 5) put_record(at, land, abandoned, NILOFERQ_ABANDONED_NUMBERS);
-    else put_record(at, grass, savanna, NILOFERQ_SAVANNA_NUMBERS);
-}
-
-/* n conversion rows, the default parameters, and what else there is. */
-static void make(struct bytes *r, row *rows, uint32_t n, struct besides more) {
-    static const int conversion[FIELDS] = {4, 4, 2, 2, 2, 2, 2, 2, 2, 2, 4, 2, 2, 2, 2};
-    const uint32_t counts[NILOFERQ_COUNTS] = {more.edition, n, 0, 0, 1, more.land, more.savanna};
-    uint32_t blocks = 0, b = 0;
-    for (int kind = 1; kind <= NILOFERQ_KINDS; kind++) blocks += (counts[kind] + 11) / 12;
-    memset(r->b, 0, sizeof r->b);
-    r->length = 512 * blocks;
-    for (uint32_t kind = 1; kind <= NILOFERQ_KINDS; kind++)
-        for (uint32_t before = 0; before < counts[kind]; before += 12, b++) { /* rows of its kind in the blocks before it */
-            uint8_t *block = r->b + 512 * b;
-            uint32_t left = counts[kind] - before, count = left < 12 ? left : 12;
-            put_front(block, kind, count, b, blocks, more.edition);
-            for (uint32_t i = 0; i < count; i++) {
-                uint8_t *at = block + 8 + 40 * i;
-                if (kind == 1) put_record(at, rows[before + i], conversion, FIELDS);
-                else put_other(at, kind, before + i);
-            }
-            put_check(block);
-        }
-}
-
-/* From none to all rows of abandoned land and of savanna, by turns that differ; edition 1 has none. */
-static struct besides in_edition(uint32_t edition, unsigned long which) {
-    struct besides more = {edition, 0, 0};
-    if (edition == 1) return more;
-    more.land = (uint32_t)(which % (NILOFERQ_MOST_ROWS + 1));
-    more.savanna = (uint32_t)(which / 2 % (NILOFERQ_MOST_ROWS + 1));
-    return more;
-}
-
-/* A row's part of a subtotal, by the rules of worksheet 5-2, without the library. */
-static whole part(const uint32_t *r, int code) {
-    if (code == 2) return (whole)r[10] * (r[11] - r[12]) * r[13] * 1000 * r[14];
-    const uint32_t *f = r + 4 + 3 * code;
-    return (whole)r[1] * (r[2] - r[3]) * f[0] * f[1] * f[2];
-}
-
-static void random_row(uint32_t *r, uint32_t id) {
-    r[0] = id;
-    r[1] = up_to(1000000), r[10] = up_to(1000000);
-    r[2] = up_to(10000), r[3] = up_to(r[2]);
-    r[11] = up_to(10000), r[12] = up_to(r[11]);
-    uint32_t left = 1000;
-    static const int fractions[3] = {4, 7, 13};
-    for (uint32_t i = from_to(0, 2), k = 0; k < 3; k++, i = (i + 1) % 3) left -= r[fractions[i]] = up_to(left);
-    r[5] = up_to(1000), r[6] = up_to(1000), r[8] = up_to(1000), r[9] = up_to(1000), r[14] = up_to(1000);
-}
 
 /* ---- what a good return has to do ---- */
 
@@ -163,63 +25,31 @@ static bool contains_totals(const char *text, const whole exact[3]) {
 /* Passes the comparison, with the totals that the rows give; the picture has them and is closed. */
 static void must_pass(row *rows, uint32_t n, uint32_t edition, const char *what, unsigned long which, bool picture) {
     static struct bytes r;
-    static struct figures f;
+    static struct version v = {.path = "a & b.return"};
+    struct figures *f = &v.figures;
     make(&r, rows, n, in_edition(edition, which));
-    if (gather(r.b, r.length, &f) != 0) {
+    if (gather(r.b, r.length, f) != 0) {
         must(false, what, which);
         return;
     }
-    must(examine(&f), what, which);
-    must(f.n == n, "number of conversion rows", which);
+    must(examine(&v), what, which);
+    must(f->n == n, "number of conversion rows", which);
     whole exact[3] = {0};
     for (int c = 0; c < 3; c++) {
         for (uint32_t i = 0; i < n; i++) exact[c] += part(rows[i], c);
-        must(exact[c] == f.exact[c], "exact total as the rows give it", which);
-        must(f.verdict[c].holds, what, which);
+        must(exact[c] == f->exact[c], "exact total as the rows give it", which);
+        must(f->verdict[c].holds, what, which);
     }
     if (!picture) return;
     char *text = NULL;
     size_t size = 0;
     FILE *memory = open_memstream(&text, &size);
-    draw(memory, &f, "a & b.return", which % 2 ? "North & South <2024>" : NULL);
+    draw_one(memory, &v, which % 2 ? "North & South <2024>" : NULL);
     fclose(memory);
     must(contains_totals(text, exact), "the picture has the three totals", which);
     must(size > 7 && strcmp(text + size - 7, "</svg>\n") == 0 && strstr(text, "a &#38; b.return"), "the picture is whole", which);
     must((strstr(text, ">North &#38; South &#60;2024&#62;</text>") != NULL) == which % 2, "its title where one is given", which);
     free(text);
-}
-
-/* ---- whole runs of the program, with its standard error caught ---- */
-
-static char caught[4096];
-static int run(char *a, char *b, char *c) {
-    char *words[5] = {"chart", a, b, c, NULL};
-    FILE *file = tmpfile();
-    fflush(stderr);
-    int before = dup(2);
-    dup2(fileno(file), 2);
-    int status = chart_main(c ? 4 : b ? 3 : 2, words);
-    fflush(stderr);
-    dup2(before, 2);
-    close(before);
-    rewind(file);
-    caught[fread(caught, 1, sizeof caught - 1, file)] = 0;
-    fclose(file);
-    return status;
-}
-
-static size_t slurp(const char *path, char *text, size_t room) {
-    FILE *file = fopen(path, "rb");
-    if (!file) return 0;
-    size_t size = fread(text, 1, room - 1, file);
-    fclose(file);
-    text[size] = 0;
-    return size;
-}
-
-static void spill(const char *path, const struct bytes *r) {
-    FILE *file = fopen(path, "wb");
-    must(file && fwrite(r->b, 1, r->length, file) == r->length && fclose(file) == 0, "the test's own file", 0);
 }
 
 /* ---- the parts ---- */
@@ -231,7 +61,7 @@ static void the_day(char *day) {
     static const uint32_t day_row[FIELDS] = {7, 200, 1000, 100, 400, 900, 500, 200, 900, 500, 300, 1000, 100, 300, 500};
     whole exact[3] = {UINT64_C(32400000000000), UINT64_C(16200000000000), UINT64_C(40500000000000)};
     for (int c = 0; c < 3; c++) must(part(day_row, c) == exact[c], "the day's row gives the paper's total", (unsigned long)c);
-    must(run(day, picture_path, NULL) == 0 && caught[0] == 0, "the day is drawn", 0);
+    must(run(day, picture_path) == 0 && caught[0] == 0, "the day is drawn", 0);
     must(slurp(picture_path, text, sizeof text) && contains_totals(text, exact), "the day's picture has the three totals", 0);
     must(strstr(text, ">32.4 kt C<") && strstr(text, ">16.2 kt C<") && strstr(text, ">40.5 kt C<") && strstr(text, ">89.1 kt C<") &&
          strstr(text, ">32,400,000,000,000 x 10<") && strstr(text, ">16,200,000,000,000 x 10<") && strstr(text, ">40,500,000,000,000 x 10<") &&
@@ -259,13 +89,8 @@ static void good_returns(void) {
     for (; random < 6000; random++) {
         uint32_t n = from_to(0, ROWS), id = 0;
         for (uint32_t i = 0; i < n; i++) random_row(rows[i], id += from_to(1, 1000));
-        if (random % 3 == 1) /* odd factors near the top, where every step rounds */
-            for (uint32_t i = 0; i < n; i++) {
-                uint32_t sharp[FIELDS] = {i, 999999, 9999, 0, 333, 999, 997, 331, 991, 999, 999983, 9973, 0, 333, 997};
-                sharp[1] -= 2 * from_to(0, 999);
-                sharp[3] += 2 * from_to(0, 9);
-                memcpy(rows[i], sharp, sizeof sharp);
-            }
+        if (random % 3 == 1)
+            for (uint32_t i = 0; i < n; i++) sharp_row(rows[i], i);
         must_pass(rows, n, 1 + (uint32_t)(random / 30 % 2), "a random good return passes", random, random % 10 == 0);
     }
     printf("2. good returns: %lu at the limits and %lu random ones pass, in both editions\n", limits, random);
@@ -322,7 +147,7 @@ static void missing_row(void) {
     static row rows[ROWS], fewer[ROWS];
     static struct bytes full, less;
     static struct figures f;
-    unsigned long cases = 0, stopped = 0, two_per_cent = 0, named = 0, drawn = 0, runs = 0, of_each[3] = {0};
+    unsigned long cases = 0, stopped = 0, two_per_cent = 0, named = 0, drawn = 0, whole_runs = 0, of_each[3] = {0};
     for (unsigned long k = 0; k < 6000; k++) {
         int code = (int)(k % 3);
         uint32_t n = from_to(2, ROWS), small = from_to(0, n - 1);
@@ -345,7 +170,7 @@ static void missing_row(void) {
         make(&less, fewer, n - 1, more);
         cases++;
         of_each[code]++;
-        other_bytes = less.b, other_length = less.length;
+        other_doubles = &less;
         must(gone > 0 && gather(full.b, full.length, &f) == 0, "a return with a small row is good", k);
         int off = 0;
         for (int c = 0; c < 3; c++) {
@@ -357,7 +182,7 @@ static void missing_row(void) {
         named += off == 1 << code;
         if (k % 20 == 0 || k < 30) { /* the whole program */
             spill(return_path, &full);
-            int status = run(return_path, picture_path, NULL);
+            int status = run(return_path, picture_path);
             char wanted[32];
             snprintf(wanted, sizeof wanted, "chart: %s is off: ", names[code]);
             must(status == 1 && strncmp(caught, wanted, strlen(wanted)) == 0, "the program stops and names the subtotal", k);
@@ -365,12 +190,12 @@ static void missing_row(void) {
             const char *once = strstr(caught, " is off: ");
             must(once && !strstr(once + 1, " is off: "), "the program names no other subtotal", k);
             if (access(picture_path, F_OK) == 0) drawn++;
-            other_bytes = NULL; /* with its own doubles the same return is drawn */
-            must(run(return_path, picture_path, NULL) == 0 && unlink(picture_path) == 0, "the whole return is drawn", k);
+            other_doubles = NULL; /* with its own doubles the same return is drawn */
+            must(run(return_path, picture_path) == 0 && unlink(picture_path) == 0, "the whole return is drawn", k);
             unlink(return_path);
-            runs++;
+            whole_runs++;
         }
-        other_bytes = NULL;
+        other_doubles = NULL;
     }
     must(stopped == cases, "every missing row is stopped", cases - stopped);
     must(named == cases, "the right subtotal and no other is named", cases - named);
@@ -379,7 +204,7 @@ static void missing_row(void) {
     must(cases >= 5000 && of_each[0] > 1500 && of_each[1] > 1500 && of_each[2] > 1500, "enough cases of each subtotal", cases);
     printf("3. one small row missing from the doubles: %lu cases (%lu on site, %lu off site, %lu decay), %lu stopped, %lu with the right "
            "subtotal named; a tolerance of two per cent would have let %lu pass; %lu whole runs drew %lu pictures\n",
-           cases, of_each[0], of_each[1], of_each[2], stopped, named, two_per_cent, runs, drawn);
+           cases, of_each[0], of_each[1], of_each[2], stopped, named, two_per_cent, whole_runs, drawn);
 }
 
 static void broken_doubles(void) {
@@ -442,26 +267,26 @@ static void messages(char *day) {
     static row rows[ROWS];
     char missing[600], pipe[600], before[16];
     snprintf(missing, sizeof missing, "%s/none", picture_path);
-    must(run(missing, NULL, NULL) == 1 && strncmp(caught, "chart: cannot read ", 19) == 0, "a file that isn't there", 0);
-    must(run(day, missing, NULL) == 1 && strncmp(caught, "chart: cannot write ", 20) == 0, "a place that isn't there", 0);
-    must(run(directory, NULL, NULL) == 1 && strncmp(caught, "chart: cannot read ", 19) == 0, "a directory to read", 0);
-    must(run(day, directory, NULL) == 1 && strstr(caught, "not an ordinary file"), "a directory to write", 0);
+    must(run(missing) == 1 && strncmp(caught, "chart: cannot read ", 19) == 0, "a file that isn't there", 0);
+    must(run(day, missing) == 1 && strncmp(caught, "chart: cannot write ", 20) == 0, "a place that isn't there", 0);
+    must(run(directory) == 1 && strncmp(caught, "chart: cannot read ", 19) == 0, "a directory to read", 0);
+    must(run(day, directory) == 1 && strstr(caught, "not an ordinary file"), "a directory to write", 0);
     snprintf(pipe, sizeof pipe, "%s/pipe", directory); /* stands for devices too, which a rename would destroy */
-    must(mkfifo(pipe, 0600) == 0 && run(day, pipe, NULL) == 1 && strstr(caught, "not an ordinary file"), "a pipe to write", 0);
+    must(mkfifo(pipe, 0600) == 0 && run(day, pipe) == 1 && strstr(caught, "not an ordinary file"), "a pipe to write", 0);
     unlink(pipe);
     must(run(day, picture_path, "more") == 2 && strncmp(caught, "usage: ", 7) == 0, "too many words", 0);
-    must(run("--check", NULL, NULL) == 2 && strncmp(caught, "usage: ", 7) == 0, "too few words", 0);
-    must(run("--title", "North", NULL) == 2 && strncmp(caught, "usage: ", 7) == 0, "a title and no file", 0);
+    must(run("--check") == 2 && strncmp(caught, "usage: ", 7) == 0, "too few words", 0);
+    must(run("--title", "North") == 2 && strncmp(caught, "usage: ", 7) == 0, "a title and no file", 0);
     make(&r, rows, 0, in_edition(1, 0));
     spill(return_path, &r);
-    must(run(return_path, return_path, NULL) == 1 && strstr(caught, "the return itself"), "the return is not written over", 0);
+    must(run(return_path, return_path) == 1 && strstr(caught, "the return itself"), "the return is not written over", 0);
     r.b[508] ^= 1;
     spill(return_path, &r);
-    must(run(return_path, picture_path, NULL) == 1 && strcmp(caught, "refused 2 0\n") == 0, "a wrong check", 0);
-    must(run("--check", return_path, NULL) == 1 && strcmp(caught, "refused 2 0\n") == 0, "a wrong check, compared", 0);
+    must(run(return_path, picture_path) == 1 && strcmp(caught, "refused 2 0\n") == 0, "a wrong check", 0);
+    must(run("--check", return_path) == 1 && strcmp(caught, "refused 2 0\n") == 0, "a wrong check, compared", 0);
     r.length = 511;
     spill(return_path, &r);
-    must(run(return_path, picture_path, NULL) == 1 && strcmp(caught, "refused 1 0\n") == 0, "511 bytes", 0);
+    must(run(return_path, picture_path) == 1 && strcmp(caught, "refused 1 0\n") == 0, "511 bytes", 0);
     must(access(picture_path, F_OK) != 0, "no picture of a refused return", 0);
     unlink(return_path);
     /* a disk that is full after 1,000 bytes: the older picture stays as it was */
@@ -472,10 +297,10 @@ static void messages(char *day) {
     small = limit;
     small.rlim_cur = 1000;
     setrlimit(RLIMIT_FSIZE, &small);
-    must(run(day, picture_path, NULL) == 1 && strncmp(caught, "chart: cannot write ", 20) == 0, "a full disk", 0);
+    must(run(day, picture_path) == 1 && strncmp(caught, "chart: cannot write ", 20) == 0, "a full disk", 0);
     setrlimit(RLIMIT_FSIZE, &limit);
     must(slurp(picture_path, before, sizeof before) == 5 && strcmp(before, "older") == 0, "the older picture is untouched", 0);
-    must(run(day, picture_path, NULL) == 0 && slurp(picture_path, before, sizeof before) == 15, "an older picture is replaced", 0);
+    must(run(day, picture_path) == 0 && slurp(picture_path, before, sizeof before) == 15, "an older picture is replaced", 0);
     unlink(picture_path);
     int left = 0;
     DIR *list = opendir(directory);

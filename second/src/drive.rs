@@ -30,7 +30,8 @@ pub struct Plan<'a> {
     pub often: &'a [u32],
     /// The fewest accepted inputs of each sort by their rows.
     pub sorts: usize,
-    /// The fewest inputs by the wood that is cleared and used, of each balance.
+    /// The fewest inputs by the wood that is cleared and used, of each balance; none is
+    /// asked where it is 0.
     pub balances: usize,
 }
 
@@ -132,7 +133,10 @@ pub fn run<I: Input>(
     let answers = Answers::new("", plan.often, shares, &mut coverage);
     let sentences = coverage.add(Due::Once, I::sentences());
     let sorts = RowSorts::new(Due::Times(plan.sorts), &mut coverage);
-    let balances = Balances::new(Due::Times(plan.balances), &mut coverage);
+    let balances = match plan.balances {
+        0 => Balances::new(Due::Told, &mut coverage),
+        least => Balances::new(Due::Times(least), &mut coverage),
+    };
     let [mut made, mut accepted, mut differences] = [0; 3];
     let start = Instant::now();
     for index in 0..arguments.inputs.unwrap_or(plan.inputs) {

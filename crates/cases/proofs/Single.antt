@@ -2,6 +2,7 @@
 --     lone-answered, spent-answered, many-answered    cases (b), (d) and (f); land-answered, the day with a row each of grass, land and savanna
 --     each-differs              every figure of that day is another than that of (b)
 --     first-row, first-block    what the first row and the first block of (f) alone would give
+--     grown-answered, none-cleared    case (c), and that neither it nor (b) has a conversion row
 use Prim.Native.Nat.{ℕ, _*_, _^_, _<_}
 use mathlib.Core.Path.{_≡_, refl, ap}
 use mathlib.Core.Bool.{Bool}
@@ -72,3 +73,10 @@ first-row = refl
 pub first-block : sumOf onsitePart (take 12 (rows 1 (nth 5 .bytes))) ≡ 12 * 10 ^ 19
 unfolding largest filedList behind filedFrom littleEndian recordFrom inTurn headOf sealed weighed recordOn usedFrom bodyOf blockOf bytesOf rowsBelow rowFrom number countedDifference sumOf onsitePart
 first-block = refl
+
+pub grown-answered : outcomeOf (nth 2 .bytes) ≡ nth 2 .answer .sheets
+grown-answered = ap (sheetsAt 2) all-answered
+
+pub none-cleared : (rows 1 (nth 2 .bytes) ≡ []) × (rows 1 (nth 1 .bytes) ≡ [])
+unfolding filedList behind filedFrom littleEndian recordFrom inTurn headOf sealed weighed recordOn usedFrom bodyOf blockOf bytesOf rowsBelow rowFrom number
+none-cleared = (refl, refl)

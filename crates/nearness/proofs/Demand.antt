@@ -1,5 +1,6 @@
 -- Demand 3 of an accepted return. Assumes nothing.
 --     answered                                       its answer is the three doubles
+--     few, all-within                                at most 32 conversion rows, each within its limits
 --     onsite-demand, offsite-demand, decay-demand    each is near the exact subtotal, by the number of conversion rows
 use mathlib.Core.Path.{_≡_, ap}
 use mathlib.Core.List.{List}
@@ -26,10 +27,10 @@ module _ (s : List ℕ) (c : Counts) (accepted : verdictOf s ≡ Accepted c) whe
   acc : Formed s c
   acc = formed s c accepted
 
-  few : length (rows 1 s) ≤ 32
+  pub few : length (rows 1 s) ≤ 32
   few = rw (rows-length s c acc 1) (few-rows s c acc 1)
 
-  all-within : Each Within (rows 1 s)
+  pub all-within : Each Within (rows 1 s)
   all-within i l = within s c acc 1 i (omega arith) one-kind (omega (arith, rows-length s c acc 1))
 
   pub onsite-demand : Near (c .conversion) (subtotalsOf (rows 1 s) .onsite) (onsiteTotal (rows 1 s))

@@ -1,17 +1,18 @@
 -- Rows added in order from zero, each sum rounded to a double. Assumes nothing.
 --     sum-near    the bound of demand 3, where each row's double is two roundings off
---     sum-le      row by row no smaller, no smaller in all
+--     sum-le      row by row no lower, no lower in all
 use mathlib.Core.Path.{_≡_, subst}
 use mathlib.Core.List.{List, [], _∷_, Forall₂, Forall₂·nil, Forall₂·cons}
 use Prim.Native.Nat.{ℕ, suc, _+_, _*_, _≤_, _<_, zero-le}
 use native.Mathlib.Nat.{add-zero, le-refl, add-le-add}
 use native.Mathlib.Omega.{arith}
-use lib.Dec.{T, lit≤}
+use lib.Dec.{lit≤}
 use lib.ListN.{length, getD}
-use lib.Ieee.{Float, binary64, add, le}
+use lib.Ieee.{Float, binary64, add}
 use Rattle.form.specs.Sums.{sumOf}
 use Rattle.doubles.specs.Double.{double}
 use Rattle.nearness.specs.Near.{Near}
+use Rattle.nearness.specs.NoLower.{NoLower}
 use Rattle.doubles.specs.Subtotals.{addRows}
 use Rattle.nearness.proofs.Rounding.{rnd, rnd-mono}
 use Rattle.nearness.proofs.Wholes.{Holds, holds-more, double-holds, add-holds, in-order}
@@ -80,6 +81,16 @@ module _ (x : List ℕ → Float) (v e : List ℕ → ℕ) where
   adds-mono t u h (Forall₂·cons {a} {b} g more) = adds-mono (rnd (t + v a)) (rnd (u + v b)) (rnd-mono (add-le-add h g)) more
 
   pub sum-le : (rs qs : List (List ℕ)) → length rs ≤ 32 → length qs ≤ 32 → Parts rs → Parts qs → Forall₂ (λ r q. v r ≤ v q) rs qs
-      → T (le (addRows x (double 0) rs) (addRows x (double 0) qs))
+      → NoLower (addRows x (double 0) rs) (addRows x (double 0) qs)
   sum-le rs qs l k p q h =
-      in-order (addRows x (double 0) rs) (addRows x (double 0) qs) (sumValue v 0 rs) (sumValue v 0 qs) (sum-holds rs l p .whole) (sum-holds qs k q .whole) (adds-mono 0 0 zero-le h)
+      let a = sum-holds rs l p .whole in
+      let b = sum-holds qs k q .whole in
+      let m = adds-mono 0 0 zero-le h in
+      record {
+        first = sumValue v 0 rs;
+        second = sumValue v 0 qs;
+        first-whole = a;
+        second-whole = b;
+        at-least = m;
+        compared = in-order (addRows x (double 0) rs) (addRows x (double 0) qs) (sumValue v 0 rs) (sumValue v 0 qs) a b m;
+      }

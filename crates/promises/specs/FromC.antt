@@ -35,7 +35,7 @@ use Rattle.charted.specs.Subtotal.{subtotalCall, doubleBy, bitsTold}
 use Rattle.handed.specs.Rows.{readCall, rowsRead, countsRead, writeCall, blocksWritten, sizeWritten}
 use Rattle.handed.proofs.Calls.{read-called, read-kept, read-answered, write-called, write-answered}
 use Rattle.door.specs.Door.{codeOf}
-use Rattle.steps.proofs.Doubles.{subtotal-fits, bits-back, by-code-near}
+use Rattle.steps.proofs.Doubles.{subtotal-fits, bits-back, by-code-holds}
 use Rattle.promises.specs.Demand1.{c-read-by-order, c-write-by-order}
 use Rattle.promises.specs.Demand2.{Bytes, written-reads-back, read-writes-back}
 use Rattle.promises.specs.Demand3.{demand-3}
@@ -69,18 +69,17 @@ module _ (s : List ℕ) (c : Counts) (accepted : verdictOf s ≡ Accepted c) whe
         rw (kept-before (rules s) (wrongCode code ∷ tooShort 8 room ∷ []) clean ∙ k)
         (refl, refl)
 
+    -- read back, these eight bytes are the double that `subtotals` answers
+    pub c-subtotal-read : ofBits binary64 (number 8 (bitsTold s code room) 0) ≡ doubleBy code (subtotalsOf (rows 1 s))
+    c-subtotal-read =
+        ap (λ (l : List ℕ). ofBits binary64 (number 8 l 0)) (c-subtotal-told .1)
+        ∙ bits-back (doubleBy code (subtotalsOf (rows 1 s))) room (subtotal-fits code (rows 1 s))
+
     -- demand 3 of these eight bytes: the double that they are is as near to its exact subtotal
     pub c-demand-3 : let v = figuresOf (byKind s) .conversion in
         Near (c .conversion) (ofBits binary64 (number 8 (bitsTold s code room) 0))
         (byCode code (value (v .onsite .0)) (value (v .offsite .0)) (value (v .decay .0)))
-    c-demand-3 =
-        let d = demand-3 s c accepted in
-        let t = subtotalsOf (rows 1 s) in
-        let v = figuresOf (byKind s) .conversion in
-        let e = ap (λ (l : List ℕ). ofBits binary64 (number 8 l 0)) (c-subtotal-told .1) ∙ bits-back (doubleBy code t) room (subtotal-fits code (rows 1 s)) in
-        rw e
-        (by-code-near (c .conversion) code (t .onsite) (t .offsite) (t .decay)
-        (value (v .onsite .0)) (value (v .offsite .0)) (value (v .decay .0)) (d .onsite) (d .offsite) (d .decay))
+    c-demand-3 = let d = demand-3 s c accepted in rw c-subtotal-read (by-code-holds (Near (c .conversion)) code (d .onsite) (d .offsite) (d .decay))
 
   -- niloferq_read: the rows, kind after kind; and in the other room what the judge leaves there
   pub c-read-told : (area counts : List ℕ) → length (areaTo s kinds) ≤ length area → suc kinds ≤ length counts

@@ -65,10 +65,11 @@ bits-back x room h =
     ∙ ofBits-toBits binary64 x h
 
 -- what holds of each of three is so of the one that a code names
-pub by-code-near : (n code : ℕ) (x y z : Float) (a b c : ℕ) → Near n x a → Near n y b → Near n z c → Near n (byCode code x y z) (byCode code a b c)
-by-code-near n code x y z a b c p q r = go (eqb code 0) (eqb code 1)
+pub by-code-holds : {X Y : Type 0} (R : X → Y → Type 0) (code : ℕ) {x y z : X} {a b c : Y} → R x a → R y b → R z c
+    → R (byCode code x y z) (byCode code a b c)
+by-code-holds R code {x} {y} {z} {a} {b} {c} p q r = go (eqb code 0) (eqb code 1)
   where
-    go : (i j : Bool) → Near n (cond i x (cond j y z)) (cond i a (cond j b c))
+    go : (i j : Bool) → R (cond i x (cond j y z)) (cond i a (cond j b c))
     go true j = p
     go false true = q
     go false false = r
