@@ -93,7 +93,8 @@ impl Arguments {
         }
     }
 
-    fn over(self, start: Instant) -> bool {
+    /// Whether the time that was named is over.
+    pub fn over(self, start: Instant) -> bool {
         self.seconds
             .is_some_and(|seconds| start.elapsed().as_secs() >= seconds)
     }

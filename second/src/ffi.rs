@@ -12,5 +12,6 @@ pub mod doubles;
 pub mod explain;
 pub mod judge;
 pub mod lines;
+pub mod nation;
 pub mod rows;
 pub mod tables;

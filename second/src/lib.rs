@@ -1,9 +1,10 @@
 //! The second program, written from the paper (01) and the requests on abandoned
 //! land, on halves, on thinner grass, on savannas, on table 5-2, on reasons, on
-//! fuelwood and on more cleared (02, §1 to §3 and §5 to §9) alone: a judge, a reader
-//! and a writer of returns, the worksheets, the doubles, the table, the explanations
-//! and the heaviest rows, with makers of good and damaged inputs to compare all of it
-//! with the first program. The table is read from docs/TABLE52.csv.
+//! fuelwood, on more cleared and on the national line (02, §1 to §3 and §5 to §10)
+//! alone: a judge, a reader and a writer of returns, the worksheets, the doubles, the
+//! table, the explanations, the heaviest rows and the national line, with makers of
+//! good and damaged inputs to compare all of it with the first program. The table is
+//! read from docs/TABLE52.csv.
 //!
 //! It shares no code and no definition with the first program. The unit tests
 //! (`NILOFERQ_LIB= cargo test --lib`) need nothing else; the comparisons and
@@ -40,7 +41,10 @@ pub mod lent;
 pub mod lists;
 pub mod make;
 pub mod mix;
+pub mod nation;
+pub mod nations;
 pub mod order_sweeps;
+pub mod program;
 pub mod raised;
 pub mod reader;
 pub mod reasons;

@@ -45,7 +45,8 @@ impl Tonnes {
 }
 
 /// The whole number nearest to a ratio, at a half the even one. Every answer is
-/// at most 2.4 x 10^12, and twice the largest `below`, 7 x 10^18, fits 64 bits.
+/// at most 7.04 x 10^14, a nation's, and twice the largest `below`, 7 x 10^18, fits
+/// 64 bits.
 fn nearest(above: u128, below: u64) -> u64 {
     let (whole, rest) = divided(above, below);
     whole

@@ -87,13 +87,13 @@ pub(crate) const SHORT: Refusal = Refusal {
 
 /// All that the worksheets take from a return, exact.
 #[derive(Clone, Copy)]
-struct Sums {
-    e: u64,
-    k: u64,
-    l: u64,
-    onsite: u128,
-    offsite: u128,
-    decay: u128,
+pub(crate) struct Sums {
+    pub(crate) e: u64,
+    pub(crate) k: u64,
+    pub(crate) l: u64,
+    pub(crate) onsite: u128,
+    pub(crate) offsite: u128,
+    pub(crate) decay: u128,
     uptake: u64,
     /// "the number of (row, period) pairs with after above before"
     thinner: u64,
@@ -103,7 +103,7 @@ struct Sums {
 }
 
 impl Sums {
-    fn of(checked: Checked) -> Self {
+    pub(crate) fn of(checked: Checked) -> Self {
         let mut thinner = 0;
         let [mut onsite, mut offsite, mut decay] = [0u128; 3];
         for row in checked.records(1).map(Conversion::of) {
@@ -128,7 +128,7 @@ impl Sums {
     }
 
     /// "M, O then never fall below zero" (02, §8), since number 12 comes before.
-    fn m(&self) -> i64 {
+    pub(crate) fn m(&self) -> i64 {
         100 * self.k as i64 - self.l as i64
     }
 
@@ -136,7 +136,7 @@ impl Sums {
         self.m() * self.parameters[0] as i64
     }
 
-    fn p(&self) -> i64 {
+    pub(crate) fn p(&self) -> i64 {
         100 * self.e as i64 - self.o()
     }
 

@@ -1,4 +1,6 @@
 // The columns of 5-1 and 5-2 that add up over returns, and the one step that derives the others from them.
+pub mod several;
+
 ghost use mathlib.Core.Path.{_≡_};
 ghost use Prim.Native.Nat.{_^_, _<_, _≤_};
 ghost use Rattle.wide.specs.Numbers.{value};

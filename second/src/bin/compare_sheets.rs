@@ -15,14 +15,12 @@ use second::inputs;
 use second::judge::judge;
 use second::kinds::RETURN_ROOM;
 use second::make::{Rows, WITH_IDS};
+use second::program::Program;
 use second::rng::Rng;
 use second::sheets::text as sheets_text;
 use second::text::Text;
 use second::{mix, request};
-use std::ffi::OsString;
-use std::io::{ErrorKind, Read, Write};
-use std::process::{ChildStdin, Command, ExitCode, Stdio};
-use std::time::Duration;
+use std::process::ExitCode;
 
 /// "`sheets` takes one byte beyond the longest", and so does `explain`.
 const TAKEN: usize = RETURN_ROOM + 1;
@@ -54,7 +52,7 @@ fn main() -> ExitCode {
     let mut coverage = Coverage::default();
     let halves = Halves::new(Due::Times(1), &mut coverage);
     let ran = run(&plan, arguments, make, |case, rng| {
-        let outcome = try_one(sheets.command(), case, rng, sheets_text);
+        let outcome = try_one(&sheets, case, rng, sheets_text);
         if outcome.difference.is_none() {
             halves.note(&case.bytes, &mut coverage);
         }
@@ -71,40 +69,9 @@ fn main() -> ExitCode {
         ..plan
     };
     let explained = run(&plan, arguments, make_explained, |case, rng| {
-        try_one(explain.command(), case, rng, explain_text)
+        try_one(&explain, case, rng, explain_text)
     });
     exit(good & explained.good())
-}
-
-/// A program of the first, and what it is started with.
-struct Program {
-    path: OsString,
-    runner: String,
-}
-
-impl Program {
-    /// From the variable of this name, or nothing after a word on it.
-    fn named(name: &str) -> Option<Self> {
-        let name = format!("NILOFERQ_{name}");
-        let path = std::env::var_os(&name);
-        if path.is_none() {
-            eprintln!("the path of a program is to be named in {name}");
-        }
-        let runner = std::env::var("NILOFERQ_RUNNER").unwrap_or_default();
-        path.map(|path| Program { path, runner })
-    }
-
-    fn command(&self) -> Command {
-        let mut words = self.runner.split(' ').filter(|word| !word.is_empty());
-        match words.next() {
-            None => Command::new(&self.path),
-            Some(first) => {
-                let mut command = Command::new(first);
-                command.args(words).arg(&self.path);
-                command
-            }
-        }
-    }
 }
 
 /// The named lengths first, in every filling; then the requests' refusals, and
@@ -146,65 +113,18 @@ fn make_explained(index: usize, rng: &mut Rng) -> Case {
     }
 }
 
-fn try_one(mut command: Command, case: &Case, rng: &mut Rng, text: fn(&[u8]) -> Text) -> Outcome {
+fn try_one(program: &Program, case: &Case, rng: &mut Rng, text: fn(&[u8]) -> Text) -> Outcome {
     let taken = &case.bytes[..case.bytes.len().min(TAKEN)];
     let due = text(taken);
-    let difference = match output(&mut command, &case.bytes, rng.one_in(8)) {
-        Err(error) => Some(format!("the program could not be run: {error}")),
-        Ok((_, None)) => Some("the program was stopped by a signal".to_string()),
-        Ok((found, Some(_))) => {
-            memory_difference("the output", &found, due.as_bytes()).map(|text| {
-                let [found, due] = [&found[..], due.as_bytes()].map(String::from_utf8_lossy);
-                format!("{text}\nfirst program:\n{found}second program:\n{due}")
-            })
-        }
+    let difference = match program.output(&case.bytes, rng.one_in(8)) {
+        Err(error) => Some(error),
+        Ok(found) => memory_difference("the output", &found, due.as_bytes()).map(|text| {
+            let [found, due] = [&found[..], due.as_bytes()].map(String::from_utf8_lossy);
+            format!("{text}\nfirst program:\n{found}second program:\n{due}")
+        }),
     };
     Outcome {
         answer: judge(taken).answer(),
         difference,
     }
-}
-
-/// The whole standard output, and the exit status if there is one. The paper
-/// says nothing about its value.
-fn output(
-    command: &mut Command,
-    bytes: &[u8],
-    in_pieces: bool,
-) -> std::io::Result<(Vec<u8>, Option<i32>)> {
-    let mut child = command
-        .stdin(Stdio::piped())
-        .stdout(Stdio::piped())
-        .spawn()?;
-    // All inputs fit a pipe, so this ends even if the program takes nothing.
-    let sent = match child.stdin.take() {
-        Some(stdin) => send(stdin, bytes, in_pieces),
-        None => Ok(()),
-    };
-    let mut found = Vec::new();
-    if let Some(mut stdout) = child.stdout.take() {
-        stdout.read_to_end(&mut found)?;
-    }
-    let status = child.wait()?;
-    sent?;
-    Ok((found, status.code()))
-}
-
-/// A program that takes only the front may close its input early.
-fn send(mut stdin: ChildStdin, bytes: &[u8], in_pieces: bool) -> std::io::Result<()> {
-    let piece = if in_pieces {
-        bytes.len() / 3 + 1
-    } else {
-        bytes.len().max(1)
-    };
-    for (turn, piece) in bytes.chunks(piece).enumerate() {
-        if turn > 0 {
-            std::thread::sleep(Duration::from_millis(4));
-        }
-        match stdin.write_all(piece) {
-            Err(error) if error.kind() == ErrorKind::BrokenPipe => return Ok(()),
-            sent => sent?,
-        }
-    }
-    Ok(())
 }

@@ -2,17 +2,24 @@
 //! run: `bench [FUNCTION..]`, all functions where none is named. The judge is
 //! also set beside a plain sum of the bytes, and what plain_returns.c has beside
 //! that (`/C`). The parts for the other functions come with the features
-//! `lines`, `doubles`, `rows` and `explain`. Ten blocks, one and the sixteen of edition 2
-//! come first, then how each function grows from two blocks to fifteen, in fewer
-//! rounds.
+//! `lines`, `doubles`, `rows`, `explain` and `nation`. Ten blocks, one and the sixteen of
+//! edition 2 come first, then how each function grows from two blocks to fifteen, in
+//! fewer rounds, and last the national line of 500 full returns.
 
 #[cfg(door_missing)]
 compile_error!(
     "libdoor.a of the first program is missing: build it, or name its folder in NILOFERQ_LIB"
 );
 
+#[cfg(all(not(door_missing), feature = "nation"))]
+mod nation;
+#[cfg(all(not(door_missing), plain))]
+mod plain;
+
 #[cfg(not(door_missing))]
 mod run {
+    #[cfg(plain)]
+    use crate::plain;
     use second::ffi::judge::first_judge;
     use second::judge::judge;
     use second::kinds::{COUNTS_ROOM, KINDS};
@@ -30,18 +37,18 @@ mod run {
 
     /// Returns of one size, how many rounds, and how often a round goes over
     /// them.
-    struct Load {
-        name: String,
-        rounds: usize,
+    pub struct Load {
+        pub name: String,
+        pub rounds: usize,
         #[cfg(feature = "rows")]
-        rows: Vec<Rows>,
-        returns: Vec<Box<[u8]>>,
-        repeats: usize,
+        pub rows: Vec<Rows>,
+        pub returns: Vec<Box<[u8]>>,
+        pub repeats: usize,
     }
 
     impl Load {
         /// In edition 2 where there is abandoned land, or savannas.
-        fn new(rng: &mut Rng, counts: RowCounts, rounds: usize) -> Self {
+        pub fn new(rng: &mut Rng, counts: RowCounts, rounds: usize) -> Self {
             let edition = 1 + u16::from(later(&counts));
             let rows = (0..RETURNS).map(|_| Rows::good_in(rng, edition, counts));
             let rows: Vec<Rows> = rows.collect();
@@ -82,7 +89,7 @@ mod run {
         loads.extend(others.map(|blocks| Load::of_blocks(&mut rng, blocks)));
         println!("{ROUNDS} rounds ({FEWER} for two blocks to fifteen) over {RETURNS} returns, medians, ns per call");
         println!(
-            "{:<12}{:<24}{:>10}{:>10}{:>16}",
+            "{:<14}{:<24}{:>10}{:>10}{:>16}",
             "function", "blocks, rows", "niloferq", "other", "niloferq/other"
         );
         for load in &loads {
@@ -96,6 +103,8 @@ mod run {
             #[cfg(feature = "explain")]
             explain::bench(load);
         }
+        #[cfg(feature = "nation")]
+        crate::nation::bench(&mut rng);
     }
 
     fn bench_judge(load: &Load) {
@@ -114,46 +123,7 @@ mod run {
         });
     }
 
-    /// The same in plain C.
-    #[cfg(plain)]
-    #[allow(unsafe_code)]
-    mod plain {
-        use second::kinds::COUNTS_ROOM;
-        #[cfg(feature = "rows")]
-        use second::kinds::ROWS_ROOM;
-
-        extern "C" {
-            fn plain_judge(bytes: *const u8, length: usize, counts: *mut u32) -> u32;
-            #[cfg(feature = "doubles")]
-            fn plain_subtotal(bytes: *const u8, length: usize, code: u32, room: *mut f64) -> u32;
-            #[cfg(feature = "rows")]
-            fn plain_read(bytes: *const u8, length: usize, rows: *mut u32, counts: *mut u32)
-                -> u32;
-        }
-
-        // In each, every pointer is good for what the C function does with it.
-        pub fn judge(bytes: &[u8], counts: &mut [u32; COUNTS_ROOM]) -> u32 {
-            unsafe { plain_judge(bytes.as_ptr(), bytes.len(), counts.as_mut_ptr()) }
-        }
-
-        #[cfg(feature = "doubles")]
-        pub fn subtotal(bytes: &[u8], code: u32, room: &mut f64) -> u32 {
-            unsafe { plain_subtotal(bytes.as_ptr(), bytes.len(), code, room) }
-        }
-
-        /// Room for any return's rows.
-        #[cfg(feature = "rows")]
-        pub fn read(
-            bytes: &[u8],
-            rows: &mut [u32; ROWS_ROOM],
-            counts: &mut [u32; COUNTS_ROOM],
-        ) -> u32 {
-            let (rows, counts) = (rows.as_mut_ptr(), counts.as_mut_ptr());
-            unsafe { plain_read(bytes.as_ptr(), bytes.len(), rows, counts) }
-        }
-    }
-
-    fn ask_first<B: AsRef<[u8]>>(bytes: &B) {
+    pub fn ask_first<B: AsRef<[u8]>>(bytes: &B) {
         let mut counts = [0; COUNTS_ROOM];
         let room = Lent::whole(black_box(&mut counts));
         assert_eq!(first_judge(black_box(bytes.as_ref()), room), 0);
@@ -161,7 +131,7 @@ mod run {
     }
 
     /// One line for a function with two ways of it, and whether it was asked for.
-    fn bench_two<I>(
+    pub fn bench_two<I>(
         function: &str,
         load: &Load,
         inputs: &[I],
@@ -178,7 +148,7 @@ mod run {
         }
         let times = measure(inputs, load.rounds, load.repeats, first, second);
         println!(
-            "{function:<12}{:<24}{:>10.1}{:>10.1}{:>16.2}",
+            "{function:<14}{:<24}{:>10.1}{:>10.1}{:>16.2}",
             load.name, times.first, times.second, times.ratio
         );
         true

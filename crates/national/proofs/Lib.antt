@@ -1,0 +1,7 @@
+mod Pieces
+mod Sums
+mod Widths
+mod Turns
+pub mod Streaming
+pub mod AnyOrder
+pub mod Alike
