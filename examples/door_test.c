@@ -1,6 +1,7 @@
 /* Tries what the header says: areas of length 0, NULL among their pointers; each function on the worked day, and the figures of the day with thinner
  * rows and with rows of each kind above 4. Reading and writing are in door_rows.c, returns byte by byte in door_bytes.c, number 12 in door_wood.c,
- * table 5-2 in door_table52.c, the explanation and the heaviest rows in door_explain.c; all of them take the kinds from the table in door_kinds.c. */
+ * table 5-2 in door_table52.c, the explanation and the heaviest rows in door_explain.c, the national line in door_nation.c; all of them take the kinds from
+ * the table in door_kinds.c. */
 #include "door_test.h"
 #include <stdio.h>
 #include <string.h>
@@ -234,6 +235,7 @@ int main(int count, char **words) {
     defaults();
     table52();
     explanations(day, length);
+    nations(day, length);
     printf("door: %u tried, %u wrong\n", tried, wrong);
     return wrong != 0;
 }

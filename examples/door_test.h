@@ -63,13 +63,14 @@ void must_judge(const uint8_t *bytes, size_t length, const shape due, const char
 void must_write(const struct rows *r, size_t room_len, size_t size_len, size_t due, const char *what);
 void must_refuse(const struct rows *r, size_t room_len, size_t size_len, uint32_t answer, const char *what);
 
-/* The trials of reading and writing, of returns byte by byte, of number 12, of niloferq_table52, and of niloferq_explain and niloferq_heaviest, with the
- * worked day. */
+/* The trials of reading and writing, of returns byte by byte, of number 12, of niloferq_table52, of niloferq_explain and niloferq_heaviest, and of
+ * niloferq_nation, with the worked day. */
 void reading(const uint8_t *day, size_t length);
 void writing(const uint8_t *day, size_t length);
 void returns_in_bytes(const uint8_t *day, size_t length);
 void wood(void);
 void table52(void);
 void explanations(const uint8_t *day, size_t length);
+void nations(const uint8_t *day, size_t length);
 
 #endif

@@ -10,7 +10,7 @@
  *
  * A refusal is 1,000 times its number plus its place, by the paper's table, tried in its order; number 8 is not given any more; two of niloferq_table52 have
  * no number there and are 1 and 2; the refusal of a room that is too short, 9000 and when reading also 9001 to 9006, comes last. On a refusal no lent
- * element has changed, but for niloferq_lines and niloferq_explain: the text of a refusal is its lines, and it is written like any other.
+ * element has changed, but for niloferq_lines, niloferq_explain and niloferq_nation: the text of a refusal is its lines, and it is written like any other.
  *
  * Number 12, always at place 0, is tried straight after 7: L is above 100 K, so that clearing would give more wood than was used. Equality is good.
  *   K is the sum over the harvest rows of F x G + 1,000 x (I + J), in 10^-4 kt;
@@ -97,9 +97,9 @@
 #include <stddef.h>
 #include <stdint.h>
 
-/* Of the functions below; 8 had no number 12, 7 named no row in an explanation, 6 had no explanation, 5 no table, 4 had five kinds, 3 number 8 and no
- * `thinner`, 2 four kinds and no edition, 1 an area for each kind. */
-#define NILOFERQ_VERSION 9
+/* Of the functions below; 9 had no national line, 8 no number 12, 7 named no row in an explanation, 6 had no explanation, 5 no table, 4 had five kinds,
+ * 3 number 8 and no `thinner`, 2 four kinds and no edition, 1 an area for each kind. */
+#define NILOFERQ_VERSION 10
 
 #define NILOFERQ_EDITIONS 2            /* the latest edition */
 #define NILOFERQ_KINDS 6               /* the kinds of rows */
@@ -112,6 +112,7 @@
 #define NILOFERQ_SAVANNA_NUMBERS 14    /* the numbers in a row of savanna */
 #define NILOFERQ_MOST_ROWS 32          /* the most rows of a kind in a return; of parameters there is always one */
 #define NILOFERQ_FIGURES 25            /* the figures of a return */
+#define NILOFERQ_MOST_RETURNS 500      /* the most returns of a national line */
 
 /* Rooms that are always enough. */
 #define NILOFERQ_ROWS_ROOM                                                                                        \
@@ -123,6 +124,7 @@
 #define NILOFERQ_FIGURES_ROOM (3 * NILOFERQ_FIGURES) /* elements for the figures, 75 */
 #define NILOFERQ_LINES_ROOM 1500                     /* bytes for the lines */
 #define NILOFERQ_EXPLAIN_ROOM 300                    /* bytes for an explanation */
+#define NILOFERQ_NATION_ROOM 16000                   /* bytes for a national line */
 #define NILOFERQ_HEAVIEST_ROOM 3                     /* elements for the heaviest row */
 
 #define NILOFERQ_COUNTRIES 90   /* the countries of table 5-2 */
@@ -174,6 +176,14 @@ uint32_t niloferq_heaviest(const uint8_t *bytes, size_t bytes_len, uint32_t code
  *    where n is the number of conversion rows.
  * 1000 to 7191: refused by one of the numbers 1 to 7. 12000: then, by 12. 11000: a good return and a code above 2. Last 9000: room_len is below 8. */
 uint32_t niloferq_subtotal(const uint8_t *bytes, size_t bytes_len, uint32_t code, uint8_t *room, size_t room_len);
+
+/* The text that the program `nation` prints of a file of returns end to end, up to NILOFERQ_MOST_RETURNS, each cut by the number of blocks that its first
+ * header says: a line for each refused return; a line that begins with `stopped` where the run was, which a caller has to look for, since the rest is then
+ * of the returns before it alone; how many were accepted and refused; and the figures of the accepted ones. No bytes are no return, and all is 0.
+ * docs/NATION.md has the lines.
+ * The text's length, and the text stands at the front of room, with no zero byte behind it; later bytes keep their values.
+ * 0: room_len is below the text's length, and room is unchanged. NILOFERQ_NATION_ROOM bytes are always enough. */
+size_t niloferq_nation(const uint8_t *bytes, size_t bytes_len, uint8_t *room, size_t room_len);
 
 /* The rows of a return, kind after kind. NILOFERQ_ROWS_ROOM and NILOFERQ_COUNTS elements are always enough.
  * 0: the rows of all kinds stand at the front of rows, and the first NILOFERQ_COUNTS elements of counts are the edition and the numbers

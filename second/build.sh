@@ -1,9 +1,9 @@
 # Builds the second program beside the proved library. To be read by a shell in the repository's folder:
 #     . second/build.sh; second_run compare
 # The proved library is x86-64 code, so on another processor the second program is built for x86-64 too (tools/machine.sh).
-second_features="lines,doubles,rows,explain,tables"
+second_features="lines,doubles,rows,explain,tables,nation"
 # the longest first, since the gate runs two at a time
-comparisons="compare_lines compare_rows compare_doubles compare_raised compare compare_explain compare_sheets fenced compare_tables"
+comparisons="compare_nation compare_lines compare_rows compare_doubles compare_raised compare compare_explain compare_sheets fenced compare_tables"
 
 . tools/machine.sh
 
@@ -15,9 +15,9 @@ second_build() {
     local door=$PWD/target/staticlib target=x86_64-unknown-linux-gnu
     mkdir -p target
     rt staticlib door >target/door.log 2>&1 || { cat target/door.log >&2; return 1; }
-    # the programs themselves, for compare_sheets: rt links a proved program to target/bin
+    # the programs themselves, for compare_sheets and compare_nation: rt links a proved program to target/bin
     local program
-    for program in sheets explain; do
+    for program in sheets explain nation; do
         [ -x target/bin/$program ] || rt check $program >target/$program.log 2>&1 || { cat target/$program.log >&2; return 1; }
     done
     # for the benchmark alone
@@ -40,8 +40,8 @@ second_build() {
 second_run() { # PROGRAM [ARGUMENT..]
     local program=$1
     shift
-    NILOFERQ_SHEETS=$PWD/target/bin/sheets NILOFERQ_EXPLAIN=$PWD/target/bin/explain NILOFERQ_RUNNER=$machine_runner \
-        $machine_runner "$second_folder/$program" "$@"
+    NILOFERQ_SHEETS=$PWD/target/bin/sheets NILOFERQ_EXPLAIN=$PWD/target/bin/explain NILOFERQ_NATION=$PWD/target/bin/nation \
+        NILOFERQ_RUNNER=$machine_runner $machine_runner "$second_folder/$program" "$@"
 }
 
 # The second program's own tests. They need no library, so they are built for this processor and run without an emulator.

@@ -1,4 +1,4 @@
-# What all commands share: ./sheets, ./explain and those of examples/. A command, which has `set -euo pipefail`, reads this file and takes its steps in this order:
+# What all commands share: ./sheets, ./explain, ./nation and those of examples/. A command, which has `set -euo pipefail`, reads this file and takes its steps in this order:
 #     home=$(dirname "$(readlink -f "$0")")             # the repository's folder, by a symlink to the command too
 #     . "$home/tools/command.sh"
 #     begin sheets 'usage: ./sheets FILE ..' "$@"       # --help, -h and --version end here
@@ -119,14 +119,15 @@ compile() { # NAME [LIBRARY]
 
 # ---- running ----
 
-# A proved program, on a file. It always ends with status 0 itself, and writes on standard error only when something failed.
-run_proved() { # PROGRAM FILE
+# A proved program, on a file. It always ends with status 0 itself, and writes on standard error only when something failed. Where HAND_ON
+# is named, a function, it is given the words that run the program; it may end with another status.
+run_proved() { # PROGRAM FILE [HAND_ON]
     local program=$home/target/bin/$1 said status=0
     { : 3>&1; } 2>/dev/null || fail "standard output is closed"
     [ "$2" = - ] || exec <"$2" || exit 1
     prove "$1" "$program" check "$1" </dev/null
     find_machine </dev/null
-    { said=$($machine_runner "$program" 2>&1 >&3 3>&-) || status=1; } 3>&1
+    { said=$(${3-} $machine_runner "$program" 2>&1 >&3 3>&-) || status=1; } 3>&1
     if [ -n "$said" ]; then
         printf '%s\n' "$said" >&2
         status=1

@@ -14,8 +14,9 @@ use std::fmt::Write;
 pub const MOST_RETURNS: usize = 500;
 /// "a first header that says 0 blocks or more than 16"
 pub const MOST_BLOCKS: u16 = 16;
-/// What is always enough for C.
-pub const NATION_ROOM: usize = 32_768;
+/// What is always enough for C: at most 26 bytes for each of 500 refused returns, and
+/// less than 600 for the rest.
+pub const NATION_ROOM: usize = 16_000;
 
 const BLOCK: usize = 512;
 /// The bytes of a first header up to its number of blocks.

@@ -263,20 +263,16 @@ fn rooms() {
 }
 
 /// The longest text has a line for each of 500 refused returns, all at places of three
-/// digits, and a stop; the figures are then 0. So the room is enough by far.
+/// digits, and a stop; the figures are then 0.
 #[test]
 fn the_longest_text_has_room() {
     let mut last = Rows::good_in(&mut Rng::new(191), 2, [32; 5]);
     last.savanna[31][1] = 1_000_001;
     let text = text_of(&last.to_bytes().repeat(501));
     assert!(text.starts_with("return 1 refused 6 187\n"));
-    assert!(
-        (12_000..NATION_ROOM / 2).contains(&text.len()),
-        "{}",
-        text.len()
-    );
-    // All figures at most 40 bytes more.
-    assert!(text.len() + 11 * 40 < NATION_ROOM);
+    assert!(text.len() > 12_000, "{}", text.len());
+    // Numbers of two digits are a byte more each, and all figures at most 40 bytes.
+    assert!(text.len() + MOST_RETURNS + 11 * 40 < NATION_ROOM);
 }
 
 /// "The totals equal those of the accepted returns in any order of the same returns."

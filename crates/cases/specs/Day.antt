@@ -55,7 +55,7 @@ unfolding answered
 short-bytes = refl
 
 -- its edition and its row counts
-abbrev dayCounts : Counts
+abbrev pub dayCounts : Counts
 dayCounts = record { edition = 1; conversion = 1; stock = 1; harvest = 1; parameters = 1; abandoned = 0; savanna = 0 }
 
 -- judged by the round trip, and so but once: its bytes are what is written of its rows, which no rule refuses
@@ -71,7 +71,7 @@ day-counts : countsOf day ≡ dayCounts
 unfolding number countBelow
 day-counts = refl
 
-day-judged : verdictOf day ≡ Accepted dayCounts
+pub day-judged : verdictOf day ≡ Accepted dayCounts
 day-judged =
     subst (λ (s : List ℕ). verdictOf s ≡ Accepted (countsOf s)) day-is (accepted-again 1 dayLengths dayArea day-clean) ∙ ap Accepted day-counts
 

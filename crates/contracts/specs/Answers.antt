@@ -32,6 +32,7 @@ use Rattle.weighed.specs.Heaviest.{heaviestCall, heaviestAfter}
 use Rattle.table52.specs.Lookup.{lookedUp}
 use Rattle.door.specs.Table.{tableCode, tableCall, tableAfter}
 use Rattle.explained.specs.Explained.{explanationOf, explained}
+use Rattle.national.specs.Nation.{printedNation}
 use Rattle.steps.proofs.Clauses.{then, paired, followed, paired-and, followed-and}
 use Rattle.steps.proofs.Told.{said-back}
 use Rattle.contracts.specs.Contract.{Says, says}
@@ -45,6 +46,7 @@ use Rattle.report.proofs.lines as lines
 use Rattle.table52.proofs.look_up as look-up
 use Rattle.explained.proofs.explain as explain
 use Rattle.explained.proofs.explain_lines as explain-lines
+use Rattle.national.proofs.nation as nation
 use Rattle.door.proofs.niloferq_judge as c-judge
 use Rattle.door.proofs.niloferq_subtotal as c-subtotal
 use Rattle.door.proofs.niloferq_heaviest as c-heaviest
@@ -55,6 +57,7 @@ use Rattle.door.proofs.niloferq_read as c-read
 use Rattle.door.proofs.niloferq_write as c-write
 use Rattle.door.proofs.niloferq_table52 as c-table
 use Rattle.door.proofs.niloferq_explain as c-explain
+use Rattle.door.proofs.niloferq_nation as c-nation
 
 -- an answer, and the lent room as that answer leaves it
 abbrev pub withRoom : {X : Type 0} → X → (X → List ℕ) → X × List ℕ
@@ -115,6 +118,12 @@ module _ {M : Type 1} (𝓤 : URA M) (H : Heap 𝓤) (A : Atoms 𝓤) (mem : Mem
       (λ κs a. withRoom (putOf (explained (now (a .0))) (now (a .1 .0))) (textAfter (explained (now (a .0))) (now (a .1 .0))))
   explain-lines-says = says 𝓤 _ _ _ _ (λ κs a g. id⊢ 𝓤 _) (λ κs a g r e. followed 𝓤 _ _ _ (textAfter (explained (now (a .0))) (now (a .1 .0))))
 
+  pub nation-says : Says 𝓤 nation.ended (nation.clauses 𝓤 H A mem run) (λ κs r e. (r, now (e .1 .0)))
+      (λ κs a. withRoom (putOf (printedNation (now (a .0))) (now (a .1 .0))) (textAfter (printedNation (now (a .0))) (now (a .1 .0))))
+  nation-says =
+      says 𝓤 _ _ _ _ (λ κs a g. id⊢ 𝓤 _)
+      (λ κs a g r e. followed-and 𝓤 _ _ _ (textAfter (printedNation (now (a .0))) (now (a .1 .0))) _)
+
   -- ---- from C: the code, or the size, and the lent rooms
   pub c-judge-says : Says 𝓤 c-judge.ended (c-judge.clauses 𝓤 H A mem run) (λ κs r e. (r, now (e .1 .0)))
       (λ κs a. coded (judgeCall (now (a .0)) (now (a .1 .0))) (countsAfter (now (a .0)) (now (a .1 .0))))
@@ -135,6 +144,10 @@ module _ {M : Type 1} (𝓤 : URA M) (H : Heap 𝓤) (A : Atoms 𝓤) (mem : Mem
   pub c-explain-says : Says 𝓤 c-explain.ended (c-explain.clauses 𝓤 H A mem run) (λ κs r e. (r, now (e .1 .0)))
       (λ κs a. sized (putOf (explained (now (a .0))) (now (a .1 .0))) (textAfter (explained (now (a .0))) (now (a .1 .0))))
   c-explain-says = says 𝓤 _ _ _ _ (λ κs a g. id⊢ 𝓤 _) (λ κs a g r e. paired 𝓤 _ _ _ _ (id⊢ 𝓤 _))
+
+  pub c-nation-says : Says 𝓤 c-nation.ended (c-nation.clauses 𝓤 H A mem run) (λ κs r e. (r, now (e .1 .0)))
+      (λ κs a. sized (putOf (printedNation (now (a .0))) (now (a .1 .0))) (textAfter (printedNation (now (a .0))) (now (a .1 .0))))
+  c-nation-says = says 𝓤 _ _ _ _ (λ κs a g. id⊢ 𝓤 _) (λ κs a g r e. paired-and 𝓤 _ _ _ _ _)
 
   pub c-figures-says : Says 𝓤 c-figures.ended (c-figures.clauses 𝓤 H A mem run) (λ κs r e. (r, now (e .1 .0)))
       (λ κs a. coded (figuresAnswer (now (a .0)) (now (a .1 .0))) (figuresAfter (now (a .0)) (now (a .1 .0))))

@@ -10,11 +10,13 @@ use Rattle.report.proofs.lines as lines
 use Rattle.table52.proofs.look_up as look-up
 use Rattle.explained.proofs.explain as explain
 use Rattle.explained.proofs.explain_lines as explain-lines
+use Rattle.national.proofs.nation as nation
 use Rattle.door.proofs.niloferq_judge as c-judge
 use Rattle.door.proofs.niloferq_subtotal as c-subtotal
 use Rattle.door.proofs.niloferq_heaviest as c-heaviest
 use Rattle.door.proofs.niloferq_lines as c-lines
 use Rattle.door.proofs.niloferq_explain as c-explain
+use Rattle.door.proofs.niloferq_nation as c-nation
 use Rattle.door.proofs.niloferq_figures as c-figures
 use Rattle.door.proofs.niloferq_read as c-read
 use Rattle.door.proofs.niloferq_write as c-write
@@ -66,6 +68,9 @@ explain-meets = explain.Met.met
 pub explain-lines-meets : {M : Type 1} → explain-lines.Statement.statement M
 explain-lines-meets = explain-lines.Met.met
 
+pub nation-meets : {M : Type 1} → nation.Statement.statement M
+nation-meets = nation.Met.met
+
 pub c-judge-meets : {M : Type 1} → c-judge.Statement.statement M
 c-judge-meets = c-judge.Met.met
 
@@ -80,6 +85,9 @@ c-lines-meets = c-lines.Met.met
 
 pub c-explain-meets : {M : Type 1} → c-explain.Statement.statement M
 c-explain-meets = c-explain.Met.met
+
+pub c-nation-meets : {M : Type 1} → c-nation.Statement.statement M
+c-nation-meets = c-nation.Met.met
 
 pub c-figures-meets : {M : Type 1} → c-figures.Statement.statement M
 c-figures-meets = c-figures.Met.met

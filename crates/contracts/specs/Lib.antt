@@ -3,7 +3,7 @@
 --     Answers     so does the contract of each entry point
 --     Functions   each entry point meets its contract
 --     Others      the public functions behind the entry points: their contracts admit one answer too; and so do the forms that other contracts have
---     Rooms       the room that the header names for the lines is enough for any
+--     Rooms       the rooms that the header names for the lines and for the national line are enough for any
 pub mod Contract
 pub mod Answers
 pub mod Functions

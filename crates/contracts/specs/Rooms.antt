@@ -1,6 +1,7 @@
--- Room of `linesRoom` bytes, NILOFERQ_LINES_ROOM of include/niloferq.h, is enough for the lines of any bytes: no answer there is that the room is too short.
+-- Room of `linesRoom` bytes, NILOFERQ_LINES_ROOM of include/niloferq.h, is enough for the lines of any bytes, and room of `nationRoom`, NILOFERQ_NATION_ROOM, for the
+-- national line of any: no answer there is that the room is too short.
 -- It is the types of the code that bound the values in a text, so this is said of whatever meets the contracts, and not of lists of numbers.
-use Prim.Native.Nat.{ℕ, _<_, _≤_}
+use Prim.Native.Nat.{ℕ, suc, _<_, _≤_}
 use mathlib.Core.Path.{_≡_, sym, ap, subst, _∙_}
 use mathlib.Core.Bool.{Bool, cond}
 use mathlib.Core.List.{List, flatMap}
@@ -25,10 +26,17 @@ use Rattle.phrases.specs.declared.Put.{Put}
 use Rattle.phrases.specs.declared.Put.the-variants.{Done, Short}
 use Rattle.listed.specs.Listed.{listed}
 use Rattle.report.specs.Lines.{linesRoom, textOf, printed}
+use Rattle.gathered.specs.Gathered.{countOf}
+use Rattle.gathered.specs.declared.Tally.{Tally}
+use Rattle.national.specs.Lines.{stopText, totalsBy, totalsText}
+use Rattle.national.specs.Nation.{nationOf, endText, refusalsText, printedNation}
+use Rattle.national.specs.Steps.{nationRoom}
 use Rattle.door.specs.Door.{sizeOf}
 use Rattle.steps.proofs.Clauses.{then, outer}
 use Rattle.report.proofs.lines as lines
+use Rattle.national.proofs.nation as nation
 use Rattle.door.proofs.niloferq_lines as c-lines
+use Rattle.door.proofs.niloferq_nation as c-nation
 
 -- a text that fits is put
 done-in : (text room : List ℕ) (n : ℕ) → length text ≤ n → n ≤ length room → putOf text room ≡ Done (length text)
@@ -42,6 +50,18 @@ text-some (refusal n p) = simp length-append (omega arith)
 
 pub never-empty : (s : List ℕ) → 0 < length (printed s)
 never-empty s = text-some (outcomeOf s)
+
+-- nor is a national line: the counts are always there
+totals-some : (t : Tally) → 0 < length (totalsText t)
+unfolding flatMap totalsBy
+totals-some t = simp length-append (omega arith)
+
+pub nation-never-empty : (s : List ℕ) → 0 < length (printedNation s)
+nation-never-empty s =
+    let n = nationOf s in
+    let t = n .tally in
+    let stop = stopText (suc (countOf t)) (n .stop) in
+    omega (arith, length-append (refusalsText (n .refusals)) (endText t (n .stop)), length-append stop (totalsText t), totals-some t)
 
 module _ {M : Type 1} (𝓤 : URA M) (H : Heap 𝓤) (A : Atoms 𝓤) (mem : Memory → SProp 𝓤) (run : Routine → Fun 𝓤) where
   -- from Rattle: the answer is the text's length
@@ -58,3 +78,17 @@ module _ {M : Type 1} (𝓤 : URA M) (H : Heap 𝓤) (A : Atoms 𝓤) (mem : Mem
       then 𝓤 _ _ (outer 𝓤 _ _ _) (λ p h.
       let q = p .0 ∙ ap sizeOf (done-in (printed (now (a .0))) (now (a .1 .0)) linesRoom (p .1) h) in
       (q, subst (λ (n : ℕ). 0 < n) (sym q) (never-empty (now (a .0)))))
+
+  -- the national line, from Rattle and from C
+  pub nation-fits : (κs : Lfts (nation.ended .signature .lifetimes)) (a : Args (nation.ended .signature) κs) (g : nation.clauses 𝓤 H A mem run κs a .ghost)
+      (r : Res (nation.ended .signature) κs) (e : AtExit nation.ended κs)
+      → ent 𝓤 (nation.clauses 𝓤 H A mem run κs a .ensures g r e) (fact 𝓤 (nationRoom ≤ length (now (a .1 .0)) → r ≡ Done (length (printedNation (now (a .0))))))
+  nation-fits κs a g r e = then 𝓤 _ _ (outer 𝓤 _ _ _) (λ p h. p .0 ∙ done-in (printedNation (now (a .0))) (now (a .1 .0)) nationRoom (p .1) h)
+
+  pub c-nation-fits : (κs : Lfts (c-nation.ended .signature .lifetimes)) (a : Args (c-nation.ended .signature) κs) (g : c-nation.clauses 𝓤 H A mem run κs a .ghost)
+      (r : Res (c-nation.ended .signature) κs) (e : AtExit c-nation.ended κs)
+      → ent 𝓤 (c-nation.clauses 𝓤 H A mem run κs a .ensures g r e) (fact 𝓤 (nationRoom ≤ length (now (a .1 .0)) → (r ≡ length (printedNation (now (a .0)))) × (0 < r)))
+  c-nation-fits κs a g r e =
+      then 𝓤 _ _ (outer 𝓤 _ _ _) (λ p h.
+      let q = p .0 ∙ ap sizeOf (done-in (printedNation (now (a .0))) (now (a .1 .0)) nationRoom (p .1) h) in
+      (q, subst (λ (n : ℕ). 0 < n) (sym q) (nation-never-empty (now (a .0)))))

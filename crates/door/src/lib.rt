@@ -6,6 +6,8 @@ ghost use lib.ListN.{length};
 ghost use Rattle.phrases.specs.Room.{putOf};
 ghost use Rattle.report.specs.Lines.{linesRoom, printed};
 ghost use Rattle.explained.specs.Explained.{explained};
+ghost use Rattle.national.specs.Nation.{printedNation};
+ghost use Rattle.national.specs.Steps.{nationRoom};
 ghost use Rattle.tabled.specs.Figures.{figuresAnswer, figuresTold};
 ghost use Rattle.counted.specs.Counts.{judgeCall, countsJudged};
 ghost use Rattle.charted.specs.Subtotal.{subtotalCall, bitsTold};
@@ -14,6 +16,7 @@ ghost use Rattle.offered.specs.Defaults.{defaultsCall, defaultsAfter};
 ghost use Rattle.handed.specs.Rows.{readCall, rowsRead, countsRead, writeCall, blocksWritten, sizeWritten};
 ghost use Rattle.door.specs.Door.{codeOf, InPlace, sizeOf, linesAfter};
 ghost use Rattle.door.specs.Explain.{explainAfter};
+ghost use Rattle.door.specs.Nation.{nationAfter};
 ghost use Rattle.door.specs.Table.{tableCode, tableCall, tableAfter};
 use form::Ruling;
 use phrases::Put;
@@ -140,4 +143,14 @@ pub extern "C" fn niloferq_explain(bytes: &[u8], room: &mut [u8]) -> usize
     ensures { λ _. ⌜ now (room .exit) ≡ explainAfter (now (bytes .entry)) (now (room .entry)) ⌝ }
 {
     size_of(explained::explain_lines(bytes, room))
+}
+
+// The text that `nation` prints of a file of returns at the front of the room, and its length; or 0, and the room as it was, where it is too short.
+#[no_mangle]
+pub extern "C" fn niloferq_nation(bytes: &[u8], room: &mut [u8]) -> usize
+    ensures { λ r. ⌜ r ≡ sizeOf (putOf (printedNation (now (bytes .entry))) (now (room .entry))) ⌝ }
+    ensures { λ _. ⌜ now (room .exit) ≡ nationAfter (now (bytes .entry)) (now (room .entry)) ⌝ }
+    ensures { λ _. ⌜ length (printedNation (now (bytes .entry))) ≤ nationRoom ⌝ }
+{
+    size_of(national::nation(bytes, room))
 }

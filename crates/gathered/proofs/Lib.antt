@@ -1,3 +1,4 @@
 pub mod Tallies
 pub mod Shuffled
 pub mod Sizes
+pub mod Exact

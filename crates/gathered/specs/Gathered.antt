@@ -2,6 +2,7 @@
 -- accepted and refused are counted and printed." Assumes nothing.
 use Prim.Native.Nat.{ℕ, _+_, suc, _≤_, _<_}
 use mathlib.Core.List.{List, [], _∷_, map}
+use lib.IntN.{ℤ, pos, _+ℤ_}
 use lib.ListN.{length}
 use Rattle.form.specs.Verdict.{rows, verdictOf}
 use Rattle.form.specs.declared.Verdict.{Verdict}
@@ -42,6 +43,11 @@ tallyOf rs = record {
 -- how many returns there were
 abbrev pub countOf : Tally → ℕ
 countOf t = t .accepted + t .refused
+
+-- what numbers with a sign come to over some returns
+abbrev pub signedSum : (List ℕ → ℤ) → List (List ℕ) → ℤ
+signedSum f [] = pos 0
+signedSum f (r ∷ rs) = f r +ℤ signedSum f rs
 
 -- ---- one return more, as the steps go
 

@@ -4,4 +4,3 @@ pub mod Nation
 pub mod Steps
 pub mod Passing
 pub mod Computed
-mod Examples

@@ -38,9 +38,11 @@ use Rattle.burning.specs.Gases.{gasesOf}
 use Rattle.burning.specs.declared.Gases.{Gases}
 use Rattle.ledger.specs.Ledger.{entered}
 use Rattle.ledger.specs.Derived.{stocksOf, conversionOf}
+use Rattle.ledger.specs.declared.Ledger.{Ledger}
 use Rattle.ledger.specs.declared.Stocks.{Stocks}
 use Rattle.ledger.specs.declared.Conversion.{Conversion}
 use Rattle.worksheets.specs.Sheets.{byKind, given, abandonedOf, figuresOf}
+use Rattle.gathered.specs.Gathered.{ledgerIn}
 use Rattle.worksheets.specs.declared.sheets.Parameters.{Parameters}
 use Rattle.worksheets.specs.declared.sheets.Abandoned.{Abandoned}
 use Rattle.steps.proofs.Figures.{part, product, products}
@@ -101,12 +103,27 @@ pub record Sheet4-3 (s : List ℕ) (v : Savannas) : Type 0 where
   pub N2O : Rounded (pos (11 * sumOf (λ r. carbonOf r * nitrogenRatio r * n2oRatio r) (rows 6 s))) (7 * 10 ^ 18) (pos (value (v .gases .n2o .0)))
   pub NOx : Rounded (pos (23 * sumOf (λ r. carbonOf r * nitrogenRatio r * noxRatio r) (rows 6 s))) (7 * 10 ^ 18) (pos (value (v .gases .nox .0)))
 
+-- "rounded once, at the final tonne": Q, the report and CO2 from the columns of one return, or from their sums over several
+pub q-rounded : (g : Ledger) → Rounded (pos 11 *ℤ amount (stocksOf g .p .0)) 3000000 (amount (stocksOf g .q .0))
+unfolding stocksOf
+q-rounded g = rounds-net (pos 11 *ℤ amount (stocksOf g .p .0)) 3000000 (lit< tt)
+
+pub report-rounded : (g : Ledger) → Rounded (negℤ (pos 11 *ℤ amount (stocksOf g .p .0))) 3000000 (amount (stocksOf g .report .0))
+unfolding stocksOf
+report-rounded g =
+    let x = pos 11 *ℤ amount (stocksOf g .p .0) in
+    let q = stocksOf g .q in
+    subst (Rounded (negℤ x) 3000000) (nearest-turned x 3000000 (lit< tt) ∙ ap negℤ (sym (form-holds (nearestZ x 3000000) .number)) ∙ sym (form-holds (negℤ (amount (q .0))) .number)) (rounds (negℤ x) 3000000 (lit< tt))
+
+pub co2-rounded : (g : Ledger) → Rounded (pos (11 * (value (conversionOf g .r .0) + value (conversionOf g .decay .0)))) (3 * 10 ^ 9) (pos (value (conversionOf g .co2 .0)))
+unfolding conversionOf
+co2-rounded g = rounds-plain _ (lit< tt) (part 11 _)
+
 -- the figures are the columns: of every list of bytes, so of every accepted return
 pub figures-5-1 : (s : List ℕ) → Sheet5-1 s (figuresOf (byKind s) .stocks)
 unfolding stocksOf entered totalsOf stockPart harvestPart clearedPart
 figures-5-1 s =
-    let x = pos 11 *ℤ amount (figuresOf (byKind s) .stocks .p .0) in
-    let q = figuresOf (byKind s) .stocks .q in
+    let g = ledgerIn s in
     record {
       E = value-words _ .number;
       K = value-words _ .number;
@@ -114,14 +131,14 @@ figures-5-1 s =
       M = form-holds _ .number;
       O = form-holds _ .number;
       P = form-holds _ .number;
-      Q = rounds-net x 3000000 (lit< tt);
+      Q = q-rounded g;
       report = form-holds _ .number;
-      report-rounded = subst (Rounded (negℤ x) 3000000) (nearest-turned x 3000000 (lit< tt) ∙ ap negℤ (sym (form-holds (nearestZ x 3000000) .number)) ∙ sym (form-holds (negℤ (amount (q .0))) .number)) (rounds (negℤ x) 3000000 (lit< tt));
+      report-rounded = report-rounded g;
     }
 
 pub figures-5-2 : (s : List ℕ) → Sheet5-2 s (figuresOf (byKind s) .conversion)
 unfolding conversionOf entered totalsOf onsitePart offsitePart decayPart
-figures-5-2 s = record { onsite = value-words _ .number; offsite = value-words _ .number; R = value-words _ .number; decay = value-words _ .number; CO2 = rounds-plain _ (lit< tt) (part 11 _) }
+figures-5-2 s = record { onsite = value-words _ .number; offsite = value-words _ .number; R = value-words _ .number; decay = value-words _ .number; CO2 = co2-rounded (ledgerIn s) }
 
 pub figures-thinner : (s : List ℕ) → value (figuresOf (byKind s) .thinner .0) ≡ thinnerPairs s
 unfolding thinnerPart

@@ -89,7 +89,7 @@ mod run {
         loads.extend(others.map(|blocks| Load::of_blocks(&mut rng, blocks)));
         println!("{ROUNDS} rounds ({FEWER} for two blocks to fifteen) over {RETURNS} returns, medians, ns per call");
         println!(
-            "{:<14}{:<24}{:>10}{:>10}{:>16}",
+            "{:<14}{:<24}{:>12}{:>12}{:>16}",
             "function", "blocks, rows", "niloferq", "other", "niloferq/other"
         );
         for load in &loads {
@@ -148,7 +148,7 @@ mod run {
         }
         let times = measure(inputs, load.rounds, load.repeats, first, second);
         println!(
-            "{function:<14}{:<24}{:>10.1}{:>10.1}{:>16.2}",
+            "{function:<14}{:<24}{:>12.1}{:>12.1}{:>16.2}",
             load.name, times.first, times.second, times.ratio
         );
         true

@@ -9,12 +9,14 @@ use second::ffi::doubles::first_subtotal;
 use second::ffi::explain::{first_explain, first_heaviest};
 use second::ffi::judge::first_judge;
 use second::ffi::lines::{first_figures, first_lines};
+use second::ffi::nation::first_nation;
 use second::ffi::rows::{first_read, first_write};
 use second::ffi::tables::{first_defaults, first_table52};
 use second::heaviest::heaviest;
 use second::judge::{judge, Verdict};
 use second::lent::Lent;
 use second::lists::RowLists;
+use second::nation::{nation, Nation, Stop};
 use second::reader::{count, read};
 use second::sheets::{figures, lines};
 use second::table52::{defaults, Table};
@@ -85,51 +87,59 @@ pub fn subtotal_at(
 }
 
 pub fn lines_at(fences: &mut Fences, place: Place, bytes: &[u8], before: &[u8]) -> Found {
-    let mut room_due = before.to_vec();
-    let due = lines(bytes, &mut room_due);
-    text_at(fences, place, bytes, before, (first_lines, due, &room_due))
+    let texts = (lines as Text, first_lines as FirstText);
+    text_at(fences, place, (bytes, before), texts, number_of)
 }
 
 pub fn explain_at(fences: &mut Fences, place: Place, bytes: &[u8], before: &[u8]) -> Found {
-    let mut room_due = before.to_vec();
-    let due = explain(bytes, &mut room_due);
-    text_at(
-        fences,
-        place,
-        bytes,
-        before,
-        (first_explain, due, &room_due),
-    )
+    let texts = (explain as Text, first_explain as FirstText);
+    text_at(fences, place, (bytes, before), texts, number_of)
 }
 
-/// A function of the first program that puts a text into a room.
+fn number_of(bytes: &[u8]) -> u32 {
+    match judge(bytes) {
+        Verdict::Refused(refusal) => refusal.number,
+        Verdict::Accepted(_) => 0,
+    }
+}
+
+/// A file of returns. Stops have no number: 1 is for blocks, 2 for short, 3 for many.
+pub fn nation_at(fences: &mut Fences, place: Place, file: &[u8], before: &[u8]) -> Found {
+    let number = |file: &[u8]| match Nation::of(file).stopped {
+        None => 0,
+        Some((_, Stop::Blocks(_))) => 1,
+        Some((_, Stop::Short)) => 2,
+        Some((_, Stop::Many)) => 3,
+    };
+    let texts = (nation as Text, first_nation as FirstText);
+    text_at(fences, place, (file, before), texts, number)
+}
+
+/// Functions that put a text into a room: of the second program, and of the first.
+type Text = fn(&[u8], &mut [u8]) -> usize;
 type FirstText = fn(&[u8], Lent<u8>) -> usize;
 
-/// A text of the first program, with the length and the room that are due. A room
-/// that is too short counts as number 9.
+/// A text of both programs. A room that is too short counts as number 9.
 fn text_at(
     fences: &mut Fences,
     place: Place,
-    bytes: &[u8],
-    before: &[u8],
-    (first, due, room_due): (FirstText, usize, &[u8]),
+    (bytes, before): (&[u8], &[u8]),
+    (second, first): (Text, FirstText),
+    number: impl FnOnce(&[u8]) -> u32,
 ) -> Found {
+    let mut room_due = before.to_vec();
+    let due = second(bytes, &mut room_due);
     let [input, room, ..] = fences;
     let input = input.area(place, bytes);
     let mut room = room.area(place, before);
     let answer = first(&input, Lent::whole(&mut room));
-    let number = match judge(bytes) {
-        _ if due == 0 => 9,
-        Verdict::Refused(refusal) => refusal.number,
-        Verdict::Accepted(_) => 0,
-    };
     let wrong = format!("first program {answer}, second program {due}");
     let difference = first_of([
         (answer != due).then_some(wrong),
         memory_difference("the input", &input, bytes),
-        memory_difference("the room", &room, room_due),
+        memory_difference("the room", &room, &room_due),
     ]);
-    (number, difference)
+    (if due == 0 { 9 } else { number(bytes) }, difference)
 }
 
 pub fn read_at(

@@ -25,6 +25,7 @@ mod rooms;
 
 #[cfg(not(door_missing))]
 mod run {
+    use crate::calls::nation_at;
     use crate::calls::{defaults_at, subtotal_at, table52_at, write_at, Fences};
     use crate::calls::{explain_at, figures_at, heaviest_at, judge_at, lines_at, read_at};
     use crate::cross::{cross_on_purpose, fences_stop};
@@ -39,6 +40,7 @@ mod run {
     use second::input::Input;
     use second::judge::judge;
     use second::lists::RowLists;
+    use second::nations::few;
     use second::rng::Rng;
     use second::row_sweeps;
     use second::rowlists;
@@ -54,7 +56,7 @@ mod run {
     const JUDGED: &[u32] = &[0, 1, 2, 3, 4, 5, 6, 7, 9, 12];
     const BY_CODE: &[u32] = &[0, 1, 2, 3, 4, 5, 6, 7, 9, 11, 12];
     /// Each function, with the answers that must come in each edition.
-    const FUNCTIONS: [(&str, &[u32]); 10] = [
+    const FUNCTIONS: [(&str, &[u32]); 11] = [
         ("judge", JUDGED),
         ("figures", JUDGED),
         ("lines", JUDGED),
@@ -65,7 +67,10 @@ mod run {
         ("write", &[0, 5, 6, 7, 9, 10, 12]),
         ("table52", &[0, 1, 2, 9]),
         ("defaults", &[0, 9]),
+        ("nation", &[0, 1, 2, 9]),
     ];
+    /// The longest file of returns: an area is not longer.
+    const FILE: usize = 65_536;
 
     pub fn main() -> ExitCode {
         let words: Vec<String> = std::env::args().skip(1).collect();
@@ -100,8 +105,9 @@ mod run {
             let mut rng = Rng::for_input(arguments.seed, index as u64);
             let case = any_return(&mut rng);
             let lists = any_lists(&mut rng);
+            let file = any_file(index, &mut rng);
             for fit in [Fit::Exact, Fit::Short, Fit::Longer] {
-                let lent = Rooms::drawn(&case.bytes, &lists, fit, &mut rng);
+                let lent = Rooms::drawn((&case.bytes, &file), &lists, fit, &mut rng);
                 for &place in places {
                     let found = [
                         judge_at(&mut fences, place, &case.bytes, &lent.counts),
@@ -119,10 +125,11 @@ mod run {
                         write_at(&mut fences, place, &lists, (&lent.blocks, &lent.size)),
                         table52_at(&mut fences, place, &table, lent.entry()),
                         defaults_at(&mut fences, place, &lent.defaults),
+                        nation_at(&mut fences, place, &file, &lent.nation),
                     ];
                     let returned = case.edition();
-                    // The last two have no return, and are counted by the input's all the same.
-                    let editions = [returned; 7].into_iter().chain([lists.edition; 3]);
+                    // The last three have no edition, and are counted by the rows' all the same.
+                    let editions = [returned; 7].into_iter().chain([lists.edition; 4]);
                     let found = found.into_iter().zip(editions);
                     let named = FUNCTIONS.iter().zip(&answers).zip(found);
                     for (((name, _), answers), ((number, difference), edition)) in named {
@@ -164,6 +171,13 @@ mod run {
             5 => weights::case(rng),
             _ => mix::case(rng),
         }
+    }
+
+    fn any_file(index: usize, rng: &mut Rng) -> Vec<u8> {
+        let mut files = std::iter::repeat_with(|| few(index, rng).bytes());
+        files
+            .find(|file| file.len() <= FILE)
+            .expect("most files are short")
     }
 
     fn any_lists(rng: &mut Rng) -> RowLists {

@@ -6,6 +6,7 @@ use second::judge::{judge, Verdict};
 use second::kinds::{COUNTS_ROOM, KINDS, RETURN_ROOM, ROWS_ROOM};
 use second::lists::RowLists;
 use second::make::MOST_BLOCKS;
+use second::nation::Nation;
 use second::reader::ends;
 use second::rng::Rng;
 use second::sheets::{text, NUMBERS as FIGURES};
@@ -52,6 +53,8 @@ pub struct Rooms {
     pub entry: (u32, u32),
     pub figures52: Vec<i32>,
     pub defaults: Vec<u32>,
+    /// For the text of a file of returns.
+    pub nation: Vec<u8>,
 }
 
 impl Rooms {
@@ -60,7 +63,7 @@ impl Rooms {
         (self.entry.0, self.entry.1, &self.figures52)
     }
 
-    pub fn drawn(bytes: &[u8], lists: &RowLists, fit: Fit, rng: &mut Rng) -> Self {
+    pub fn drawn((bytes, file): (&[u8], &[u8]), lists: &RowLists, fit: Fit, rng: &mut Rng) -> Self {
         let code = match rng.below(8) {
             0 => 3 + rng.below(2) as u32,
             1 => rng.word(),
@@ -85,6 +88,7 @@ impl Rooms {
                 .map(|_| rng.word() as i32)
                 .collect(),
             defaults: words(fit.length(DEFAULTS.len(), rng), rng),
+            nation: any_bytes(fit.length(Nation::of(file).text().len(), rng), rng),
         }
     }
 }

@@ -1,0 +1,2 @@
+-- What a file of returns comes to, by example.
+pub mod National
