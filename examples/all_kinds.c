@@ -19,12 +19,15 @@ static const uint32_t rows[] = {
     1, 500, 200, 500, 300, 100, 500,
     /* savanna: id, area, density, fraction really burned, live fraction, oxidised and carbon fraction of the live and of the dead, N/C, CH4, CO, N2O, NOx */
     1, 10000, 66, 850, 550, 800, 450, 1000, 400, 6, 4, 60, 7, 121,
+    /* mineral soil: id, land system, soil type, area now and twenty years ago, native soil carbon, base, tillage and input factor */
+    1, 1, 3, 4000, 5000, 600, 100, 100, 100, /* forest: 1 Mha of it, 60 t/ha, became a field, on one soil type */
+    2, 2, 3, 2000, 1000, 600, 60, 90, 80,
 };
 
 /* How many elements of the area are the rows of each kind. */
 static const uint32_t lengths[NILOFERQ_KINDS] = {
     2 * NILOFERQ_CONVERSION_NUMBERS, 2 * NILOFERQ_STOCK_NUMBERS, NILOFERQ_HARVEST_NUMBERS,
-    NILOFERQ_PARAMETERS_NUMBERS,     NILOFERQ_ABANDONED_NUMBERS, NILOFERQ_SAVANNA_NUMBERS,
+    NILOFERQ_PARAMETERS_NUMBERS,     NILOFERQ_ABANDONED_NUMBERS, NILOFERQ_SAVANNA_NUMBERS, 2 * NILOFERQ_SOIL_NUMBERS,
 };
 
 int main(void) {

@@ -78,7 +78,9 @@ static void thirteenth_in_bytes(uint32_t kind) {
     for (uint32_t field = 1; field < KINDS[kind].numbers; field++) {
         int width = width_of(kind, field);
         uint32_t limit = KINDS[kind].limits[field], above = width == 2 && limit == 65535 ? 0 : 6000 + place;
-        must(judged_with(bytes, length, block, at, limit, width) == 0, "judge: a field of a kind above 4 at its limit");
+        /* an area alone at its limit is out of balance, and the thirteen rows are of one type */
+        must(judged_with(bytes, length, block, at, limit, width) == (is_balanced(kind, field) ? 13000 + place - 12 : 0),
+             "judge: a field of a kind above 4 at its limit");
         must(!above || judged_with(bytes, length, block, at, limit + 1, width) == above, "judge: a field of a kind above 4 above its limit");
         must(judged_with(bytes, length, block, at, UINT32_MAX, width) == above, "judge: a field of a kind above 4 with all its bits set");
         at += (size_t)width;

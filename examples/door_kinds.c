@@ -14,6 +14,9 @@ const struct kind KINDS[NILOFERQ_COUNTS] = {
     [SAVANNA] = {2, NILOFERQ_SAVANNA_NUMBERS, NILOFERQ_MOST_ROWS, .row = {1, 500, 70, 850, 450, 800, 450, 1000, 400, 6, 4, 60, 7, 121},
         .limits = {UINT32_MAX, 1000000, 10000, 1000, 1000, 1000, 1000, 1000, 1000, 1000, 1000, 1000, 1000, 1000},
         .record = {1, 0, 0, 0, 0xf4, 1, 0, 0, 70, 0, 0x52, 3, 0xc2, 1, 0x20, 3, 0xc2, 1, 0xe8, 3, 0x90, 1, 6, 0, 4, 0, 60, 0, 7, 0, 121, 0}},
+    [SOIL] = {2, NILOFERQ_SOIL_NUMBERS, NILOFERQ_MOST_ROWS, .row = {1, 258, 772, 4000, 4000, 600, 60, 90, 80},
+        .limits = {UINT32_MAX, 65535, 65535, 100000, 100000, 10000, 300, 300, 300},
+        .record = {1, 0, 0, 0, 2, 1, 4, 3, 0xa0, 0x0f, 0, 0, 0xa0, 0x0f, 0, 0, 0x58, 2, 60, 0, 90, 0, 80, 0}},
 };
 
 void fill_shape(shape counts, uint32_t edition, uint32_t rows) {

@@ -1,7 +1,7 @@
 /* Tries what the header says: areas of length 0, NULL among their pointers; each function on the worked day, and the figures of the day with thinner
- * rows and with rows of each kind above 4. Reading and writing are in door_rows.c, returns byte by byte in door_bytes.c, number 12 in door_wood.c,
- * table 5-2 in door_table52.c, the explanation and the heaviest rows in door_explain.c, the national line in door_nation.c; all of them take the kinds from
- * the table in door_kinds.c. */
+ * rows, with rows of each kind above 4 and with soils that changed. Reading and writing are in door_rows.c, returns byte by byte in door_bytes.c,
+ * number 12 in door_wood.c, number 13 in door_soil.c, table 5-2 in door_table52.c, the explanation and the heaviest rows in door_explain.c, the national
+ * line in door_nation.c; all of them take the kinds from the table in door_kinds.c. */
 #include "door_test.h"
 #include <stdio.h>
 #include <string.h>
@@ -44,7 +44,8 @@ static void empty_areas(const uint8_t *day, size_t length) {
 static const char DAY_LINES[] = "E 340000000\nK 775000\nL 36000000\nM 41500000\nO 20750000000\nP 13250000000\nQ 48583\nreport -48583\n"
                                 "onsite 32400000000000\noffsite 16200000000000\nR 48600000000000\ndecay 40500000000000\nco2 326700\n"
                                 "ch4 518\nco 4536\nn2o 4\nnox 129\n";
-static const char *const REQUESTED[] = {"uptake", "uptake_co2", "thinner", "savanna_carbon", "savanna_ch4", "savanna_co", "savanna_n2o", "savanna_nox"};
+static const char *const REQUESTED[] = {"uptake", "uptake_co2", "thinner", "savanna_carbon", "savanna_ch4", "savanna_co", "savanna_n2o", "savanna_nox",
+                                        "soil", "soil_change"};
 
 /* The whole text of the day with these lines among the requested ones, each of the others being 0; the answer is its length. */
 static size_t text_of(char text[NILOFERQ_LINES_ROOM + 1], const char *lines) {
@@ -201,6 +202,50 @@ static void later_kinds(void) {
     must_be_day(bytes, written_as(one_each, bytes), one_each, all, "a row of each kind side by side");
 }
 
+/* Two rows of one soil type beside the day, by hand: land system 0 with so much now and then, and what it gave or got on land system 1. */
+static const struct {
+    uint32_t rows[2][NILOFERQ_SOIL_NUMBERS];
+    const char *lines, *what;
+} SOILS[] = {
+    /* 1 Mha of forest, 60 t/ha, becomes a field, which keeps 0.6 x 0.9 x 0.8 of that: 600 x (1,000,000 - 432,000) x 1,000 = 340,800,000,000 of 10^-4 t
+     * are lost, a 20th of which is 1,704,000 t a year; and the other way round. */
+    {{{1, 0, 1, 4000, 5000, 600, 100, 100, 100}, {2, 1, 1, 2000, 1000, 600, 60, 90, 80}}, "soil -340800000000\nsoil_change -1704000\n", "forest to field"},
+    {{{1, 0, 1, 5000, 4000, 600, 100, 100, 100}, {2, 1, 1, 1000, 2000, 600, 60, 90, 80}}, "soil 340800000000\nsoil_change 1704000\n", "field to forest"},
+    /* 1 x 100 x 100 x 10 = 100,000 for each unit of the area, half a tonne a year: -2.5, -1.5, -0.5 and 2.5 t go to even. */
+    {{{1, 0, 0, 0, 5, 1, 100, 100, 10}, {2, 1, 0, 5, 0, 0, 100, 100, 100}}, "soil -500000\nsoil_change -2\n", "-2.5 t go to -2"},
+    {{{1, 0, 0, 0, 3, 1, 100, 100, 10}, {2, 1, 0, 3, 0, 0, 100, 100, 100}}, "soil -300000\nsoil_change -2\n", "-1.5 t go to -2"},
+    {{{1, 0, 0, 0, 1, 1, 100, 100, 10}, {2, 1, 0, 1, 0, 0, 100, 100, 100}}, "soil -100000\nsoil_change 0\n", "-0.5 t go to 0, with no sign"},
+    {{{1, 0, 0, 5, 0, 1, 100, 100, 10}, {2, 1, 0, 0, 5, 0, 100, 100, 100}}, "soil 500000\nsoil_change 2\n", "2.5 t go to 2"},
+    /* 1.5 t lost and 0.15 t gained are 1.35 t lost, rounded once, not 2 and 0; and what has the same area now and then changes nothing. */
+    {{{1, 0, 7, 0, 3, 1, 100, 100, 10}, {2, 1, 7, 3, 0, 1, 100, 100, 1}}, "soil -270000\nsoil_change -1\n", "soils are rounded once"},
+    {{{1, 0, 65535, 100000, 100000, 10000, 300, 300, 300}, {2, 1, 0, 7, 7, 1, 100, 100, 100}}, "", "as much now as then"},
+};
+
+static void changed_soils(void) {
+    static struct rows r;
+    static uint8_t bytes[NILOFERQ_RETURN_ROOM];
+    shape counts = {2, 1, 1, 1, 1};
+    counts[SOIL] = 2;
+    for (size_t i = 0; i < sizeof SOILS / sizeof *SOILS; i++) {
+        fill_rows(&r, counts);
+        memcpy(row_of(&r, SOIL, 0), SOILS[i].rows, sizeof SOILS[i].rows);
+        must_be_day(bytes, written(&r, bytes), counts, SOILS[i].lines, SOILS[i].what);
+    }
+    /* The largest row has 10^5 x 10^4 x 300^3 = 2.7 x 10^16, and 16 of them, gained from or lost to as much bare rock, 4.32 x 10^17: 2.16 x 10^12 t a year. */
+    counts[SOIL] = NILOFERQ_MOST_ROWS;
+    for (uint32_t lost = 0; lost < 2; lost++) {
+        fill_rows(&r, counts);
+        for (uint32_t i = 0; i < NILOFERQ_MOST_ROWS; i++) {
+            uint32_t rock = i % 2, now = rock == lost ? 100000 : 0;
+            const uint32_t row[NILOFERQ_SOIL_NUMBERS] = {i, rock, i / 2, now, 100000 - now, rock ? 0 : 10000, 300, 300, 300};
+            memcpy(row_of(&r, SOIL, i), row, sizeof row);
+        }
+        must_be_day(bytes, written(&r, bytes), counts,
+                    lost ? "soil -432000000000000000\nsoil_change -2160000000000\n" : "soil 432000000000000000\nsoil_change 2160000000000\n",
+                    "the largest change of soils");
+    }
+}
+
 /* The default parameters are the worked day's, and nothing behind them changes. */
 static void defaults(void) {
     uint32_t room[NILOFERQ_PARAMETERS_NUMBERS + 1];
@@ -228,10 +273,12 @@ int main(int count, char **words) {
     must_be_day(day, length, DAY, "", "the day itself");
     thinner_rows();
     later_kinds();
+    changed_soils();
     reading(day, length);
     writing(day, length);
     returns_in_bytes(day, length);
     wood();
+    soils();
     defaults();
     table52();
     explanations(day, length);

@@ -14,8 +14,11 @@ enum { SPARE = 3 };
 static const uint32_t UNTOUCHED = 0xdeadbeef;
 
 /* Kinds are numbered as in the paper. A shape is what a read counts: the edition, and how many rows of each kind. */
-enum { EDITION, CONVERSION, STOCK, HARVEST, PARAMETERS, ABANDONED, SAVANNA };
+enum { EDITION, CONVERSION, STOCK, HARVEST, PARAMETERS, ABANDONED, SAVANNA, SOIL };
 typedef uint32_t shape[NILOFERQ_COUNTS];
+/* The fields of a row of mineral soil whose sums for each soil type have to be equal, and where the type and the later one stand in a record. */
+enum { SOIL_TYPE = 2, AREA_NOW = 3, AREA_THEN = 4, THEN_AT = 12 };
+static inline int is_balanced(uint32_t kind, uint32_t field) { return kind == SOIL && (field == AREA_NOW || field == AREA_THEN); }
 static const shape DAY = {1, 1, 1, 1, 1}, DAY_IN_2 = {2, 1, 1, 1, 1};
 
 /* A line for each kind: the edition that brought it, the numbers in a row, the most rows, a row, and of a kind above 4 the most that each field may
@@ -58,17 +61,25 @@ void put_check(uint8_t *block);
 /* Accepted with this edition and these counts, in rooms of every length. */
 void must_judge(const uint8_t *bytes, size_t length, const shape due, const char *what);
 
+/* Told by this text, or by one that begins with it and goes on, in rooms of every length that is enough, and not at all in shorter ones. */
+enum { WHOLE, GOES_ON };
+void must_tell(size_t (*tell)(const uint8_t *, size_t, uint8_t *, size_t), const uint8_t *bytes, size_t length, const char *due, int how, const char *what);
+
+/* Refused by this answer whatever the code and the rooms, and what is lent stays as it was; the lines say so, and the explanation begins with them. */
+void must_be_refused(const uint8_t *bytes, size_t length, uint32_t answer, const char *what);
+
 /* Written into rooms of these lengths as so many bytes; or refused by this answer, also with no room at all for a rule before 9. Nothing else has
  * changed. */
 void must_write(const struct rows *r, size_t room_len, size_t size_len, size_t due, const char *what);
 void must_refuse(const struct rows *r, size_t room_len, size_t size_len, uint32_t answer, const char *what);
 
-/* The trials of reading and writing, of returns byte by byte, of number 12, of niloferq_table52, of niloferq_explain and niloferq_heaviest, and of
+/* The trials of reading and writing, of returns byte by byte, of numbers 12 and 13, of niloferq_table52, of niloferq_explain and niloferq_heaviest, and of
  * niloferq_nation, with the worked day. */
 void reading(const uint8_t *day, size_t length);
 void writing(const uint8_t *day, size_t length);
 void returns_in_bytes(const uint8_t *day, size_t length);
 void wood(void);
+void soils(void);
 void table52(void);
 void explanations(const uint8_t *day, size_t length);
 void nations(const uint8_t *day, size_t length);

@@ -5,7 +5,8 @@
 #include <string.h>
 
 static const uint32_t numbers[NILOFERQ_COUNTS] = {0, NILOFERQ_CONVERSION_NUMBERS, NILOFERQ_STOCK_NUMBERS, NILOFERQ_HARVEST_NUMBERS,
-                                                  NILOFERQ_PARAMETERS_NUMBERS, NILOFERQ_ABANDONED_NUMBERS, NILOFERQ_SAVANNA_NUMBERS};
+                                                  NILOFERQ_PARAMETERS_NUMBERS, NILOFERQ_ABANDONED_NUMBERS, NILOFERQ_SAVANNA_NUMBERS,
+                                                  NILOFERQ_SOIL_NUMBERS};
 
 /* The answer to rows of zeros, n[k] of each kind with rising ids, where one row has a field above its limit. */
 static uint32_t answer_to(const uint32_t *n, uint32_t wrong_kind, uint32_t wrong_row) {

@@ -9,15 +9,18 @@
  * examples/door_test and works, though the compiler's guide does not promise it.
  *
  * A refusal is 1,000 times its number plus its place, by the paper's table, tried in its order; number 8 is not given any more; two of niloferq_table52 have
- * no number there and are 1 and 2; the refusal of a room that is too short, 9000 and when reading also 9001 to 9006, comes last. On a refusal no lent
+ * no number there and are 1 and 2; the refusal of a room that is too short, 9000 and when reading also 9001 to 9007, comes last. On a refusal no lent
  * element has changed, but for niloferq_lines, niloferq_explain and niloferq_nation: the text of a refusal is its lines, and it is written like any other.
  *
  * Number 12, always at place 0, is tried straight after 7: L is above 100 K, so that clearing would give more wood than was used. Equality is good.
  *   K is the sum over the harvest rows of F x G + 1,000 x (I + J), in 10^-4 kt;
  *   L is the sum over the conversion rows of area x (before - after, or 0 where after is above before) x off-site fraction, in 10^-6 kt.
  *
+ * Number 13 is tried straight after 12: the areas now of a soil type's rows and those of twenty years ago add up to different sums. Its place is that of the
+ * first row of the lowest soil type of which this is so.
+ *
  * Rows in lent memory: a row is its fields in the order below, each a uint32_t, with no zero bytes between. The rows of all kinds
- * lie in one area, kind after kind: conversion, stock, harvest, parameters, abandoned land, savanna, which are kinds 1 to 6.
+ * lie in one area, kind after kind: conversion, stock, harvest, parameters, abandoned land, savanna, mineral soil, which are kinds 1 to 7.
  *
  * A return is of edition 1 or 2. Edition 1 has kinds 1 to 4 alone. The judge and a read tell the edition, and a write is told it.
  *
@@ -82,8 +85,18 @@
  *     11  CO                                1,000  0.001
  *     12  N2O                               1,000  0.001
  *     13  NOx                               1,000  0.001
+ *   kind 7, mineral soil
+ *      0  id                                  any
+ *      1  land_system                      65,535  a number of the desk's own
+ *      2  soil_type                        65,535  a number of the desk's own
+ *      3  area_now                        100,000  0.001 Mha
+ *      4  area_then (twenty years ago)    100,000  0.001 Mha
+ *      5  native (soil carbon)             10,000  0.1 t/ha
+ *      6  base (factor)                       300  0.01
+ *      7  tillage (factor)                    300  0.01
+ *      8  input (factor)                      300  0.01
  *
- * The place of a refusal by the numbers 5, 6 and 7 is that of a row: 12 times its block plus its position in the block, both from 0. A kind of n rows
+ * The place of a refusal by the numbers 5, 6, 7 and 13 is that of a row: 12 times its block plus its position in the block, both from 0. A kind of n rows
  * takes (n + 11) / 12 blocks, twelve rows in each but the last, and the kinds stand one after the other. So, when writing, where n[k] rows of each
  * kind k are handed in, this tells which row of which kind is meant:
  *     block = place / 12;
@@ -97,12 +110,12 @@
 #include <stddef.h>
 #include <stdint.h>
 
-/* Of the functions below; 9 had no national line, 8 no number 12, 7 named no row in an explanation, 6 had no explanation, 5 no table, 4 had five kinds,
- * 3 number 8 and no `thinner`, 2 four kinds and no edition, 1 an area for each kind. */
-#define NILOFERQ_VERSION 10
+/* Of the functions below; 10 had six kinds and no number 13, 9 no national line, 8 no number 12, 7 named no row in an explanation, 6 had no explanation,
+ * 5 no table, 4 had five kinds, 3 number 8 and no `thinner`, 2 four kinds and no edition, 1 an area for each kind. */
+#define NILOFERQ_VERSION 11
 
 #define NILOFERQ_EDITIONS 2            /* the latest edition */
-#define NILOFERQ_KINDS 6               /* the kinds of rows */
+#define NILOFERQ_KINDS 7               /* the kinds of rows */
 #define NILOFERQ_COUNTS (NILOFERQ_KINDS + 1) /* the edition and a count for each kind: counts[0] is the edition, counts[k] the rows of kind k */
 #define NILOFERQ_CONVERSION_NUMBERS 15 /* the numbers in a conversion row */
 #define NILOFERQ_STOCK_NUMBERS 5       /* the numbers in a stock row */
@@ -110,8 +123,9 @@
 #define NILOFERQ_PARAMETERS_NUMBERS 6  /* the numbers in the row of parameters */
 #define NILOFERQ_ABANDONED_NUMBERS 7   /* the numbers in a row of abandoned land */
 #define NILOFERQ_SAVANNA_NUMBERS 14    /* the numbers in a row of savanna */
+#define NILOFERQ_SOIL_NUMBERS 9        /* the numbers in a row of mineral soil */
 #define NILOFERQ_MOST_ROWS 32          /* the most rows of a kind in a return; of parameters there is always one */
-#define NILOFERQ_FIGURES 25            /* the figures of a return */
+#define NILOFERQ_FIGURES 27            /* the figures of a return */
 #define NILOFERQ_MOST_RETURNS 500      /* the most returns of a national line */
 
 /* Rooms that are always enough. */
@@ -119,10 +133,11 @@
     (NILOFERQ_MOST_ROWS * NILOFERQ_CONVERSION_NUMBERS + NILOFERQ_MOST_ROWS * NILOFERQ_STOCK_NUMBERS +             \
      NILOFERQ_MOST_ROWS * NILOFERQ_HARVEST_NUMBERS + NILOFERQ_PARAMETERS_NUMBERS +                                \
      NILOFERQ_MOST_ROWS * NILOFERQ_ABANDONED_NUMBERS +                                                            \
-     NILOFERQ_MOST_ROWS * NILOFERQ_SAVANNA_NUMBERS) /* elements for the rows of a return, 1,478 */
-#define NILOFERQ_RETURN_ROOM 8192                    /* bytes for a return */
-#define NILOFERQ_FIGURES_ROOM (3 * NILOFERQ_FIGURES) /* elements for the figures, 75 */
-#define NILOFERQ_LINES_ROOM 1500                     /* bytes for the lines */
+     NILOFERQ_MOST_ROWS * NILOFERQ_SAVANNA_NUMBERS +                                                              \
+     NILOFERQ_MOST_ROWS * NILOFERQ_SOIL_NUMBERS) /* elements for the rows of a return, 1,766 */
+#define NILOFERQ_RETURN_ROOM 9728                    /* bytes for a return */
+#define NILOFERQ_FIGURES_ROOM (3 * NILOFERQ_FIGURES) /* elements for the figures, 81 */
+#define NILOFERQ_LINES_ROOM 1620                     /* bytes for the lines */
 #define NILOFERQ_EXPLAIN_ROOM 300                    /* bytes for an explanation */
 #define NILOFERQ_NATION_ROOM 16000                   /* bytes for a national line */
 #define NILOFERQ_HEAVIEST_ROOM 3                     /* elements for the heaviest row */
@@ -137,17 +152,20 @@ extern "C" {
 
 /* Judges a return: any bytes of any length.
  * 0: accepted, and the first NILOFERQ_COUNTS elements of counts are the edition and the numbers of conversion, stock, harvest,
- *    parameter, abandoned land and savanna rows; later elements keep their values.
- * 1000 to 7191: refused by one of the numbers 1 to 7. 12000: then, by 12. 9000: a good return, and counts_len is below NILOFERQ_COUNTS. */
+ *    parameter, abandoned land, savanna and soil rows; later elements keep their values.
+ * 1000 to 7227: refused by one of the numbers 1 to 7. 12000: then, by 12. 13000 to 13227: then, by 13. 9000: a good return, and counts_len is below
+ *    NILOFERQ_COUNTS. */
 uint32_t niloferq_judge(const uint8_t *bytes, size_t bytes_len, uint32_t *counts, size_t counts_len);
 
 /* The NILOFERQ_FIGURES figures as numbers, in the order in which `sheets` prints them: E, K, L, M, O, P, Q, report, onsite, offsite, R,
- * decay, co2, ch4, co, n2o, nox, uptake, uptake_co2, thinner, savanna_carbon, savanna_ch4, savanna_co, savanna_n2o, savanna_nox. thinner is
- * a count, of the periods of conversion rows whose density after is above that before, 0 to 64: such a period counts with a difference of 0.
+ * decay, co2, ch4, co, n2o, nox, uptake, uptake_co2, thinner, savanna_carbon, savanna_ch4, savanna_co, savanna_n2o, savanna_nox, soil,
+ * soil_change. thinner is a count, of the periods of conversion rows whose density after is above that before, 0 to 64: such a period counts with a
+ * difference of 0. soil is in 10^-4 t of carbon and soil_change in tonnes of carbon a year; both are above zero for a gain.
  * 0: the first NILOFERQ_FIGURES_ROOM elements of room are three for each figure: 1 where it is below zero and else 0, then the upper
- *    and the lower word of its size, which is lower + 2^64 upper; later elements keep their values. Only P, Q and report may be below zero:
- *    the sign of M and O is always 0, since a return whose M would be below zero is refused.
- * 1000 to 7191: refused by one of the numbers 1 to 7. 12000: then, by 12. 9000: a good return, and room_len is below NILOFERQ_FIGURES_ROOM. */
+ *    and the lower word of its size, which is lower + 2^64 upper; later elements keep their values. Only P, Q, report, soil and
+ *    soil_change may be below zero: the sign of M and O is always 0, since a return whose M would be below zero is refused.
+ * 1000 to 7227: refused by one of the numbers 1 to 7. 12000: then, by 12. 13000 to 13227: then, by 13. 9000: a good return, and room_len is below
+ *    NILOFERQ_FIGURES_ROOM. */
 uint32_t niloferq_figures(const uint8_t *bytes, size_t bytes_len, uint64_t *room, size_t room_len);
 
 /* The text that the program `sheets` prints: a line for each figure of a good return, or `refused`, number and place.
@@ -156,8 +174,8 @@ uint32_t niloferq_figures(const uint8_t *bytes, size_t bytes_len, uint64_t *room
 size_t niloferq_lines(const uint8_t *bytes, size_t bytes_len, uint8_t *room, size_t room_len);
 
 /* The text that the program `explain` prints: `refused`, number and place, then, where a row is refused, its block, its position there, its kind and its
- * id, and then the values that clash, a line each, for 12 `used`, which is 100 K, and `cleared`, which is L; of a good return the heaviest conversion
- * row of each of the three carbon subtotals. docs/EXPLAIN.md has the lines.
+ * id, and then the values that clash, a line each, for 12 `used`, which is 100 K, and `cleared`, which is L, for 13 `soil_type`, `area_now` and
+ * `area_then`, its two sums; of a good return the heaviest conversion row of each of the three carbon subtotals. docs/EXPLAIN.md has the lines.
  * The text's length, and the text stands at the front of room, with no zero byte behind it; later bytes keep their values.
  * 0: room_len is below the text's length, and room is unchanged. NILOFERQ_EXPLAIN_ROOM bytes are always enough. */
 size_t niloferq_explain(const uint8_t *bytes, size_t bytes_len, uint8_t *room, size_t room_len);
@@ -166,15 +184,16 @@ size_t niloferq_explain(const uint8_t *bytes, size_t bytes_len, uint8_t *room, s
  * with the lower id on a tie; where the subtotal is zero there is none.
  * 0: the first NILOFERQ_HEAVIEST_ROOM elements of room are 1, the row's id and its part in 10^-12 kt C; or 0, 0, 0 where there is none, so that a
  *    row with id 0 is told apart from none. Later elements keep their values.
- * 1000 to 7191: refused by one of the numbers 1 to 7. 12000: then, by 12. 11000: a good return and a code above 2. Last 9000: room_len is below
- *    NILOFERQ_HEAVIEST_ROOM. */
+ * 1000 to 7227: refused by one of the numbers 1 to 7. 12000: then, by 12. 13000 to 13227: then, by 13. 11000: a good return and a code above 2. Last
+ *    9000: room_len is below NILOFERQ_HEAVIEST_ROOM. */
 uint32_t niloferq_heaviest(const uint8_t *bytes, size_t bytes_len, uint32_t code, uint64_t *room, size_t room_len);
 
 /* One of the three carbon subtotals as a double, by its code: 0 on-site, 1 off-site, 2 decay.
  * 0: the first eight bytes of room are the double's bits, the lowest byte first; later bytes keep their values. The double is a
  *    whole number of 10^-12 kt C, and its distance from the exact subtotal, times 2^53, is at most n + 2 times the exact subtotal,
  *    where n is the number of conversion rows.
- * 1000 to 7191: refused by one of the numbers 1 to 7. 12000: then, by 12. 11000: a good return and a code above 2. Last 9000: room_len is below 8. */
+ * 1000 to 7227: refused by one of the numbers 1 to 7. 12000: then, by 12. 13000 to 13227: then, by 13. 11000: a good return and a code above 2. Last
+ *    9000: room_len is below 8. */
 uint32_t niloferq_subtotal(const uint8_t *bytes, size_t bytes_len, uint32_t code, uint8_t *room, size_t room_len);
 
 /* The text that the program `nation` prints of a file of returns end to end, up to NILOFERQ_MOST_RETURNS, each cut by the number of blocks that its first
@@ -187,9 +206,9 @@ size_t niloferq_nation(const uint8_t *bytes, size_t bytes_len, uint8_t *room, si
 
 /* The rows of a return, kind after kind. NILOFERQ_ROWS_ROOM and NILOFERQ_COUNTS elements are always enough.
  * 0: the rows of all kinds stand at the front of rows, and the first NILOFERQ_COUNTS elements of counts are the edition and the numbers
- *    of conversion, stock, harvest, parameter, abandoned land and savanna rows; later elements of both keep their values.
- * 1000 to 7191: refused by one of the numbers 1 to 7. 12000: then, by 12. Last, of a good return, the lowest place: 9000, counts_len is below
- *    NILOFERQ_COUNTS; 9001 to 9006, the lowest kind whose rows no longer fit: the rows of the kinds up to it have more numbers than
+ *    of conversion, stock, harvest, parameter, abandoned land, savanna and soil rows; later elements of both keep their values.
+ * 1000 to 7227: refused by one of the numbers 1 to 7. 12000: then, by 12. 13000 to 13227: then, by 13. Last, of a good return, the lowest place: 9000,
+ *    counts_len is below NILOFERQ_COUNTS; 9001 to 9007, the lowest kind whose rows no longer fit: the rows of the kinds up to it have more numbers than
  *    rows_len. */
 uint32_t niloferq_read(const uint8_t *bytes, size_t bytes_len, uint32_t *rows, size_t rows_len, uint32_t *counts, size_t counts_len);
 
@@ -204,10 +223,10 @@ uint32_t niloferq_defaults(uint32_t *room, size_t room_len);
  * 0: the blocks stand at the front of room, and the first element of size is their number of bytes; later elements of both keep
  *    their values. niloferq_read gives the same rows and the edition back.
  * First the lowest place of the number 10: 10000, there is no such edition, or lengths_len is not NILOFERQ_KINDS, or the lengths do not
- *    add up to rows_len; 10001 to 10006, the length of this kind is no whole number of its rows, or is more than NILOFERQ_MOST_ROWS of
- *    them, or for parameters isn't exactly one row, or isn't 0 though the edition does not have the kind. Then 5000 to 7191: refused by
+ *    add up to rows_len; 10001 to 10007, the length of this kind is no whole number of its rows, or is more than NILOFERQ_MOST_ROWS of
+ *    them, or for parameters isn't exactly one row, or isn't 0 though the edition does not have the kind. Then 5000 to 7227: refused by
  *    one of the numbers 5 to 7, the place being where the record would stand: above is how to tell which row of which kind that is.
- *    Then 12000: refused by 12. Last 9000: room_len is below the number of bytes, or size_len is 0. */
+ *    Then 12000: refused by 12. Then 13000 to 13227: refused by 13. Last 9000: room_len is below the number of bytes, or size_len is 0. */
 uint32_t niloferq_write(uint32_t edition, const uint32_t *rows, size_t rows_len, const uint32_t *lengths, size_t lengths_len, uint8_t *room,
                         size_t room_len, uint32_t *size, size_t size_len);
 

@@ -25,13 +25,19 @@ static const struct field savanna[] = {
     {0, 2, 1000}, {0, 2, 1000}, {0, 2, 1000}, {0, 2, 1000}, {0, 2, 1000}, {0, 2, 1000}, {0, 2, 1000},
 };
 
+static const struct field soil[] = {
+    {0, 4, 4294967295u}, {0, 2, 65535}, {0, 2, 65535}, {0, 4, 100000}, {0, 4, 100000}, {0, 2, 10000}, {0, 2, 300}, {0, 2, 300}, {0, 2, 300},
+};
+
+#define KINDS 7
+
 static const struct {
     const struct field *fields;
     uint32_t count;
-} kinds[7] = {{0, 0}, {conversion, 15}, {stock, 5}, {harvest, 5}, {parameters, 6}, {abandoned, 7}, {savanna, 14}};
+} kinds[KINDS + 1] = {{0, 0}, {conversion, 15}, {stock, 5}, {harvest, 5}, {parameters, 6}, {abandoned, 7}, {savanna, 14}, {soil, 9}};
 
 /* The last kind of each edition. */
-static const uint32_t last_kind[3] = {0, 4, 6};
+static const uint32_t last_kind[3] = {0, 4, KINDS};
 
 static uint32_t two(const uint8_t *p) { return p[0] | (uint32_t)p[1] << 8; }
 static uint32_t four(const uint8_t *p) { return two(p) | two(p + 2) << 16; }
@@ -121,9 +127,32 @@ static int cleared_above_used(const uint8_t *bytes, uint32_t n) {
     return l > 100 * k;
 }
 
+/* The place of the first row of the lowest soil type whose two area sums differ, or -1. */
+static int32_t uneven_soil(const uint8_t *bytes, uint32_t n) {
+    uint32_t types[32], places[32], count = 0;
+    int64_t more[32];
+    int32_t lowest = -1;
+    for (uint32_t b = 0; b < n; b++)
+        for (uint32_t r = 0; bytes[512 * b] == 7 && r < bytes[512 * b + 1]; r++) {
+            const uint8_t *p = bytes + 512 * b + 8 + 40 * r;
+            uint32_t i = 0;
+            while (i < count && types[i] != two(p + 6)) i++;
+            if (i == count) {
+                types[i] = two(p + 6);
+                places[i] = 12 * b + r;
+                more[i] = 0;
+                count++;
+            }
+            more[i] += (int64_t)four(p + 8) - four(p + 12);
+        }
+    for (uint32_t i = 0; i < count; i++)
+        if (more[i] != 0 && (lowest < 0 || types[i] < types[lowest])) lowest = (int32_t)i;
+    return lowest < 0 ? -1 : (int32_t)places[lowest];
+}
+
 /* 0 with the edition and the counts, or 1,000 times the number plus the place. */
-uint32_t plain_judge(const uint8_t *bytes, size_t length, uint32_t counts[7]) {
-    if (length == 0 || length > 8192 || length % 512 != 0) return 1000;
+uint32_t plain_judge(const uint8_t *bytes, size_t length, uint32_t counts[KINDS + 1]) {
+    if (length == 0 || length > 9728 || length % 512 != 0) return 1000;
     uint32_t n = (uint32_t)(length / 512);
     for (uint32_t b = 0; b < n; b++) {
         const uint8_t *p = bytes + 512 * b;
@@ -144,14 +173,16 @@ uint32_t plain_judge(const uint8_t *bytes, size_t length, uint32_t counts[7]) {
             for (uint32_t r = 0; r < bytes[512 * b + 1]; r++)
                 if (broken(bytes, n, rule, b, r)) return 1000 * rule + 12 * b + r;
     if (cleared_above_used(bytes, n)) return 12000;
-    memset(counts, 0, 7 * sizeof *counts);
+    int32_t uneven = uneven_soil(bytes, n);
+    if (uneven >= 0) return 13000 + (uint32_t)uneven;
+    memset(counts, 0, (KINDS + 1) * sizeof *counts);
     counts[0] = two(bytes + 6);
     for (uint32_t b = 0; b < n; b++) counts[bytes[512 * b]] += bytes[512 * b + 1];
     return 0;
 }
 
 uint32_t plain_subtotal(const uint8_t *bytes, size_t length, uint32_t code, double *room) {
-    uint32_t counts[7];
+    uint32_t counts[KINDS + 1];
     uint32_t answer = plain_judge(bytes, length, counts);
     if (answer) return answer;
     if (code > 2) return 11000;
@@ -170,7 +201,7 @@ uint32_t plain_subtotal(const uint8_t *bytes, size_t length, uint32_t code, doub
 }
 
 /* Rows of all kinds, kind after kind, as the blocks have them. The room is long enough for any return. */
-uint32_t plain_read(const uint8_t *bytes, size_t length, uint32_t *rows, uint32_t counts[7]) {
+uint32_t plain_read(const uint8_t *bytes, size_t length, uint32_t *rows, uint32_t counts[KINDS + 1]) {
     uint32_t answer = plain_judge(bytes, length, counts);
     if (answer) return answer;
     for (uint32_t b = 0; 512 * b < length; b++) {

@@ -1,13 +1,21 @@
 //! The answers that were due, counted: acceptance and each refusal number, in all and in each edition.
 
 use crate::coverage::{Counters, Coverage, Due};
-use crate::kinds::EDITIONS;
+use crate::kinds::{EDITIONS, KINDS};
 
-/// Refusal numbers go up to 12.
-const NUMBERS: u32 = 13;
+/// Refusal numbers go up to 13.
+const NUMBERS: u32 = 14;
 /// "8 is never given again, its number isn't reused" (02, §3): it fails a
 /// comparison when it is due, and is a difference when the first program gives it.
 const RETIRED: u32 = 8;
+/// The kind that number 13 is about.
+const SOIL: usize = 7;
+
+/// Whether a number can be given in an edition: 13 wants soils.
+fn can_come(number: u32, edition: u32) -> bool {
+    number != 13 || edition >= KINDS[SOIL - 1].since
+}
+
 /// For each number all, and each edition.
 const COLUMNS: usize = 1 + *EDITIONS.end() as usize;
 
@@ -27,9 +35,12 @@ impl Answers {
                 0 => format!("{name}accepted"),
                 _ => format!("{name}refused {number}"),
             };
-            let in_edition = EDITIONS.map(|edition| format!("{answer}, edition {edition}"));
             coverage.add(all, [answer.clone()]);
-            coverage.add(each, in_edition);
+            for edition in EDITIONS {
+                let possible = can_come(number, edition);
+                let each = if possible { each } else { Due::Never };
+                coverage.add(each, [format!("{answer}, edition {edition}")]);
+            }
         }
         Answers(first)
     }
@@ -81,5 +92,21 @@ mod tests {
         assert!(coverage.reached(short));
         answers.note(1, RETIRED, &mut coverage);
         assert!(!coverage.reached(short));
+    }
+
+    /// Edition 1 has no soils.
+    #[test]
+    fn no_13_in_edition_1() {
+        let short = Asked {
+            inputs: 1,
+            shares: false,
+            counts: false,
+        };
+        for (edition, good) in [(1, false), (2, true), (77, true)] {
+            let mut coverage = Coverage::default();
+            let answers = Answers::new("", &[13], [Due::Once; 2], &mut coverage);
+            answers.note(edition, 13, &mut coverage);
+            assert_eq!(coverage.reached(short), good, "{edition}");
+        }
     }
 }

@@ -44,8 +44,8 @@ pub fn subtotal(bytes: &[u8], code: u32, room: &mut [u8]) -> u32 {
     }
 }
 
-/// "Sheets and doubles: 1 to 8 (from C, then 11 and last 9)", without 8 (02, §3) and
-/// with 12 "straight after 7" (02, §8).
+/// "Sheets and doubles: 1 to 8 (from C, then 11 and last 9)", without 8 (02, §3), with 12
+/// "straight after 7" (02, §8) and 13 behind it, "so before 11 and 9" (02, §11).
 fn figure(bytes: &[u8], code: u32, room: usize) -> Result<f64, Refusal> {
     let checked = check(bytes)?;
     let row = match code {

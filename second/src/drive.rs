@@ -7,6 +7,7 @@ use crate::coverage::{Asked, Coverage, Due};
 use crate::input::Input;
 use crate::rng::Rng;
 use crate::sorts::RowSorts;
+use crate::uneven::Uneven;
 use std::process::ExitCode;
 use std::time::Instant;
 
@@ -28,11 +29,24 @@ pub struct Plan<'a> {
     /// The answers (0 for acceptance) due on at least 1 % of the inputs each, and
     /// in each edition on a fifth of that.
     pub often: &'a [u32],
+    /// Numbers that are due so many times at least, however many inputs there are.
+    pub counted: &'a [(u32, usize)],
     /// The fewest accepted inputs of each sort by their rows.
     pub sorts: usize,
     /// The fewest inputs by the wood that is cleared and used, of each balance; none is
     /// asked where it is 0.
     pub balances: usize,
+    /// The fewest inputs refused by 13, of each sort by the areas of their soils; none is
+    /// asked where it is 0.
+    pub uneven: usize,
+}
+
+/// So many times, or told where it is none.
+fn times_or_told(least: usize) -> Due {
+    match least {
+        0 => Due::Told,
+        least => Due::Times(least),
+    }
 }
 
 /// What came of one input.
@@ -121,7 +135,7 @@ impl Ran {
     }
 }
 
-/// Goes over the inputs, and counts the answers, the sentences, the sorts of rows and the balances of wood.
+/// Goes over the inputs, and counts the answers, the sentences, the sorts of rows, the balances of wood and the areas of soils.
 pub fn run<I: Input>(
     plan: &Plan,
     arguments: Arguments,
@@ -134,10 +148,13 @@ pub fn run<I: Input>(
     let answers = Answers::new("", plan.often, shares, &mut coverage);
     let sentences = coverage.add(Due::Once, I::sentences());
     let sorts = RowSorts::new(Due::Times(plan.sorts), &mut coverage);
-    let balances = match plan.balances {
-        0 => Balances::new(Due::Told, &mut coverage),
-        least => Balances::new(Due::Times(least), &mut coverage),
-    };
+    let counted = plan.counted.iter().map(|&(number, least)| {
+        let name = format!("refused {number}, {least} times and more");
+        (number, coverage.add(Due::Times(least), [name]))
+    });
+    let counted: Vec<_> = counted.collect();
+    let balances = Balances::new(times_or_told(plan.balances), &mut coverage);
+    let uneven = Uneven::new(times_or_told(plan.uneven), &mut coverage);
     let [mut made, mut accepted, mut differences] = [0; 3];
     let start = Instant::now();
     for index in 0..arguments.inputs.unwrap_or(plan.inputs) {
@@ -152,7 +169,12 @@ pub fn run<I: Input>(
         for nth in input.met(outcome.answer) {
             coverage.count(sentences, nth);
         }
-        balances.note(outcome.answer / 1000, || input.lists(), &mut coverage);
+        let number = outcome.answer / 1000;
+        for (_, counter) in counted.iter().filter(|(of, _)| *of == number) {
+            coverage.count(*counter, 0);
+        }
+        balances.note(number, || input.lists(), &mut coverage);
+        uneven.note(number, || input.lists(), &mut coverage);
         if outcome.answer == 0 {
             accepted += 1;
             sorts.note(&input.lists(), &mut coverage);

@@ -1,14 +1,14 @@
 //! Why a return is refused (02, §7): "for a refusal, the number, the place and
 //! the values that clash: the length, stored and computed check, the block's
 //! header or non-zero byte, the two ids, the field and its limit, the sum of the
-//! fractions". Where the place is a row's, the row is named before them. With
-//! number 12 it "then shows 100K and L" (02, §8). Of a return that is accepted, the
-//! heaviest rows.
+//! fractions". Where one row is refused, the row is named before them. With number 12
+//! it "then shows 100K and L" (02, §8), with 13 the soil type at fault and its two area
+//! sums (02, §11). Of a return that is accepted, the heaviest rows.
 
 use crate::heaviest;
 use crate::judge::RECORDS_PER_BLOCK;
 use crate::judge::{check, computed_check, edition, first_fault, four, record_at, stored_check};
-use crate::judge::{two, whole_blocks, wood_of, Block, Fault, Record, Refusal};
+use crate::judge::{two, uneven_of, whole_blocks, wood_of, Block, Fault, Record, Refusal};
 use crate::kinds::{Kind, KINDS};
 use crate::land::Conversion;
 use crate::text::Text;
@@ -38,11 +38,15 @@ pub fn explain(bytes: &[u8], room: &mut [u8]) -> usize {
     text(bytes).put_into(room)
 }
 
-/// Which row the place is, where the number is about a row: its block, its
+/// The numbers whose place is a row's. 13 is about all rows of a soil type, and its
+/// place is the first of them.
+const AT_A_ROW: [u32; 4] = [5, 6, 7, 13];
+
+/// Which row the place is, where it is a row's: its block, its
 /// position there and its kind, so that nobody has to divide by twelve, and its id.
 /// Parameters have none, and with number 5 the ids are what clashes.
 fn print_row(bytes: &[u8], Refusal { number, place }: Refusal, text: &mut Text) {
-    if !(5..=7).contains(&number) {
+    if !AT_A_ROW.contains(&number) {
         return;
     }
     let place = place as usize;
@@ -57,7 +61,8 @@ fn print_row(bytes: &[u8], Refusal { number, place }: Refusal, text: &mut Text) 
 }
 
 /// The values that clash at a refusal's place, a block up to number 4 and a
-/// record from number 5 to 7. Number 12 is about the return as a whole.
+/// record from number 5 to 7. Number 12 is about the return as a whole, 13 about the
+/// soil type of the record.
 fn print_clash(bytes: &[u8], refusal: Refusal, text: &mut Text) {
     let (blocks, place) = (whole_blocks(bytes), refusal.place as usize);
     match refusal.number {
@@ -93,10 +98,16 @@ fn print_clash(bytes: &[u8], refusal: Refusal, text: &mut Text) {
             }
             text.line("sum ", fractions.iter().sum());
         }
-        _ => {
+        12 => {
             let wood = wood_of(blocks);
             text.line("used ", wood.used());
             text.line("cleared ", wood.l);
+        }
+        _ => {
+            let uneven = uneven_of(blocks).expect("number 13 was given");
+            text.line("soil_type ", uneven.number.into());
+            text.line("area_now ", uneven.now);
+            text.line("area_then ", uneven.then);
         }
     }
 }

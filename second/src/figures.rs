@@ -2,6 +2,7 @@
 //! at the limits, and with doubles that round badly.
 
 mod savanna;
+mod soil;
 
 use crate::case::Case;
 use crate::make::{thin, Rows, AFTER, BEFORE, FIRST_WITH_IDS, MOST_ROWS, SUMMED, WITH_IDS};
@@ -10,7 +11,7 @@ use crate::worst;
 
 /// A random return of this kind.
 pub fn case(rng: &mut Rng) -> Case {
-    let (how, mut rows) = match rng.below(18) {
+    let (how, mut rows) = match rng.below(20) {
         0..3 => ("Q near a half", q_near_half(rng)),
         3 => ("co2 near a half", co2_near_half(rng)),
         4..8 => ("a gas near a half", gas_near_half(rng)),
@@ -26,6 +27,7 @@ pub fn case(rng: &mut Rng) -> Case {
         11 => ("uptake near a half", uptake_near_half(rng)),
         12..16 => ("a savanna gas near a half", savanna::gas_near_half(rng)),
         16 => ("large savannas", savanna::large_alone(rng)),
+        17 | 18 => ("soils near a half", soil::near_half(rng)),
         _ => ("all rows", Rows::good(rng, [MOST_ROWS; 3])),
     };
     if rows.edition == 1 && rng.one_in(2) {
@@ -318,6 +320,7 @@ fn large(rng: &mut Rng) -> Rows {
         row[at] -= rng.pick(&[0, 0, 1]);
     }
     savanna::enlarge(rng, &mut rows.savanna);
+    soil::enlarge(rng, &mut rows);
     // P as far below zero as there can be, as far above, or both sides large.
     match rng.below(3) {
         0 => rows.stock.clear(),

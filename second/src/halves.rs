@@ -4,23 +4,31 @@
 use crate::coverage::{Counters, Coverage, Due};
 use crate::judge::check;
 use crate::rounding::{Half, Tonnes};
-use crate::sheets::{exact_tonnes, ROUNDED};
-
-/// Q and the report, which come first, are on both sides of zero.
-const SIGNED: usize = 2;
+use crate::sheets::{exact_tonnes, ROUNDED, SIGNED};
 
 /// For each figure the halves above zero that go down and up, and of the signed ones those below zero.
 pub struct Halves(Counters);
 
+/// The figures with the sides of zero that they have: a signed one has two.
+fn sides() -> impl Iterator<Item = (usize, Option<bool>)> {
+    let of_figure = |(figure, name): (usize, &&str)| match SIGNED.contains(name) {
+        true => vec![(figure, Some(false)), (figure, Some(true))],
+        false => vec![(figure, None)],
+    };
+    ROUNDED.iter().enumerate().flat_map(of_figure)
+}
+
 impl Halves {
     /// So many of each are due.
     pub fn new(due: Due, coverage: &mut Coverage) -> Self {
-        let ways = |figure: String| ["down", "up"].map(|way| format!("{figure}, {way}"));
-        let sides = |figure: &str| ["above", "below"].map(|side| format!("{figure} {side} zero"));
-        let (signed, others) = ROUNDED.split_at(SIGNED);
-        let signed = signed.iter().flat_map(|figure| sides(figure));
-        let all = signed.chain(others.iter().map(|figure| figure.to_string()));
-        let names = all.flat_map(|figure| ways(format!("exact halves of {figure}")));
+        let names = sides().flat_map(|(figure, below)| {
+            let side = match below {
+                None => "",
+                Some(false) => " above zero",
+                Some(true) => " below zero",
+            };
+            ["down", "up"].map(|way| format!("exact halves of {}{side}, {way}", ROUNDED[figure]))
+        });
         Halves(coverage.add(due, names))
     }
 
@@ -38,10 +46,11 @@ impl Halves {
     }
 }
 
-/// A signed figure has two places, any other one.
+/// The place of a figure's side among all.
 fn place(figure: usize, exact: &Tonnes) -> usize {
-    let below = usize::from(exact.above < 0);
-    figure + figure.min(SIGNED) + if figure < SIGNED { below } else { 0 }
+    let below = exact.above < 0;
+    let own = |side: (usize, Option<bool>)| side.0 == figure && side.1.is_none_or(|b| b == below);
+    sides().position(own).expect("every figure has its side")
 }
 
 #[cfg(test)]
@@ -73,7 +82,7 @@ mod tests {
         assert_eq!(coverage.came(), due);
     }
 
-    /// Every figure has its halves, each way, and Q and the report on each side.
+    /// Every figure has its halves, each way, and a signed one on each side.
     #[test]
     fn halves_come_of_every_figure() {
         let mut coverage = Coverage::default();
@@ -82,7 +91,7 @@ mod tests {
             let case = figures::case(&mut Rng::for_input(56, index));
             halves.note(&case.bytes, &mut coverage);
         }
-        assert_eq!(coverage.came().len(), 2 * (ROUNDED.len() + SIGNED));
+        assert_eq!(coverage.came().len(), 2 * (ROUNDED.len() + SIGNED.len()));
         assert!(coverage.each_came(50), "{:?}", coverage.came());
     }
 }

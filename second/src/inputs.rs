@@ -2,7 +2,7 @@
 
 use crate::case::Case;
 use crate::rng::Rng;
-use crate::{clashes, clearings, figures, mix, sweep, weights};
+use crate::{clashes, clearings, figures, mix, plots, sweep, weights};
 
 /// One input in this many comes from the sweeps, until they are used up.
 const SWEEP_EVERY: usize = 4;
@@ -50,13 +50,14 @@ pub fn explained(index: usize, rng: &mut Rng) -> Case {
     }
 }
 
-/// The mixture, several clashes at one place, rows by their weight, and wood that is
-/// cleared and used nearly alike.
+/// The mixture, several clashes at one place, rows by their weight, wood that is cleared
+/// and used nearly alike, and soils that are nearly even.
 pub fn drawn_explained(rng: &mut Rng) -> Case {
-    match rng.below(9) {
+    match rng.below(10) {
         0..4 => mix::case(rng),
         4 | 5 => clashes::case(rng),
         6 | 7 => weights::case(rng),
-        _ => clearings::case(rng),
+        8 => clearings::case(rng),
+        _ => plots::case(rng),
     }
 }

@@ -1,30 +1,33 @@
 //! The judge of a return: refusal numbers 1 to 7 of the paper (01), in order,
-//! with edition 2 and its kinds 5 and 6 from the requests on abandoned land and
-//! on savannas (02, §1 and §5), then number 12 from the request on fuelwood (02,
-//! §8). "8 is never given again, its number isn't reused, and 01's order closes
-//! over it" (02, §3).
+//! with edition 2 and its kinds 5, 6 and 7 from the requests on abandoned land, on
+//! savannas and on soils (02, §1, §5 and §11), then number 12 from the request on
+//! fuelwood (02, §8) and 13 from that on soils. "8 is never given again, its number
+//! isn't reused, and 01's order closes over it" (02, §3).
 //!
 //! "Each number is tried over the whole input before the next, and the lowest
 //! place is given": numbers 1 to 4 are a pass each. The faults of 5 to 7 belong
 //! to single records and don't lean on each other, so one pass notes the first
-//! place of each, and the lowest number that was noted is given. Number 12 adds
-//! records up, and is a pass again.
+//! place of each, and the lowest number that was noted is given. Numbers 12 and 13 add
+//! records up, and are a pass each again.
 
 mod blocks;
 mod clearing;
 mod layout;
 mod records;
+mod soils;
 
 pub(crate) use blocks::{computed_check, stored_check};
 pub(crate) use clearing::wood_of;
 pub(crate) use layout::first_fault;
 pub use layout::Fault;
+pub(crate) use soils::uneven_of;
 
 use crate::wood::Wood;
 use blocks::{blocks_of, check_holds, first_block, header_holds};
 use clearing::clearing_holds;
 use layout::layout_holds;
 use records::records_hold;
+use soils::soils_hold;
 
 /// What a return is answered with.
 #[derive(Clone, Copy, Debug, PartialEq, Eq)]
@@ -34,7 +37,7 @@ pub enum Verdict {
 }
 
 /// What an accepted return is: its edition, and the numbers of conversion,
-/// stock, harvest, parameter, abandoned and savanna rows.
+/// stock, harvest, parameter, abandoned, savanna and soil rows.
 #[derive(Clone, Copy, Debug, PartialEq, Eq)]
 pub struct Counts {
     pub edition: u16,
@@ -58,9 +61,9 @@ pub struct Refusal {
 }
 
 const BLOCK: usize = 512;
-/// "Lengths go to 13 blocks in either edition" (02, §1), and "grow by three
-/// blocks" (02, §5).
-const MOST_BLOCKS: usize = 16;
+/// "Lengths go to 13 blocks in either edition" (02, §1), "grow by three blocks" (02,
+/// §5), and are "three blocks more" again (02, §11).
+const MOST_BLOCKS: usize = 19;
 const RECORD: usize = 40;
 pub(crate) const RECORDS_PER_BLOCK: usize = 12;
 const RECORDS_AT: usize = 8;
@@ -72,7 +75,8 @@ const HARVEST: u8 = 3;
 const PARAMETERS: u8 = 4;
 const ABANDONED: u8 = 5;
 const SAVANNA: u8 = 6;
-const LAST_KIND: usize = SAVANNA as usize;
+const SOIL: u8 = 7;
+const LAST_KIND: usize = SOIL as usize;
 
 pub(crate) type Block = [u8; BLOCK];
 pub type Record = [u8; RECORD];
@@ -87,7 +91,7 @@ pub struct Checked<'a> {
 }
 
 impl<'a> Checked<'a> {
-    /// The used records of kind 1 to 6, in order.
+    /// The used records of kind 1 to 7, in order.
     pub fn records(self, kind: u8) -> impl Iterator<Item = &'a Record> {
         self.blocks
             .iter()
@@ -136,6 +140,7 @@ pub fn check(bytes: &[u8]) -> Result<Checked<'_>, Refusal> {
     layout_holds(blocks)?;
     records_hold(blocks)?;
     let wood = clearing_holds(blocks)?;
+    soils_hold(blocks)?;
 
     let mut rows = [0; LAST_KIND];
     for block in blocks {

@@ -36,6 +36,13 @@ const AMOUNT: u32 = 10_000_000;
 const RATE: u32 = 10_000;
 /// "0 land, 1 scattered trees"
 const UNIT_CODE: u32 = 1;
+/// Land system and soil type: "numbers from 0 to 65,535", all that two bytes hold.
+const CODE: u32 = 65_535;
+/// Both areas of a soil row.
+const SOIL_AREA: u32 = 100_000;
+const NATIVE_CARBON: u32 = 10_000;
+/// Base, tillage and input.
+const FACTOR: u32 = 300;
 
 /// A row of a later kind: "a record is the id in four bytes, then the fields in the order named, four bytes for an area or a
 /// production and two for anything else, then zeros" (02, §1).
@@ -168,6 +175,23 @@ impl Layout<14> for Savanna {
     ]);
 }
 
+/// "A row: land system, soil type, area now and twenty years ago [..], native soil
+/// carbon [..], base, tillage and input factors" (02, §11).
+struct Soil;
+impl Layout<9> for Soil {
+    const FIELDS: [Field; 9] = behind_id([
+        NAMED_ID,
+        ("land_system", 2, CODE),
+        ("soil_type", 2, CODE),
+        ("area_now", 4, SOIL_AREA),
+        ("area_then", 4, SOIL_AREA),
+        ("native", 2, NATIVE_CARBON),
+        ("base", 2, FACTOR),
+        ("tillage", 2, FACTOR),
+        ("input", 2, FACTOR),
+    ]);
+}
+
 /// The first place of each of the numbers 5, 6 and 7.
 pub(crate) type FirstPlaces = [Option<usize>; 3];
 
@@ -194,14 +218,16 @@ pub struct Kind {
 
 /// "At most 32 rows of each of the first three kinds, none needed; always one
 /// parameter row." Abandoned land: "kind 5, after the parameter block, up to 32,
-/// in edition 2". Savannas: "Kind 6, edition 2, up to 32 rows".
-pub static KINDS: [Kind; 6] = [
+/// in edition 2". Savannas: "Kind 6, edition 2, up to 32 rows". Soils: "Kind 7, edition
+/// 2, 32 rows".
+pub static KINDS: [Kind; 7] = [
     Kind::of::<15, Conversion>("conversion", 1, 0, 32),
     Kind::of::<5, Stock>("stock", 1, 0, 32),
     Kind::of::<5, Harvest>("harvest", 1, 0, 32),
     Kind::of::<6, Parameters>("parameters", 1, 1, 1),
     Kind::of::<7, Abandoned>("abandoned", 2, 0, 32),
     Kind::of::<14, Savanna>("savanna", 2, 0, 32),
+    Kind::of::<9, Soil>("soil", 2, 0, 32),
 ];
 
 /// The kinds above 4, which edition 1 doesn't have.

@@ -1,7 +1,7 @@
 //! The second program, written from the paper (01) and the requests on abandoned
 //! land, on halves, on thinner grass, on savannas, on table 5-2, on reasons, on
-//! fuelwood, on more cleared and on the national line (02, §1 to §3 and §5 to §10)
-//! alone: a judge, a reader and a writer of returns, the worksheets, the doubles, the
+//! fuelwood, on more cleared, on the national line and on soils (02, §1 to §3 and §5 to
+//! §11) alone: a judge, a reader and a writer of returns, the worksheets, the doubles, the
 //! table, the explanations, the heaviest rows and the national line, with makers of
 //! good and damaged inputs to compare all of it with the first program. The table is
 //! read from docs/TABLE52.csv.
@@ -14,6 +14,7 @@
 #![deny(unsafe_code)]
 
 pub mod answers;
+pub mod areas;
 pub mod balances;
 pub mod bound;
 pub mod burned;
@@ -44,6 +45,7 @@ pub mod mix;
 pub mod nation;
 pub mod nations;
 pub mod order_sweeps;
+pub mod plots;
 pub mod program;
 pub mod raised;
 pub mod reader;
@@ -56,13 +58,17 @@ pub mod rowlists;
 pub mod savanna;
 pub mod sentences;
 pub mod sheets;
+pub mod soil;
+pub mod soil_sweeps;
 pub mod sorts;
 pub mod spoil;
 pub mod sweep;
 pub mod table52;
 pub mod text;
 pub mod thinner;
+pub mod tilled;
 pub mod timing;
+pub mod uneven;
 pub mod weights;
 pub mod wood;
 pub mod wood_sweeps;

@@ -52,7 +52,7 @@ pub fn rows_in<const N: usize>(lists: &Lists, kind: usize) -> &[[u32; N]] {
     lists[kind - 1].as_chunks().0
 }
 
-/// The rows of a return that is accepted, by the table of kinds.
+/// The rows of a return that is accepted, or of one whose rows are all good by themselves, by the table of kinds.
 pub fn rows_of(bytes: &[u8]) -> Lists {
     let mut lists = Lists::default();
     for block in bytes.chunks(BLOCK) {

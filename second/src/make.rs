@@ -9,12 +9,15 @@ mod draw;
 mod good;
 mod harvest;
 mod savannas;
+mod soils;
 
 pub use bytes::{renumber, repair_check, repair_checks, seal};
 pub use draw::good_ids;
 pub use good::{drawn_counts, later, thin};
 pub use harvest::used_and_cleared;
 pub use savannas::{enlarge, savanna_carbon};
+pub use soils::{area_sums, land_sums, move_area, soil_carbon, unbalance, uneven_type};
+pub use soils::{SoilRow, MOST_AREA};
 
 use crate::kinds::{full_blocks, Field, Kind, EDITIONS, KINDS};
 use std::ops::Range;
@@ -58,6 +61,13 @@ pub const LIVE_BURNT: [usize; 2] = [5, 6];
 pub const DEAD_BURNT: [usize; 2] = [7, 8];
 pub const NITROGEN: usize = 9;
 pub const GASES: [usize; 4] = [10, 11, 12, 13];
+
+/// Positions in a soil row: the land system, the soil type, the areas now and twenty years
+/// ago, and what soil carbon is the product of.
+pub const LAND_SYSTEM: usize = 1;
+pub const SOIL_TYPE: usize = 2;
+pub const SOIL_AREAS: [usize; 2] = [3, 4];
+pub const SOIL_CARBON: [usize; 4] = [5, 6, 7, 8];
 
 /// The last kind that an edition has.
 pub fn last_kind(edition: u16) -> u8 {
@@ -153,6 +163,7 @@ rows! {
     parameters: 6,
     abandoned: 7,
     savanna: 14,
+    soil: 9,
 }
 
 /// No rows, in edition 1.

@@ -1,22 +1,24 @@
 //! Inputs drawn at random: good returns, each number broken alone, in pairs
-//! and several times, wood that is cleared and used nearly alike, and random blocks.
+//! and several times, wood that is cleared and used nearly alike, soils that are nearly
+//! even, and random blocks.
 
 use crate::case::Case;
-use crate::clearings;
 use crate::damage::{block, block_count, break_number, random_blocks};
 use crate::make::{drawn_counts, repair_checks, seal, Rows, BLOCK};
 use crate::rng::Rng;
-use crate::spoil::spoil;
+use crate::spoil::{spoil, to_be_spoiled, SPOILED};
+use crate::{clearings, plots};
 
 type Weighted = (usize, fn(&mut Rng) -> Case);
 
 /// How often each way is taken, out of the sum of all.
-const WEIGHTS: [Weighted; 8] = [
-    (18, good),
+const WEIGHTS: [Weighted; 9] = [
+    (19, good),
     (36, alone),
     (20, two_numbers),
     (12, one_number_often),
     (8, clearings::case),
+    (6, plots::case),
     (6, random),
     (5, changed_bytes),
     (3, reordered),
@@ -44,24 +46,23 @@ fn good(rng: &mut Rng) -> Case {
 }
 
 /// Breaks these numbers, the ones of the rows first, so that no later damage
-/// is made good again by the repair after an earlier one; of these too the highest
-/// first, for number 12 is brought about in rows that are good.
-pub fn broken(rng: &mut Rng, mut numbers: Vec<u32>) -> Case {
-    numbers.sort_unstable();
-    let mut rows = Rows::good_from(rng, 2);
+/// is made good again by the repair after an earlier one.
+pub fn broken(rng: &mut Rng, numbers: &[u32]) -> Case {
+    let mut rows = to_be_spoiled(rng, numbers);
     let mut how = String::from("broken");
-    for &number in numbers.iter().rev().filter(|&&number| number >= 5) {
-        how += &format!(", {}", spoil(rng, &mut rows, number));
+    let times = |number: u32| numbers.iter().filter(move |&&other| other == number);
+    for number in SPOILED.into_iter().flat_map(times) {
+        how += &format!(", {}", spoil(rng, &mut rows, *number));
     }
     let mut bytes = rows.to_bytes();
-    for &number in numbers.iter().rev().filter(|&&number| number < 5) {
-        how += &format!(", {}", break_number(rng, &mut bytes, number));
+    for number in (1..5).rev().flat_map(times) {
+        how += &format!(", {}", break_number(rng, &mut bytes, *number));
     }
     Case { how, bytes }
 }
 
 fn alone(rng: &mut Rng) -> Case {
-    let number = rng.pick(&[1, 2, 2, 3, 3, 4, 4, 4, 5, 5, 6, 6, 7, 7, 7, 12]);
+    let number = rng.pick(&[1, 2, 2, 3, 3, 4, 4, 4, 5, 5, 6, 6, 7, 7, 7, 12, 13]);
     if number == 4 && rng.one_in(3) {
         // Small returns, where a block more or less has room.
         let counts = drawn_counts(rng, |rng| rng.pick(&[0, 1, 5, 12, 13]));
@@ -72,25 +73,28 @@ fn alone(rng: &mut Rng) -> Case {
             bytes,
         };
     }
-    broken(rng, vec![number])
+    broken(rng, &[number])
 }
 
-/// The numbers that returns are refused by, in order.
-const NUMBERS: [u32; 8] = [1, 2, 3, 4, 5, 6, 7, 12];
+/// The numbers that returns are refused by, in the order in which they are tried.
+const NUMBERS: [u32; 9] = [1, 2, 3, 4, 5, 6, 7, 12, 13];
 
-/// Two different numbers at places of their own: the lower number shows, from
+/// Two different numbers at places of their own: the one that is tried first shows, from
 /// the lower place or from the higher.
 fn two_numbers(rng: &mut Rng) -> Case {
-    let low = if rng.one_in(20) { 0 } else { 1 + rng.below(6) };
-    let high = low + 1 + rng.below(NUMBERS.len() - low - 1);
-    broken(rng, vec![NUMBERS[low], NUMBERS[high]])
+    let first = match rng.below(20) {
+        0 => 0,
+        _ => 1 + rng.below(NUMBERS.len() - 2),
+    };
+    let later = first + 1 + rng.below(NUMBERS.len() - first - 1);
+    broken(rng, &[NUMBERS[first], NUMBERS[later]])
 }
 
 /// One number at several places, so that the lowest shows.
 fn one_number_often(rng: &mut Rng) -> Case {
     let number = rng.from_to(2, 7);
     let times = 2 + rng.below(4);
-    broken(rng, vec![number; times])
+    broken(rng, &vec![number; times])
 }
 
 fn random(rng: &mut Rng) -> Case {
@@ -148,28 +152,29 @@ mod tests {
     use super::*;
     use crate::judge::{judge, Refusal, Verdict};
 
-    /// With two numbers broken the lower one is given, and often enough from
-    /// a higher place than a judge that tries the other first would say.
+    /// With two numbers broken the one that is tried first is given, and often enough
+    /// from a higher place than a judge that tries the other first would say.
     #[test]
-    fn the_lower_number_shows() {
+    fn the_first_number_shows() {
         let mut rng = Rng::new(31);
-        for low in [5, 6, 7] {
-            for high in [6, 7, 12].into_iter().filter(|&high| high > low) {
+        let of_rows = &NUMBERS[4..];
+        for (nth, &first) in of_rows.iter().enumerate() {
+            for &later in &of_rows[nth + 1..] {
                 let mut own = 0;
                 for _ in 0..300 {
-                    let bytes = broken(&mut rng, vec![low, high]).bytes;
+                    let bytes = broken(&mut rng, &[first, later]).bytes;
                     if let Verdict::Refused(Refusal { number, .. }) = judge(&bytes) {
-                        own += u32::from(number == low);
+                        own += u32::from(number == first);
                     }
                 }
-                assert!(own > 250, "{low} and {high}: {own}");
+                assert!(own > 250, "{first} and {later}: {own}");
             }
         }
     }
 
     #[test]
     fn every_answer_comes_often() {
-        let mut given = [0; 13];
+        let mut given = [0; 14];
         for index in 0..20_000 {
             match judge(&case(&mut Rng::for_input(32, index)).bytes) {
                 Verdict::Accepted(_) => given[0] += 1,

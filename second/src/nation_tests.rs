@@ -116,9 +116,9 @@ fn stops() {
         bytes[4..6].copy_from_slice(&blocks.to_le_bytes());
         bytes
     };
-    for blocks in [0, 17, 18, 255, 256, 65_535] {
+    for blocks in [0, 20, 21, 255, 256, 65_535] {
         let due = format!("stopped 2 blocks {blocks}\n");
-        for length in [6, 7, 512, 17 * 512] {
+        for length in [6, 7, 512, 20 * 512] {
             assert_eq!(stopped(&with_blocks(blocks, length)), due);
         }
     }
@@ -128,6 +128,10 @@ fn stops() {
         assert_eq!(stopped(&vec![255; length]), short);
     }
     for (blocks, length) in [(1, 6), (1, 511), (2, 512), (2, 1_023), (16, 16 * 512 - 1)] {
+        assert_eq!(stopped(&with_blocks(blocks, length)), short);
+    }
+    for blocks in 17..=19 {
+        let length = 512 * usize::from(blocks) - 1;
         assert_eq!(stopped(&with_blocks(blocks, length)), short);
     }
     assert_eq!(stopped(&day()[..2_047]), short);
@@ -161,6 +165,26 @@ fn a_501st_return() {
     assert!(found.starts_with("return 1 refused 2 3\nreturn 2 refused 2 3\n"));
     let end = "return 500 refused 2 3\nstopped 501 many\naccepted 0\nrefused 500\nE 0\n";
     assert!(found.contains(end));
+}
+
+/// Nineteen blocks are a return like any other; soils add to no national figure, and an
+/// uneven type is refused.
+#[test]
+fn soils_in_a_file() {
+    let mut full = Rows::good_in(&mut Rng::new(194), 2, [32; 6]);
+    let file = [full.to_bytes(), day()].concat();
+    assert_eq!(full.to_bytes().len(), 19 * 512);
+    let found = Nation::of(&file);
+    assert_eq!((found.accepted, found.stopped), (2, None));
+    full.soil.clear();
+    let without = Nation::of(&[full.to_bytes(), day()].concat());
+    assert_eq!(found.text(), without.text());
+    let mut uneven = worked_day();
+    uneven.edition = 2;
+    uneven.soil = vec![[1, 1, 9, 2, 2, 1, 1, 1, 1], [2, 1, 7, 2, 3, 1, 1, 1, 1]];
+    let found = text_of(&[uneven.to_bytes(), day()].concat());
+    let due = ONE.replace("refused 0\n", "refused 1\n");
+    assert_eq!(found, format!("return 1 refused 13 49\n{due}"));
 }
 
 /// It is the first header that cuts; the others are the judge's business.
@@ -266,13 +290,15 @@ fn rooms() {
 /// digits, and a stop; the figures are then 0.
 #[test]
 fn the_longest_text_has_room() {
-    let mut last = Rows::good_in(&mut Rng::new(191), 2, [32; 5]);
-    last.savanna[31][1] = 1_000_001;
+    let mut last = Rows::good_in(&mut Rng::new(191), 2, [32; 6]);
+    let types = last.soil.iter_mut().zip(0..);
+    types.for_each(|(row, own)| (row[2], row[3], row[4]) = (100 - own, 5, 5));
+    last.soil[31][3] = 4;
     let text = text_of(&last.to_bytes().repeat(501));
-    assert!(text.starts_with("return 1 refused 6 187\n"));
+    assert!(text.starts_with("return 1 refused 13 223\n"));
     assert!(text.len() > 12_000, "{}", text.len());
-    // Numbers of two digits are a byte more each, and all figures at most 40 bytes.
-    assert!(text.len() + MOST_RETURNS + 11 * 40 < NATION_ROOM);
+    // All figures at most 40 bytes more.
+    assert!(text.len() + 11 * 40 < NATION_ROOM);
 }
 
 /// "The totals equal those of the accepted returns in any order of the same returns."

@@ -2,10 +2,10 @@
 //! run in each way.
 
 use crate::judge::judge;
-use crate::make::{Rows, BLOCK, MOST_BLOCKS};
-use crate::nation::MOST_RETURNS;
+use crate::make::{Rows, BLOCK};
+use crate::nation::{MOST_BLOCKS, MOST_RETURNS};
 use crate::rng::Rng;
-use crate::{clearings, figures, mix};
+use crate::{clearings, figures, mix, plots};
 
 /// How a file ends.
 #[derive(Clone, Copy, Debug, PartialEq, Eq)]
@@ -14,7 +14,7 @@ pub enum End {
     Whole,
     /// With a first header that says 0 blocks.
     NoBlocks,
-    /// With one that says more than 16.
+    /// With one that says more than there may be.
     ManyBlocks,
     /// With fewer than six bytes of a return.
     ShortHeader,
@@ -142,10 +142,11 @@ pub fn shuffle(rng: &mut Rng, returns: &mut [Vec<u8>]) {
 /// A return, accepted or refused, that is as long as its own first header says.
 fn any_return(rng: &mut Rng) -> Vec<u8> {
     loop {
-        let bytes = match rng.below(8) {
+        let bytes = match rng.below(9) {
             0..4 => Rows::any_good(rng).to_bytes(),
             4 => figures::case(rng).bytes,
             5 => clearings::case(rng).bytes,
+            6 => plots::case(rng).bytes,
             _ => mix::case(rng).bytes,
         };
         if blocks_said(&bytes).is_some_and(|blocks| is_whole(&bytes, blocks)) {
@@ -173,19 +174,23 @@ fn blocks_said(bytes: &[u8]) -> Option<usize> {
 }
 
 fn is_whole(bytes: &[u8], blocks: usize) -> bool {
-    (1..=MOST_BLOCKS).contains(&blocks) && bytes.len() == BLOCK * blocks
+    (1..=MOST_BLOCKS.into()).contains(&blocks) && bytes.len() == BLOCK * blocks
 }
 
 /// Another number of blocks in the first header.
 fn mislead(rng: &mut Rng, bytes: &mut [u8]) {
     let right = bytes[4];
     while bytes[4] == right {
-        bytes[4] = 1 + rng.below(MOST_BLOCKS) as u8;
+        bytes[4] = 1 + rng.below(MOST_BLOCKS.into()) as u8;
     }
 }
 
 /// Some look like good numbers to a reader of one byte, or of the other order.
-const TOO_MANY: [u16; 10] = [17, 18, 19, 255, 256, 257, 272, 4_096, 4_097, 65_535];
+#[rustfmt::skip]
+const TOO_MANY: [u16; 10] = [
+    MOST_BLOCKS + 1, MOST_BLOCKS + 2, MOST_BLOCKS + 3, 255, 256, 257,
+    256 + MOST_BLOCKS, 256 * MOST_BLOCKS, 256 * MOST_BLOCKS + 1, 65_535,
+];
 
 /// What is to stop the run, or nothing.
 fn rest(rng: &mut Rng, end: End) -> Vec<u8> {
@@ -193,7 +198,7 @@ fn rest(rng: &mut Rng, end: End) -> Vec<u8> {
         End::Whole | End::Lost => Vec::new(),
         End::NoBlocks => with_blocks(rng, 0),
         End::ManyBlocks => {
-            let any = rng.from_to(17, 65_535) as u16;
+            let any = rng.from_to(u32::from(MOST_BLOCKS) + 1, 65_535) as u16;
             let likely = rng.pick(&TOO_MANY);
             let blocks = rng.pick(&[any, likely, likely]);
             with_blocks(rng, blocks)
@@ -203,7 +208,7 @@ fn rest(rng: &mut Rng, end: End) -> Vec<u8> {
         End::Many => match rng.below(5) {
             0 => front(rng, 1..6),
             1 => with_blocks(rng, 0),
-            2 => with_blocks(rng, 17),
+            2 => with_blocks(rng, MOST_BLOCKS + 1),
             3 => vec![rng.byte()],
             _ => any_return(rng),
         },

@@ -27,14 +27,22 @@ const ENDS: [(u8, Ordering, &str); 5] = [
     ),
 ];
 
-/// The numbers about a row, and the kinds whose rows can be at fault with each.
-const OF_ROWS: [(usize, &[&str]); 3] = [
+/// The numbers whose place is a row's, and the kinds whose rows can be at it with each.
+const OF_ROWS: [(usize, &[&str]); 4] = [
     (
         5,
-        &["conversion", "stock", "harvest", "abandoned", "savanna"],
+        &[
+            "conversion",
+            "stock",
+            "harvest",
+            "abandoned",
+            "savanna",
+            "soil",
+        ],
     ),
     (6, &KIND_NAMES),
     (7, &["conversion"]),
+    (13, &["soil"]),
 ];
 /// As the texts name them.
 const KIND_NAMES: [&str; KINDS.len()] = [
@@ -44,10 +52,11 @@ const KIND_NAMES: [&str; KINDS.len()] = [
     "parameters",
     "abandoned",
     "savanna",
+    "soil",
 ];
 
 /// Acceptance, and the numbers that are explained.
-const NUMBERS: [usize; 9] = [0, 1, 2, 3, 4, 5, 6, 7, 12];
+const NUMBERS: [usize; 10] = [0, 1, 2, 3, 4, 5, 6, 7, 12, 13];
 
 /// Counters for all of it.
 pub struct Reasons {

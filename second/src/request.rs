@@ -2,7 +2,6 @@
 //! that is too slow for the whole sweeps.
 
 use crate::case::Case;
-use crate::clearings;
 use crate::damage::block;
 use crate::families::Families;
 use crate::kinds::KINDS;
@@ -10,6 +9,7 @@ use crate::make::{seal, Rows, BLOCK, FIRST_WITH_IDS, LATER, WITH_IDS};
 use crate::order_sweeps::{crowds, editions, orders, CROWDS, SHORT_EDITIONS, SHORT_ORDERS};
 use crate::rng::Rng;
 use crate::spoil::{any_limited_of, spoil_id, spoil_limit, ABOVES, BAD_IDS};
+use crate::{clearings, plots};
 
 static FAMILIES: Families<Case> = Families(&[
     (SHORT_ORDERS, orders),
@@ -17,10 +17,12 @@ static FAMILIES: Families<Case> = Families(&[
     (2 * CROWDS, crowds),
     (WAYS * TRIES * LATER, later),
     (CLEARINGS, |_, rng| clearings::case(rng)),
+    (PLOTS, |_, rng| plots::case(rng)),
 ]);
 
-/// How many are made for the sake of number 12.
+/// How many are made for the sake of number 12, and of 13.
 const CLEARINGS: usize = 60;
+const PLOTS: usize = 90;
 
 /// Ways in which rows of a kind above 4 are at fault, and how often each is drawn.
 const WAYS: usize = 6;

@@ -8,6 +8,8 @@ use crate::make::{drawn_counts, fields, limited, place_of, RowCounts, Rows};
 use crate::make::{FIRST_WITH_IDS, LIMITED, MOST_ROWS, WITH_IDS};
 use crate::rng::Rng;
 use crate::rowlists::{wrap_sum, UNKNOWN_EDITIONS};
+use crate::soil_sweeps::{written_each, written_pairs, written_sums, written_with_13};
+use crate::soil_sweeps::{EACH, PAIRS, SUMS, WITH_13_WRITING};
 use crate::spoil::{spoil_id, value, BAD_IDS, VALUES};
 use crate::wood_sweeps::{written_alone, written_balances, written_with_12};
 use crate::wood_sweeps::{ALONE, BALANCES, WITH_12_WRITING};
@@ -27,6 +29,10 @@ static FAMILIES: Families<RowLists> = Families(&[
     (BALANCES, written_balances),
     (ALONE, written_alone),
     (WITH_12_WRITING, written_with_12),
+    (SUMS, written_sums),
+    (EACH, written_each),
+    (PAIRS, written_pairs),
+    (WITH_13_WRITING, written_with_13),
     (WRAPS, wraps),
 ]);
 
@@ -109,9 +115,8 @@ fn values(index: usize, rng: &mut Rng) -> RowLists {
     let limit = fields(kind)[field].most;
     let value = value(which, limit, rng);
     rows.row(kind, row)[field] = value;
-    if kind == 1 && value <= limit {
-        // Good as far as it can be: a large row has to have its harvest.
-        rows.cover_with_more(rng, 0);
+    if value <= limit {
+        rows.make_good_again(rng, kind, field);
     }
     RowLists::of(
         format!("kind {kind} row {row} field {field}: {value}"),
@@ -135,7 +140,7 @@ fn ids(index: usize, rng: &mut Rng) -> RowLists {
 const EDITIONS: usize = UNKNOWN_EDITIONS.len() + 2;
 const EDITION_TRIES: usize = 40;
 
-/// Every edition, with and without abandoned land and savannas.
+/// Every edition, with and without each of the kinds above 4.
 fn editions(index: usize, rng: &mut Rng) -> RowLists {
     let (which, turn) = (index % EDITIONS, index / EDITIONS);
     let mut counts = some_counts(rng);

@@ -1,21 +1,21 @@
 //! A maker of rows for the writer: good ones, lengths that are no whole number
 //! of rows, too many or don't add up, editions that there aren't or that don't
-//! have a kind, wood that is cleared and used nearly alike, and each rule broken
-//! alone and beside others.
+//! have a kind, wood that is cleared and used nearly alike, soils that are nearly even,
+//! and each rule broken alone and beside others.
 
-use crate::clearings;
 use crate::kinds::KINDS;
 use crate::lists::{Lists, RowLists};
-use crate::make::{fields, Rows};
+use crate::make::{fields, Rows, SOIL_TYPE};
 use crate::rng::Rng;
-use crate::spoil::{any_limited, spoil, value, VALUES};
+use crate::spoil::{any_field, spoil, to_be_spoiled, value, SPOILED, VALUES};
+use crate::{clearings, plots};
 
 /// Random rows with their lengths.
 pub fn case(rng: &mut Rng) -> RowLists {
-    match rng.below(24) {
+    match rng.below(26) {
         0..5 => RowLists::of("good".to_string(), &Rows::any_good(rng)),
         5..12 => {
-            let number = rng.pick(&[5, 6, 7, 7, 10, 12]);
+            let number = rng.pick(&[5, 6, 7, 7, 10, 10, 12, 13]);
             broken(rng, &[number])
         }
         12 => {
@@ -24,23 +24,24 @@ pub fn case(rng: &mut Rng) -> RowLists {
             made
         }
         13..18 => {
-            let low = rng.pick(&[5, 6, 7, 10]);
-            let high = rng.pick(&[5, 6, 7, 12]);
-            broken(rng, &[low, high])
+            let first = rng.pick(&[5, 6, 7, 10, 12]);
+            let later = rng.pick(&[5, 6, 7, 12, 13]);
+            broken(rng, &[first, later])
         }
         18 => {
             let number = rng.pick(&[5, 6, 7]);
             broken(rng, &[number; 4])
         }
         19 | 20 => {
-            let numbers = some_of(rng, &[5, 6, 7, 12], 4);
+            let numbers = some_of(rng, &[5, 6, 7, 12, 13], 4);
             let mut made = broken(rng, &numbers);
             break_edition(rng, &mut made);
             made
         }
         21 | 22 => clearings::lists(rng),
+        23 | 24 => plots::lists(rng),
         _ => {
-            let numbers = some_of(rng, &[5, 6, 7, 10, 12], 2);
+            let numbers = some_of(rng, &[5, 6, 7, 10, 12, 13], 2);
             broken(rng, &numbers)
         }
     }
@@ -52,15 +53,12 @@ fn some_of(rng: &mut Rng, numbers: &[u32], one_in: usize) -> Vec<u32> {
     taken.copied().collect()
 }
 
-/// Breaks these numbers; 10 goes last, because it may take the rows' order, and 12
-/// first, because it is brought about in rows that are good.
+/// Breaks these numbers; 10 goes last, because it may take the rows' order.
 pub fn broken(rng: &mut Rng, numbers: &[u32]) -> RowLists {
-    let mut rows = Rows::good_from(rng, 2);
+    let mut rows = to_be_spoiled(rng, numbers);
     let mut how = String::from("broken");
-    if numbers.contains(&12) {
-        how += &format!(", {}", spoil(rng, &mut rows, 12));
-    }
-    for &number in numbers.iter().filter(|&&number| number < 10) {
+    let times = |number: u32| numbers.iter().filter(move |&&other| other == number);
+    for &number in SPOILED.into_iter().flat_map(times) {
         if number == 6 && rng.one_in(2) {
             how += &far_above(rng, &mut rows);
         } else {
@@ -87,9 +85,14 @@ pub fn broken(rng: &mut Rng, numbers: &[u32]) -> RowLists {
 
 /// A value that its field has no width for, or that only its limit forbids.
 fn far_above(rng: &mut Rng, rows: &mut Rows) -> String {
-    let (kind, row, field) = any_limited(rng, rows);
+    let (mut kind, mut row, mut field) = any_field(rng, rows);
+    let (which, soils) = (rng.below(VALUES), rows.soil.len());
+    if soils > 0 && rng.one_in(8) {
+        // A number that two bytes would take for another.
+        (kind, row, field) = (7, rng.below(soils), SOIL_TYPE);
+    }
     let limit = fields(kind)[field].most;
-    let value = value(rng.below(VALUES), limit, rng).max(limit + 1);
+    let value = value(which, limit, rng).max(limit + 1);
     rows.row(kind, row)[field] = value;
     format!(", 6: {value} at kind {kind} row {row} field {field}")
 }
@@ -101,8 +104,7 @@ pub const UNKNOWN_EDITIONS: [u32; 18] = [
     1 << 24, 1 << 31, (1 << 31) + 1, (1 << 31) + 2, u32::MAX - 1, u32::MAX,
 ];
 
-/// Another edition: one that there isn't, or 1, which has neither abandoned land
-/// nor savannas.
+/// Another edition: one that there isn't, or 1, which has no kinds above 4.
 fn break_edition(rng: &mut Rng, made: &mut RowLists) {
     let any = rng.from_to(3, u32::MAX);
     made.edition = match rng.below(4) {

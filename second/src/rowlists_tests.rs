@@ -10,12 +10,12 @@ fn answer(made: &RowLists) -> u32 {
 
 #[test]
 fn every_index_makes_lists() {
-    let mut given = [0; 13];
+    let mut given = [0; 14];
     for index in 0..row_sweeps::size() {
         let made = row_sweeps::case(index, &mut Rng::for_input(41, index as u64));
         given[(answer(&made) / 1000) as usize] += 1;
     }
-    for number in [0, 5, 6, 7, 10, 12] {
+    for number in [0, 5, 6, 7, 10, 12, 13] {
         assert!(given[number] > 20, "{given:?}");
     }
     assert_eq!(given[8], 0, "8 is never given again");
@@ -24,7 +24,7 @@ fn every_index_makes_lists() {
 
 #[test]
 fn every_answer_comes_often() {
-    let mut given = [0; 13];
+    let mut given = [0; 14];
     let mut places = [0; KINDS.len() + 1];
     // 20,000 for the first six kinds, and for each kind more as many more.
     for index in 0..20_000 * KINDS.len() as u64 / 6 {
@@ -34,7 +34,7 @@ fn every_answer_comes_often() {
             places[(answer % 1000) as usize] += 1;
         }
     }
-    for number in [0, 5, 6, 7, 10, 12] {
+    for number in [0, 5, 6, 7, 10, 12, 13] {
         assert!(given[number] > 600, "{given:?}");
     }
     assert_eq!(given[8], 0, "8 is never given again");
@@ -44,7 +44,7 @@ fn every_answer_comes_often() {
 #[test]
 fn numbers_broken_alone_are_given() {
     let mut rng = Rng::new(43);
-    for number in [5, 6, 7, 10, 12] {
+    for number in [5, 6, 7, 10, 12, 13] {
         for _ in 0..1_000 {
             let made = broken(&mut rng, &[number]);
             assert_eq!(answer(&made) / 1000, number, "{}", made.how);
@@ -208,6 +208,12 @@ fn places_of_later_kinds() {
         let mut rows = Rows::good_in(&mut Rng::new(46), 2, counts);
         (0..32).for_each(|row| rows.row(kind, row)[0] = 7 + row as u32);
         let judged = |rows: &Rows| answer(&RowLists::of(String::new(), rows));
+        // Soils without area are even, whatever their types are.
+        let areas = |rows: &mut Rows, area: u32| {
+            let soils = rows.soil.iter_mut();
+            soils.for_each(|row| (row[3], row[4]) = (area, area));
+        };
+        areas(&mut rows, 0);
         assert_eq!(judged(&rows), 0);
         let fields = fields(kind);
         for (at, field) in fields.iter().enumerate().skip(1) {
@@ -218,8 +224,12 @@ fn places_of_later_kinds() {
                     assert_eq!(judged(&rows), 6000 + place, "kind {kind} field {at}");
                 }
                 rows.row(kind, row)[at] = field.most;
+                if kind == 7 && [3, 4].contains(&at) {
+                    areas(&mut rows, field.most);
+                }
                 assert_eq!(judged(&rows), 0, "kind {kind} field {at}");
                 rows.row(kind, row)[at] = good;
+                areas(&mut rows, 0);
             }
         }
         // Of two the lower place, and 5 before 6.

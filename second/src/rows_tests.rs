@@ -140,16 +140,23 @@ fn short_rooms_are_refused_by_kind() {
     for (rows, due) in [(16, 0), (15, 9004), (10, 9004), (9, 9003), (0, 9003)] {
         assert_eq!(Memory::new(rows, COUNTS_ROOM).read(&bytes), due, "{rows}");
     }
-    // Two rows of abandoned land more end at element 30, two savannas at 58.
-    let second = |a, v| Rows::good_in(&mut Rng::new(95), 2, [0, 0, 2, a, v]).to_bytes();
-    for (bytes, rooms) in [
+    // Two rows of abandoned land more end at element 30, two savannas at 58, two soils at
+    // 76.
+    let second = |later: [usize; 3]| {
+        let [a, v, s] = later;
+        Rows::good_in(&mut Rng::new(95), 2, [0, 0, 2, a, v, s]).to_bytes()
+    };
+    for (later, rooms) in [
         (
-            second(2, 0),
+            [2, 0, 0],
             &[(30, 0), (29, 9005), (16, 9005), (15, 9004)][..],
         ),
-        (second(2, 2), &[(58, 0), (57, 9006), (30, 9006), (29, 9005)]),
-        (second(0, 2), &[(44, 0), (43, 9006), (16, 9006), (15, 9004)]),
+        ([2, 2, 0], &[(58, 0), (57, 9006), (30, 9006), (29, 9005)]),
+        ([0, 2, 0], &[(44, 0), (43, 9006), (16, 9006), (15, 9004)]),
+        ([2, 2, 2], &[(76, 0), (75, 9007), (58, 9007), (57, 9006)]),
+        ([0, 0, 2], &[(34, 0), (33, 9007), (16, 9007), (15, 9004)]),
     ] {
+        let bytes = second(later);
         for &(rows, due) in rooms {
             assert_eq!(Memory::new(rows, COUNTS_ROOM).read(&bytes), due, "{rows}");
             assert_eq!(

@@ -1,5 +1,6 @@
-//! Worksheets 5-1, 5-2 and 5-3 of the paper (01), 5-4 (02, §1) and 4-3 (02, §5,
-//! in `savanna`), in whole numbers, with the count of thinner periods (02, §3).
+//! Worksheets 5-1, 5-2 and 5-3 of the paper (01), 5-4 (02, §1), 4-3 (02, §5, in
+//! `savanna`) and 5-5 (02, §11, in `soil`), in whole numbers, with the count of thinner
+//! periods (02, §3).
 //!
 //! The largest values at the limits say how wide each figure must be:
 //! E 3.2 x 10^15, K 3.84 x 10^12, L 3.2 x 10^14, O 3.84 x 10^17, 11 P
@@ -12,6 +13,7 @@ use crate::judge::{check, four, two, Checked, Record, Refusal};
 use crate::land::{Conversion, Period, Share};
 use crate::rounding::Tonnes;
 use crate::savanna::Savannas;
+use crate::soil;
 use crate::text::{Text, FIGURES};
 
 /// Every figure that isn't a plain sum or turn of another.
@@ -40,6 +42,8 @@ pub struct Worksheets {
     pub savanna_co: u64,
     pub savanna_n2o: u64,
     pub savanna_nox: u64,
+    pub soil: i64,
+    pub soil_change: i64,
 }
 
 /// The worksheets of a return, or its refusal.
@@ -98,6 +102,8 @@ pub(crate) struct Sums {
     /// "the number of (row, period) pairs with after above before"
     thinner: u64,
     savannas: Savannas,
+    /// Soil carbon now less that of twenty years ago.
+    soil: i64,
     /// N, CH4, CO, N/C, N2O and NOx.
     parameters: [u64; 6],
 }
@@ -123,6 +129,7 @@ impl Sums {
             uptake: checked.records(5).map(regrown).sum(),
             thinner,
             savannas: Savannas::of(checked.records(6)),
+            soil: soil::gained(checked.records(7)),
             parameters: [4, 6, 8, 10, 12, 14].map(|at| u64::from(two(parameters, at))),
         }
     }
@@ -140,8 +147,8 @@ impl Sums {
         100 * self.e as i64 - self.o()
     }
 
-    /// Q, co2, ch4, co, n2o, nox, uptake_co2 and the gases of savannas before they
-    /// are rounded.
+    /// Q, co2, ch4, co, n2o, nox, uptake_co2, the gases of savannas and the yearly change
+    /// of soils before they are rounded.
     fn tonnes(&self) -> [Tonnes; ROUNDED.len() - 1] {
         let [_, ch4, co, nitrogen, n2o, nox] = self.parameters;
         // "from on-site carbon C only"
@@ -163,12 +170,13 @@ impl Sums {
             savanna_co,
             savanna_n2o,
             savanna_nox,
+            soil::yearly(self.soil),
         ]
     }
 }
 
 /// The figures that are rounded.
-pub const ROUNDED: [&str; 12] = [
+pub const ROUNDED: [&str; 13] = [
     "Q",
     "report",
     "co2",
@@ -181,7 +189,10 @@ pub const ROUNDED: [&str; 12] = [
     "savanna_co",
     "savanna_n2o",
     "savanna_nox",
+    "soil_change",
 ];
+/// Those of them that may be below zero.
+pub const SIGNED: [&str; 3] = ["Q", "report", "soil_change"];
 
 /// Each of [`ROUNDED`] before it is rounded.
 pub fn exact_tonnes(checked: Checked) -> [Tonnes; ROUNDED.len()] {
@@ -196,8 +207,8 @@ pub fn exact_tonnes(checked: Checked) -> [Tonnes; ROUNDED.len()] {
 impl Worksheets {
     pub fn of(checked: Checked) -> Self {
         let sums = Sums::of(checked);
-        let [q, rest @ ..] = sums.tonnes().map(Tonnes::rounded);
-        // Only P goes below zero.
+        let [q, rest @ .., soil_change] = sums.tonnes().map(Tonnes::rounded);
+        // Only P and the soils go below zero.
         let [co2, ch4, co, n2o, nox, uptake_co2, savannas @ ..] = rest.map(i64::unsigned_abs);
         let [savanna_ch4, savanna_co, savanna_n2o, savanna_nox] = savannas;
         Worksheets {
@@ -224,6 +235,8 @@ impl Worksheets {
             savanna_co,
             savanna_n2o,
             savanna_nox,
+            soil: sums.soil,
+            soil_change,
         }
     }
 
@@ -268,6 +281,8 @@ impl Worksheets {
             ("savanna_co ", Above(self.savanna_co)),
             ("savanna_n2o ", Above(self.savanna_n2o)),
             ("savanna_nox ", Above(self.savanna_nox)),
+            ("soil ", Signed(self.soil)),
+            ("soil_change ", Signed(self.soil_change)),
         ]
     }
 

@@ -2,17 +2,16 @@
 
 use crate::coverage::{Coverage, Due, Sorts};
 use crate::lists::Lists;
-use crate::{burned, thinner};
+use crate::{burned, thinner, tilled};
 
 /// Counters for each of them.
-pub struct RowSorts([Sorts<Lists>; 2]);
+pub struct RowSorts([Sorts<Lists>; 3]);
 
 impl RowSorts {
     /// So many of each sort are due.
     pub fn new(due: Due, coverage: &mut Coverage) -> Self {
-        RowSorts(
-            [&thinner::SORTS[..], &burned::SORTS].map(|table| Sorts::new(table, due, coverage)),
-        )
+        let tables = [&thinner::SORTS[..], &burned::SORTS, &tilled::SORTS];
+        RowSorts(tables.map(|table| Sorts::new(table, due, coverage)))
     }
 
     /// Counts an accepted input by its rows.

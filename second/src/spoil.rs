@@ -1,8 +1,8 @@
-//! Rows that are bad in one chosen way: numbers 5 to 7 of the paper, and 12 of the
-//! request on fuelwood (02, §8).
+//! Rows that are bad in one chosen way: numbers 5 to 7 of the paper, 12 of the request
+//! on fuelwood (02, §8), and 13 of that on soils (02, §11).
 
 use crate::kinds::Field;
-use crate::make::{fields, Rows, FIRST_WITH_IDS, SUMMED, WITH_IDS};
+use crate::make::{fields, unbalance, Rows, FIRST_WITH_IDS, SUMMED, WITH_IDS};
 use crate::rng::Rng;
 
 /// How an id fails to be above the one before it.
@@ -164,14 +164,27 @@ fn any_with_ids(rng: &mut Rng, rows: &Rows) -> u8 {
     WITH_IDS[rng.below(known)]
 }
 
-/// Any field but an id: its kind, row and position.
+/// Any field whose bytes hold more than its limit: its kind, row and position.
 pub fn any_limited(rng: &mut Rng, rows: &Rows) -> (u8, usize, usize) {
+    let (kind, row) = any_row(rng, rows);
+    (kind, row, any_limited_of(rng, kind))
+}
+
+/// Any field but an id, those that fill their bytes included: as a number of 32 bits it
+/// may be above its limit all the same.
+pub fn any_field(rng: &mut Rng, rows: &Rows) -> (u8, usize, usize) {
+    let (kind, row) = any_row(rng, rows);
+    let first = usize::from(kind != 4);
+    (kind, row, first + rng.below(fields(kind).len() - first))
+}
+
+fn any_row(rng: &mut Rng, rows: &Rows) -> (u8, usize) {
     let kind = match rng.below(5) {
         0 => 1,
         1 => 4,
         _ => any_with_ids(rng, rows),
     };
-    (kind, rng.below(rows.len(kind)), any_limited_of(rng, kind))
+    (kind, rng.below(rows.len(kind)))
 }
 
 /// Any field of a kind whose bytes hold more than its limit.
@@ -181,8 +194,22 @@ pub fn any_limited_of(rng: &mut Rng, kind: u8) -> usize {
     rng.pick(&limited.map(|(at, _)| at).collect::<Vec<_>>())
 }
 
-/// Breaks one of the numbers 5 to 7 at a random place, or 12. The rows must hold two
-/// or more of each kind with ids that their edition has.
+/// Good rows in which each of these numbers can be broken: two or more of each kind with
+/// ids that their edition has, and soils where they are wanted.
+pub fn to_be_spoiled(rng: &mut Rng, numbers: &[u32]) -> Rows {
+    if numbers.contains(&13) {
+        Rows::good_later(rng, 2)
+    } else {
+        Rows::good_from(rng, 2)
+    }
+}
+
+/// The order in which numbers are broken in rows, so that none undoes another: 12 and 13
+/// are brought about in rows that are good.
+pub const SPOILED: [u32; 5] = [13, 12, 7, 6, 5];
+
+/// Breaks one of the numbers 5 to 7 at a random place, or 12 or 13, in rows that are
+/// [`to_be_spoiled`].
 pub fn spoil(rng: &mut Rng, rows: &mut Rows, number: u32) -> String {
     match number {
         5 => {
@@ -209,6 +236,7 @@ pub fn spoil(rng: &mut Rng, rows: &mut Rows, number: u32) -> String {
             format!("7: at row {row}")
         }
         12 => format!("12: by {}", spoil_clearing(rng, rows)),
+        13 => format!("13: {}", unbalance(rng, &mut rows.soil)),
         _ => unreachable!("number {number} is not broken in rows"),
     }
 }
@@ -221,9 +249,9 @@ mod tests {
     #[test]
     fn each_number_broken_alone_is_given() {
         let mut rng = Rng::new(11);
-        for number in [5, 6, 7, 12] {
+        for number in SPOILED {
             for _ in 0..2_000 {
-                let mut rows = Rows::good_from(&mut rng, 2);
+                let mut rows = to_be_spoiled(&mut rng, &[number]);
                 let how = spoil(&mut rng, &mut rows, number);
                 match judge(&rows.to_bytes()) {
                     Verdict::Refused(Refusal { number: given, .. }) => {

@@ -9,6 +9,7 @@ use crate::make::{zero_areas, RowCounts, Rows, BLOCK, CHECK_AT, FIRST_WITH_IDS};
 use crate::make::{LIMITED, MOST_BLOCKS, MOST_ROWS, SUMMED, WITH_IDS};
 use crate::order_sweeps::{crowds, editions, orders, CROWDS, EDITIONS, ORDERS};
 use crate::rng::Rng;
+use crate::soil_sweeps::{each, pairs, sums, with_13, EACH, PAIRS, SUMS, WITH_13};
 use crate::spoil::{spoil_id, spoil_limit, ABOVES, BAD_IDS};
 use crate::wood_sweeps::{alone, balances, with_12, ALONE, BALANCES, WITH_12};
 
@@ -40,6 +41,10 @@ static FAMILIES: Families<Case> = Families(&[
     (BALANCES, balances),
     (ALONE, alone),
     (WITH_12, with_12),
+    (SUMS, sums),
+    (EACH, each),
+    (PAIRS, pairs),
+    (WITH_13, with_13),
 ]);
 
 /// How many inputs the sweeps have together.
@@ -212,8 +217,7 @@ fn limits(index: usize, rng: &mut Rng) -> Case {
         spoil_limit(rng, &mut rows, (kind, row, field), ABOVES[way]);
     } else {
         at_limit(&mut rows, kind, row, field);
-        // A large conversion row has to have its harvest.
-        rows.cover_with_more(rng, 0);
+        rows.make_good_again(rng, kind, field);
     }
     let how = format!("kind {kind} row {row} field {field} limit way {way}");
     Case {

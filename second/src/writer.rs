@@ -1,5 +1,6 @@
 //! Writing: rows in one lent area, kind after kind, into the blocks of a return.
 
+use crate::areas::Areas;
 use crate::judge::{Record, Refusal};
 use crate::kinds::{FirstPlaces, Kind, EDITIONS, KINDS};
 use crate::wood::Wood;
@@ -33,8 +34,9 @@ pub fn write(
 /// How many rows of each kind there are.
 type Counts = [usize; KINDS.len()];
 
-/// "Writing: 10, then 5 to 9", without 8 (02, §3) and with 12 "straight after 7" (02,
-/// §8). The rows of each kind, and the blocks they take.
+/// "Writing: 10, then 5 to 9", without 8 (02, §3), with 12 "straight after 7" (02, §8)
+/// and 13 "straight after 12" (02, §11). The rows of each kind, and the blocks they
+/// take.
 fn checked(
     edition: u32,
     rows: &[u32],
@@ -47,6 +49,12 @@ fn checked(
         return Err(Refusal {
             number: 12,
             place: 0,
+        });
+    }
+    if let Some(uneven) = areas_of(rows, &counts).uneven() {
+        return Err(Refusal {
+            number: 13,
+            place: uneven.place as u32,
         });
     }
     let blocks = counts
@@ -130,6 +138,22 @@ fn wood_of(rows: &[u32], counts: &Counts) -> Wood {
         }
     }
     wood
+}
+
+/// The areas of number 13, of rows within their limits, each at the place "where it
+/// would stand".
+fn areas_of(rows: &[u32], counts: &Counts) -> Areas {
+    let (mut areas, mut first_block) = (Areas::default(), 0);
+    for (number, kind, count, rows) in parts(rows, counts) {
+        if number == 7 {
+            let places = RECORDS_PER_BLOCK * first_block..;
+            for (row, place) in rows.chunks(kind.numbers).zip(places) {
+                areas.add(place, [row[2], row[3], row[4]]);
+            }
+        }
+        first_block += count.div_ceil(RECORDS_PER_BLOCK);
+    }
+    areas
 }
 
 /// Fills `room`, which is exactly as long as the blocks.

@@ -1,3 +1,3 @@
 pub mod Weighing
-pub mod KindRows
+pub mod TwoParts
 pub mod Parts

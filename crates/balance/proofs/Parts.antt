@@ -1,14 +1,14 @@
 -- The parts of rows to be written, by the list's own numbers, and how large they are. Assumes nothing.
 use Prim.Native.Nat.{ℕ, zero, suc, _+_, _*_, _^_, _≤_, _<_}
 use mathlib.Core.Path.{_≡_, refl, _∙_}
-use mathlib.Core.List.{List, [], _∷_, _++_}
+use mathlib.Core.List.{List}
 use native.Mathlib.Numerals.{bound}
 use native.Mathlib.Nat.{le-pred-of-lt}
 use native.Mathlib.Omega.{arith}
 use lib.Dec.{lit<}
 use lib.ListN.{getD}
 use Rattle.form.specs.Records.{countedDifference}
-use Rattle.form.specs.Sums.{sumOf, harvestPart, clearedPart}
+use Rattle.form.specs.Sums.{harvestPart, clearedPart}
 use Rattle.filing.specs.Lists.{rowOf}
 use Rattle.lists.proofs.Numbers.{number-in}
 use Rattle.balance.specs.Wood.{woodPart}
@@ -43,9 +43,3 @@ few n m e h = omega arith
 
 pub next-fits : (j n : ℕ) → j < n → n ≤ 32 → j + 1 < 2 ^ 64
 next-fits j n h l = omega arith
-
--- one row more
-pub sum-more : (f : List ℕ → ℕ) (rs : List (List ℕ)) (r : List ℕ) → sumOf f (rs ++ (r ∷ [])) ≡ sumOf f rs + f r
-unfolding sumOf
-sum-more f [] r = omega arith
-sum-more f (x ∷ rs) r = omega (arith, sum-more f rs r)

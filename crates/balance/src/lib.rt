@@ -1,4 +1,4 @@
-// The rules that add rows up: 12, wood. Of a return's bytes here, and of rows to be written in `unwritten`.
+// The rules that add rows up, in their order: 12, wood, which is worked out here, and 13, areas. Of a return's bytes here, and of rows to be written in `unwritten`.
 pub mod unwritten;
 
 ghost use mathlib.Core.Path.{_≡_};
@@ -7,6 +7,7 @@ ghost use Rattle.form.specs.Records.{filed};
 ghost use Rattle.form.specs.Sums.{sumRules};
 ghost use Rattle.form.specs.Verdict.{rows, Formed};
 ghost use Rattle.balance.specs.Wood.{woodOf, woodRules};
+use areas::rule_areas;
 use form::Counts;
 use form::Ruling;
 use sums::sum_cleared;
@@ -52,5 +53,8 @@ pub fn rule_sums(bytes: &[u8], c: Counts) -> Ruling
     requires { ⌜ Formed (now bytes) c ⌝ }
     ensures { λ r. ⌜ r ≡ ruling (sumRules (filed (now (bytes .entry)))) ⌝ }
 {
-    rule_wood(weigh_wood(bytes, c))
+    match rule_wood(weigh_wood(bytes, c)) {
+        Ruling::Broken { number, place } => Ruling::Broken { number, place },
+        Ruling::Clean => rule_areas(bytes, c),
+    }
 }

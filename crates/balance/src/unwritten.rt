@@ -12,6 +12,7 @@ ghost use Rattle.wide.specs.Numbers.{value, Is};
 ghost use Rattle.balance.specs.Wood.{woodOf, woodPart};
 use crate::Wood;
 use crate::rule_wood;
+use areas::rule_unwritten;
 use form::Ruling;
 use form::counted_difference;
 use lists::count;
@@ -102,5 +103,8 @@ pub fn rule_lists(lengths: &[u32], area: &[u32]) -> Ruling
     requires { ⌜ Good (now lengths) (length (now area)) ⌝ }
     ensures { λ r. ⌜ r ≡ ruling (sumRules (filedLists (cut (now (lengths .entry)) (now (area .entry))))) ⌝ }
 {
-    rule_wood(weigh_lists(lengths, area))
+    match rule_wood(weigh_lists(lengths, area)) {
+        Ruling::Broken { number, place } => Ruling::Broken { number, place },
+        Ruling::Clean => rule_unwritten(lengths, area),
+    }
 }

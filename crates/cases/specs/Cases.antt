@@ -1,4 +1,4 @@
--- "Proved as a single table, under one claim about all of it": 01's cases (a) to (j), seven of edition 2, four of halves, one of a row thinner in both periods, one of the largest savannas and two of wood, each a whole return with its complete answer, every figure of it.
+-- "Proved as a single table, under one claim about all of it": 01's cases (a) to (j), seven of edition 2, four of halves, one of a row thinner in both periods, one of the largest savannas, two of wood, three of mineral soils and two of number 13, each a whole return with its complete answer, every figure of it.
 -- Where the case is about rows, the return is made of them by the definition of writing; where it is about bytes, the bytes stand here. An accepted return of rows is answered from the rows (FromRows), any other from its bytes.
 use Prim.Native.Nat.{ℕ, zero, suc}
 use mathlib.Core.Path.{_≡_, refl, ap, ap₂, _∙_}
@@ -34,6 +34,8 @@ use Rattle.burning.specs.Gases.{gas, gasesOf}
 use Rattle.burning.specs.declared.Gases.{Gases}
 use Rattle.savannas.specs.Savannas.{carbonShare, carbonPart, savannasOf}
 use Rattle.savannas.specs.declared.Savannas.{Savannas}
+use Rattle.soils.specs.Soils.{soilCarbon, stockNow, stockThen, allStocks, soilGain, soilChange, soilsOf}
+use Rattle.soils.specs.declared.Soils.{Soils}
 use Rattle.ledger.specs.Ledger.{entered}
 use Rattle.ledger.specs.Derived.{stocksOf, conversionOf}
 use Rattle.ledger.specs.declared.Stocks.{Stocks}
@@ -73,11 +75,11 @@ abbrev pub caseOf : Entry → Case
 caseOf (of-rows edition l a) = record { bytes = written edition l; answer = a }
 caseOf (of-bytes s a) = record { bytes = s; answer = a }
 
-abbrev figured : Stocks → Conversion × Periods → Gases → Abandoned → Savannas → List ℕ → Complete
-figured a b c l v d = record { sheets = worked (record { stocks = a; conversion = b .0; thinner = b .1; gases = c; abandoned = l; savannas = v }); doubles = d }
+abbrev figured : Stocks → Conversion × Periods → Gases → Abandoned → Savannas → Soils → List ℕ → Complete
+figured a b c l v s d = record { sheets = worked (record { stocks = a; conversion = b .0; thinner = b .1; gases = c; abandoned = l; savannas = v; soils = s }); doubles = d }
 
-abbrev pub worked-all : ℕ → Lists → Stocks → Conversion × Periods → Gases → Abandoned → Savannas → List ℕ → Entry
-worked-all edition rows a b c l v d = of-rows edition rows (figured a b c l v d)
+abbrev pub worked-all : ℕ → Lists → Stocks → Conversion × Periods → Gases → Abandoned → Savannas → Soils → List ℕ → Entry
+worked-all edition rows a b c l v s d = of-rows edition rows (figured a b c l v s d)
 
 -- the lines of 01, in their order, and the thinner periods with 5-2
 abbrev pub sheet51 : ℕ → ℕ → ℕ → ℤ → ℤ → ℤ → ℤ → ℤ → Stocks
@@ -96,12 +98,19 @@ sheet54 u c = record { uptake = carbon u; co2 = co2 c }
 abbrev pub sheet43 : ℕ → ℕ → ℕ → ℕ → ℕ → Savannas
 sheet43 b h c n x = record { carbon = carbon b; gases = sheet53 h c n x }
 
--- with none
+-- mineral soils: soil and soil_change
+abbrev pub sheet55 : ℤ → ℤ → Soils
+sheet55 g c = record { soil = soilGain g; change = soilChange c }
+
+-- with neither
 abbrev none43 : Savannas
 none43 = sheet43 0 0 0 0 0
 
+abbrev none55 : Soils
+none55 = sheet55 (pos 0) (pos 0)
+
 abbrev pub worked-out : ℕ → Lists → Stocks → Conversion × Periods → Gases → Abandoned → List ℕ → Entry
-worked-out edition rows a b c l d = worked-all edition rows a b c l none43 d
+worked-out edition rows a b c l d = worked-all edition rows a b c l none43 none55 d
 
 abbrev pub refused : List ℕ → ℕ → ℕ → Entry
 refused s n p = of-bytes s (record { sheets = refusal n p; doubles = [] })
@@ -153,13 +162,13 @@ largest i (suc n) = row i 1000000 10000 0 1000 ++ largest (suc i) n
 
 -- conversion rows alone, with harvest rows, and stock rows alone, with the default parameters
 abbrev converted : List ℕ → Lists
-converted c = c ∷ [] ∷ [] ∷ defaults ∷ [] ∷ [] ∷ []
+converted c = c ∷ [] ∷ [] ∷ defaults ∷ [] ∷ [] ∷ [] ∷ []
 
 abbrev cleared : List ℕ → List ℕ → Lists
-cleared c h = c ∷ [] ∷ h ∷ defaults ∷ [] ∷ [] ∷ []
+cleared c h = c ∷ [] ∷ h ∷ defaults ∷ [] ∷ [] ∷ [] ∷ []
 
 abbrev grown : List ℕ → Lists
-grown s = [] ∷ s ∷ [] ∷ defaults ∷ [] ∷ [] ∷ []
+grown s = [] ∷ s ∷ [] ∷ defaults ∷ [] ∷ [] ∷ [] ∷ []
 
 -- 10 kha growing 6.8 t/ha a year, half of it carbon; and 20 kha, abandoned longer, growing 3 t/ha, 0.45 of it carbon
 abbrev land : List ℕ
@@ -180,9 +189,17 @@ largestFires i (suc n) =
     i ∷ 1000000 ∷ 10000 ∷ 1000 ∷ 500 ∷ 1000 ∷ 1000 ∷ 1000 ∷ 1000 ∷ 1000 ∷ 1000 ∷ 1000 ∷ 1000 ∷ 1000
     ∷ largestFires (suc i) n
 
--- the worked day's rows with a row of grass behind its conversion row, and a row of abandoned land and one of savanna behind all
+-- one soil type with 60 t/ha: of 5 Mha of forest and 1 Mha of fields, which keep 0.6 x 0.9 x 0.8 of the carbon, 1 Mha of forest became fields
+abbrev felled : List ℕ
+felled = 1 ∷ 0 ∷ 1 ∷ 4000 ∷ 5000 ∷ 600 ∷ 100 ∷ 100 ∷ 100 ∷ 2 ∷ 1 ∷ 1 ∷ 2000 ∷ 1000 ∷ 600 ∷ 60 ∷ 90 ∷ 80 ∷ []
+
+-- an area with 0.01 t/ha that became bare rock: for each 1,000 ha 10 t of carbon are lost, which is half a tonne a year
+abbrev lost : ℕ → List ℕ
+lost area = 1 ∷ 0 ∷ 0 ∷ 0 ∷ area ∷ 1 ∷ 100 ∷ 100 ∷ 10 ∷ 2 ∷ 1 ∷ 0 ∷ area ∷ 0 ∷ 0 ∷ 100 ∷ 100 ∷ 100 ∷ []
+
+-- the worked day's rows with a row of grass behind its conversion row, and a row of abandoned land, one of savanna and those of the felled forest behind all
 abbrev with-land : Lists
-with-land = cut (30 ∷ 5 ∷ 5 ∷ 6 ∷ 7 ∷ 14 ∷ []) (take 15 dayArea ++ (grass ++ (drop 15 dayArea ++ (land ++ burning))))
+with-land = cut (30 ∷ 5 ∷ 5 ∷ 6 ∷ 7 ∷ 14 ∷ 18 ∷ []) (take 15 dayArea ++ (grass ++ (drop 15 dayArea ++ (land ++ (burning ++ felled)))))
 
 -- edition 2 blocks of these kinds, of n in all, the first being number b, each with one row of zeros
 unfoldable pub blocksFrom : ℕ → ℕ → List ℕ → List ℕ
@@ -195,7 +212,7 @@ twice-thinner = 1 ∷ 7 ∷ 49 ∷ 100 ∷ 500 ∷ 900 ∷ 450 ∷ 300 ∷ 900 �
 
 -- an area burned whole, at a difference of 1 and a fraction of 250, and land that was given up, at a growth of 10 and a carbon fraction of 100
 abbrev burned : ℕ → ℕ → Lists
-burned area young = row 1 area 1 0 250 ∷ [] ∷ [] ∷ defaults ∷ (1 ∷ young ∷ 10 ∷ 100 ∷ 0 ∷ 0 ∷ 0 ∷ []) ∷ [] ∷ []
+burned area young = row 1 area 1 0 250 ∷ [] ∷ [] ∷ defaults ∷ (1 ∷ young ∷ 10 ∷ 100 ∷ 0 ∷ 0 ∷ 0 ∷ []) ∷ [] ∷ [] ∷ []
 
 abbrev table01 : List Entry
 table01 =
@@ -207,7 +224,7 @@ table01 =
     none54
     (4809131602776948736 ∷ 4804628003149578240 ∷ 4810524802404319232 ∷ [])
     -- (b) "the lone parameter block of zero values, check 18: all figures 0"
-    ∷ of-bytes (lone 18) (figured none51 none52 none53 none54 none43 zeros)
+    ∷ of-bytes (lone 18) (figured none51 none52 none53 none54 none43 none55 zeros)
     -- (c) "P = 1,500,000 gives Q = 6": a stock row of 15 x 100 x 10
     ∷ worked-out 1 (grown (1 ∷ 0 ∷ 100 ∷ 15 ∷ 10 ∷ [])) (sheet51 15000 0 0 (pos 0) (pos 0) (pos 1500000) (pos 6) (negsuc 5)) none52 none53 none54 zeros
     -- (d) "P = -1,500,000 gives -6": wood used, 40, above the wood cleared, 10 x 10 x 10, at N 500
@@ -235,19 +252,20 @@ table01 =
 -- and of edition 2
 abbrev table-1 : List Entry
 table-1 =
-    -- the day in edition 2 with a row of grass, which is thinner in its one period, one of abandoned land, 34 + 27 kt C by 11/3, and one of savanna: (a)'s figures, and
-    -- 29,750,000 x (162,000,000 + 220,000,000), which is 60.6, 1,591.03, 0.75 and 27.1 t
+    -- the day in edition 2 with a row of grass, which is thinner in its one period, one of abandoned land, 34 + 27 kt C by 11/3, one of savanna and two of soil: (a)'s figures, and
+    -- 29,750,000 x (162,000,000 + 220,000,000), which is 60.6, 1,591.03, 0.75 and 27.1 t; and a balanced change of land use, 34.08 t/ha lost on 1 Mha in twenty years
     worked-all 2 with-land
     (sheet51 340000000 775000 36000000 (pos 41500000) (pos 20750000000) (pos 13250000000) (pos 48583) (negsuc 48582))
     (sheet52 32400000000000 16200000000000 48600000000000 40500000000000 326700 1)
     (sheet53 518 4536 4 129)
     (sheet54 610000000 223667)
     (sheet43 11364500000000000 61 1591 1 27)
+    (sheet55 (negsuc 340799999999) (negsuc 1703999))
     (4809131602776948736 ∷ 4804628003149578240 ∷ 4810524802404319232 ∷ [])
     -- the same rows in edition 1: "3 for .. a kind above 4 in edition 1", at the block of abandoned land
     ∷ refused (written 1 with-land) 3 4
     -- edition 2 that ends with a harvest row: "4 .. a last block below kind 4"
-    ∷ refused (written 2 ([] ∷ [] ∷ used 30 ∷ [] ∷ [] ∷ [] ∷ [])) 4 0
+    ∷ refused (written 2 ([] ∷ [] ∷ used 30 ∷ [] ∷ [] ∷ [] ∷ [] ∷ [])) 4 0
     -- "kind 4 before a kind below 5", at the block of kind 4; "a kind above 4 with no kind 4 before it"
     ∷ refused (blocksFrom 0 2 (4 ∷ 3 ∷ [])) 4 0
     ∷ refused (blocksFrom 0 1 (5 ∷ [])) 4 0
@@ -275,8 +293,9 @@ table-3 = worked-out 1 (converted twice-thinner) none51 (thin52 2) none53 none54
 -- 32 of the largest savanna rows: 10^22 each, beyond one word
 abbrev table-5 : List Entry
 table-5 =
-    worked-all 2 ([] ∷ [] ∷ [] ∷ defaults ∷ [] ∷ largestFires 1 32 ∷ []) none51 none52 none53 none54
+    worked-all 2 ([] ∷ [] ∷ [] ∷ defaults ∷ [] ∷ largestFires 1 32 ∷ [] ∷ []) none51 none52 none53 none54
     (sheet43 320000000000000000000000 426666666667 746666666667 502857142857 1051428571429)
+    none55
     zeros
     ∷ []
 
@@ -287,8 +306,35 @@ table-8 =
     ∷ refused (written 1 (cleared (wood 101 1 0 1 0) (used 1))) 12 0
     ∷ []
 
+-- mineral soils alone
+abbrev soil-rows : List ℕ → Lists
+soil-rows rows = [] ∷ [] ∷ [] ∷ defaults ∷ [] ∷ [] ∷ rows ∷ []
+
+abbrev soiled : List ℕ → ℤ → ℤ → Entry
+soiled rows g c = worked-all 2 (soil-rows rows) none51 none52 none53 none54 none43 (sheet55 g c) zeros
+
+-- below zero too a half of a year's change goes to even: from -2.5 to -2, from -1.5 to -2, and from -0.5 to 0, which has no sign
+abbrev table-11 : List Entry
+table-11 =
+    soiled (lost 5) (negsuc 499999) (negsuc 1)
+    ∷ soiled (lost 3) (negsuc 299999) (negsuc 1)
+    ∷ soiled (lost 1) (negsuc 99999) (pos 0)
+    ∷ []
+
+-- one patch of a soil type, by its id and its areas now and twenty years ago
+abbrev patch : ℕ → ℕ → ℕ → ℕ → List ℕ
+patch i type area before = i ∷ 1 ∷ type ∷ area ∷ before ∷ 700 ∷ 100 ∷ 100 ∷ 100 ∷ []
+
+abbrev table-13 : List Entry
+table-13 =
+    -- 13 at a type that is not the first in the return, and with a lower one in balance; its first row is the place, though that row does not differ by itself
+    refused (written 2 (soil-rows (patch 1 3 9 10 ++ (patch 2 8 4 4 ++ (patch 3 3 6 5 ++ patch 4 8 2 3))))) 13 13
+    -- two types out of balance: the lower one, later in the return
+    ∷ refused (written 2 (soil-rows (patch 1 8 4 5 ++ (patch 2 3 1 1 ++ patch 3 3 1 2)))) 13 13
+    ∷ []
+
 abbrev entries : List Entry
-entries = table01 ++ (table-1 ++ (table-2 ++ (table-3 ++ (table-5 ++ table-8))))
+entries = table01 ++ (table-1 ++ (table-2 ++ (table-3 ++ (table-5 ++ (table-8 ++ (table-11 ++ table-13))))))
 
 abbrev pub table : List Case
 table = map caseOf entries
@@ -327,7 +373,7 @@ in-turn (e ∷ es) p =
     (in-turn es (ap (λ (l : List (Ruling × Complete)). drop 1 l) p))
 
 all-worked : map worksOut entries ≡ map wanted entries
-unfolding toBits ofInt mul add onsiteDouble offsiteDouble decayDouble addRows largest largestFires blocksFrom computed cut filedList behind filedFrom littleEndian recordFrom inTurn headOf sealed weighed recordOn usedFrom bodyOf blockOf bytesOf rowsBelow rowFrom number evenOf settled sumOf stockPart harvestPart clearedPart onsitePart offsitePart decayPart countedDifference thinnerPart stocksOf conversionOf gasesOf abandonedOf abandonedPart savannasOf rowsFrom flatten total badList badLengths notAllowed listRules carbonShare carbonPart value wordsOf totalsOf entered releasedOf burnedBy
+unfolding toBits ofInt mul add onsiteDouble offsiteDouble decayDouble addRows largest largestFires blocksFrom computed cut filedList behind filedFrom littleEndian recordFrom inTurn headOf sealed weighed recordOn usedFrom bodyOf blockOf bytesOf rowsBelow rowFrom number evenOf settled sumOf stockPart harvestPart clearedPart onsitePart offsitePart decayPart countedDifference thinnerPart stocksOf conversionOf gasesOf abandonedOf abandonedPart savannasOf rowsFrom flatten total badList badLengths notAllowed listRules carbonShare carbonPart value wordsOf totalsOf entered releasedOf burnedBy soilCarbon stockNow stockThen allStocks soilsOf
 all-worked = refl
 
 -- every return of the table has the answer beside it, as the checker computes them

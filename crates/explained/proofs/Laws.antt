@@ -5,13 +5,15 @@
 --     ruling-explained  an explanation's number and place are the verdict's
 --     values-stand      its values are what is said of the bytes; fourth-never, one fault that is never named
 --     wood-place, wood-above, wood-text    where 12 is given: its place, which of the two masses is above the other, and the whole text
+--     soil-place, soil-text                where 13 is given: which row stands there, and the whole text
 use Prim.Native.Nat.{ℕ, _*_, _<_, _≤_}
 use mathlib.Core.Path.{_≡_, refl, ap, subst, _∙_}
 use mathlib.Core.List.{List, _++_}
 use native.Mathlib.Omega.{arith}
 use lib.ListN.{length}
 use Rattle.form.specs.Ruling.{ruling}
-use Rattle.form.specs.Sums.{columnK, columnL}
+use Rattle.form.specs.Records.{filed}
+use Rattle.form.specs.Sums.{columnK, columnL, soilType, sumNow, sumThen}
 use Rattle.form.specs.Verdict.{rules, rows, verdictBy, verdictOf}
 use Rattle.form.specs.declared.Counts.{Counts}
 use Rattle.form.specs.declared.Ruling.{Ruling}
@@ -23,13 +25,16 @@ use Rattle.decimal.proofs.DigitLaws.{decimal-length}
 use Rattle.heaviest.specs.Heaviest.{heaviestOf}
 use Rattle.phrases.specs.Lines.{refusedLine, linesText}
 use Rattle.phrases.proofs.Room.{refused-length}
-use Rattle.reasons.specs.Reasons.{reasonOf}
-use Rattle.reasons.specs.Explains.{Explains, wood-12}
+use Rattle.areas.specs.Place.{FirstOfLowest}
+use Rattle.reasons.specs.Reasons.{rowNamed, reasonOf}
+use Rattle.reasons.specs.Explains.{Explains, wood-12, soils-13}
+use Rattle.reasons.specs.declared.Row.{Row}
 use Rattle.reasons.specs.declared.Reason.{Reason}
 use Rattle.reasons.proofs.Explains.{reason-told, explains, no-fourth}
 use Rattle.faults.specs.declared.Fault.the-variants.{Fourth}
 use Rattle.reasons.specs.declared.Header.{Header}
-use Rattle.reasons.specs.declared.Reason.the-variants.{BadBlock, ClearedAbove}
+use Rattle.reasons.specs.declared.Reason.the-variants.{BadBlock, ClearedAbove, SoilUneven}
+use Rattle.naming.specs.RowLines.{namedLines, soilLines}
 use Rattle.wording.specs.Wording.{woodLines, valueLines}
 use Rattle.explained.specs.Explained.{explainedBy, explanationOf, rulingOf, refusedText, explainedText, explained}
 use Rattle.explained.specs.declared.Explanation.the-variants.{Accepted, Refused}
@@ -68,6 +73,20 @@ module _ (s : List ℕ) where
     pub wood-text : explained s ≡ refusedLine 12 0 ++ linesText (woodLines (100 * columnK (rows 3 s)) (columnL (rows 1 s)))
     unfolding reasonOf
     wood-text = refused-text e ∙ ap (λ (q : ℕ). refusedLine 12 q ++ linesText (woodLines (100 * columnK (rows 3 s)) (columnL (rows 1 s)))) wood-place
+
+  -- ---- number 13
+  clash-place : {w : Row} {t n o : ℕ} → Explains s (SoilUneven w t n o) → FirstOfLowest (filed s) (w .place) t
+  clash-place (soils-13 w t r f) = f
+
+  module _ {p : ℕ} (e : verdictOf s ≡ verdict.Refused 13 p) where
+    pub soil-place : FirstOfLowest (filed s) p (soilType (filed s .row p))
+    unfolding reasonOf
+    soil-place = clash-place (explains s e)
+
+    pub soil-text : let t = soilType (filed s .row p) in
+        explained s ≡ refusedLine 13 p ++ linesText (namedLines (rowNamed s p) ++ soilLines t (sumNow (rows 7 s) t) (sumThen (rows 7 s) t))
+    unfolding reasonOf
+    soil-text = refused-text e
 
   -- ---- whatever is explained
   by-ruling : (u : Ruling) → ruling (rules s) ≡ u → rulingOf (explainedBy s u) ≡ u

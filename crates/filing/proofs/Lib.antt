@@ -1,5 +1,6 @@
 pub mod Choice
 pub mod Stands
+pub mod Turns
 pub mod Stores
 pub mod Fields
 pub mod Parts

@@ -1,5 +1,6 @@
 -- The kinds and the editions: what is computed of their tables, once for all entries. Assumes nothing.
 --     kinds-are       how many kinds there are, as the code counts them; few-kinds, not many
+--     beyond          a number that is none of 1 to n, as a `match` leaves it, is no number from 1 to n
 --     each-layout     a test of layouts that the checker computes for each kind
 --     last-kinds      no edition allows more kinds than there are; no-edition, known-edition, which editions there are
 use Prim.Native.Nat.{ℕ, zero, suc, _≤_, _<_}
@@ -15,11 +16,23 @@ use Rattle.form.proofs.Tests.{and-true}
 
 -- kept by a loop over the kinds, so that its steps know it
 abbrev pub KindsAre : Type 0
-KindsAre = kinds ≡ 6
+KindsAre = kinds ≡ 7
 
 pub kinds-are : KindsAre
 unfolding kinds
 kinds-are = refl
+
+-- what a `match` whose arms are 1 to n leaves for its last
+abbrev pub NoneOf : ℕ → ℕ → Type 0
+NoneOf zero k = Unit
+NoneOf (suc n) k = NoneOf n k × (k ≡ suc n → ⊥)
+
+pub beyond : (n k : ℕ) → NoneOf n k → k ≤ n → 0 < k → ⊥
+beyond zero k e h l = omega arith
+beyond (suc n) k e h l = beyond n k (e .0) (below (e .1)) l
+  where
+    below : (k ≡ suc n → ⊥) → k ≤ n
+    below g = omega arith
 
 -- the parameters are one of them
 pub parameters-kind : parametersKind ≤ kinds

@@ -68,7 +68,28 @@ savanna =
     ∷ fraction ∷ fraction ∷ fraction ∷ fraction ∷ fraction
     ∷ []
 
--- "1 conversion, 2 stock, 3 harvest, 4 parameters", 5 abandoned land, 6 savanna: the kinds in order, from 1 on. A new kind is a new line.
+-- §11: "Land system and soil type are numbers from 0 to 65,535"
+abbrev pub typeNumber : Field
+typeNumber = field 0 2 65535
+
+-- §11: "(0 to 100,000 of 0.001 Mha)"
+abbrev pub soilArea : Field
+soilArea = field 0 4 100000
+
+-- §11: "(0 to 300 of 0.01; 100 for untouched land)"
+abbrev pub soilFactor : Field
+soilFactor = field 0 2 300
+
+-- §11: "land system, soil type, area now and twenty years ago .., native soil carbon (0 to 10,000 of 0.1 t/ha), base, tillage and input factors"
+abbrev pub soil : Layout
+soil =
+    id ∷ typeNumber ∷ typeNumber
+    ∷ soilArea ∷ soilArea
+    ∷ field 0 2 10000
+    ∷ soilFactor ∷ soilFactor ∷ soilFactor
+    ∷ []
+
+-- "1 conversion, 2 stock, 3 harvest, 4 parameters", 5 abandoned land, 6 savanna, 7 mineral soil: the kinds in order, from 1 on. A new kind is a new line.
 abbrev pub layouts : List Layout
 layouts =
     conversion
@@ -77,6 +98,7 @@ layouts =
     ∷ parameters
     ∷ abandoned
     ∷ savanna
+    ∷ soil
     ∷ []
 
 -- how many kinds there are
@@ -95,7 +117,7 @@ layout kind = getD ([] ∷ layouts) kind []
 abbrev pub fieldAt : Layout → ℕ → Field
 fieldAt l i = getD l i (field 0 0 0)
 
--- "15, 5, 5 and 6 numbers of 32 bits", 7 of abandoned land and 14 of savanna
+-- "15, 5, 5 and 6 numbers of 32 bits", 7 of abandoned land, 14 of savanna and 9 of mineral soil
 abbrev pub numbersOf : ℕ → ℕ
 numbersOf kind = length (layout kind)
 

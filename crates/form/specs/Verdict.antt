@@ -50,6 +50,7 @@ countsOf s = record {
   parameters = rowCount 4 s;
   abandoned = rowCount 5 s;
   savanna = rowCount 6 s;
+  soils = rowCount 7 s;
 }
 
 -- the counts as a list by kind, from 1 on. A new kind is a new line.
@@ -61,6 +62,7 @@ countList c =
     ∷ c .parameters
     ∷ c .abandoned
     ∷ c .savanna
+    ∷ c .soils
     ∷ []
 
 -- the count of a kind; another number is no kind and has no rows

@@ -2,7 +2,7 @@
 ghost use mathlib.Core.Path.{_≡_};
 ghost use Prim.Native.Nat.{_≤_, _<_};
 ghost use lib.ListN.{length};
-ghost use Rattle.form.specs.Layout.{conversion, stock, harvest, parameters, abandoned, savanna, layout, fieldAt, numbersOf};
+ghost use Rattle.form.specs.Layout.{conversion, stock, harvest, parameters, abandoned, savanna, soil, layout, fieldAt, numbersOf};
 use crate::Field;
 
 const ID: Field = Field {
@@ -69,6 +69,30 @@ const FIRST_RATIO: Field = Field {
     zeros: 4,
     width: 2,
     limit: 1000,
+};
+
+const TYPE_NUMBER: Field = Field {
+    zeros: 0,
+    width: 2,
+    limit: 65535,
+};
+
+const SOIL_AREA: Field = Field {
+    zeros: 0,
+    width: 4,
+    limit: 100000,
+};
+
+const NATIVE_CARBON: Field = Field {
+    zeros: 0,
+    width: 2,
+    limit: 10000,
+};
+
+const SOIL_FACTOR: Field = Field {
+    zeros: 0,
+    width: 2,
+    limit: 300,
 };
 
 const NONE: Field = Field {
@@ -156,6 +180,22 @@ fn savanna(i: usize) -> Field
     if i == 2 { DENSITY } else { FRACTION }
 }
 
+fn soil(i: usize) -> Field
+    requires { ⌜ i < length soil ⌝ }
+    ensures { λ r. ⌜ r ≡ fieldAt soil i ⌝ }
+{
+    if i == 0 {
+        return ID;
+    }
+    if (i == 1) | (i == 2) {
+        return TYPE_NUMBER;
+    }
+    if (i == 3) | (i == 4) {
+        return SOIL_AREA;
+    }
+    if i == 5 { NATIVE_CARBON } else { SOIL_FACTOR }
+}
+
 // A new kind is a new line.
 pub fn field(kind: usize, i: usize) -> Field
     requires { ⌜ i < numbersOf kind ⌝ }
@@ -168,6 +208,7 @@ pub fn field(kind: usize, i: usize) -> Field
         4 => parameters(i),
         5 => abandoned(i),
         6 => savanna(i),
+        7 => soil(i),
         _ => NONE,
     }
 }
@@ -183,6 +224,7 @@ pub fn numbers(kind: usize) -> usize
         4 => 6,
         5 => 7,
         6 => 14,
+        7 => 9,
         _ => 0,
     }
 }

@@ -15,7 +15,7 @@ ghost use Rattle.form.specs.Standing.{blocksFor, firstBlock};
 ghost use Rattle.form.specs.Steps.{Few};
 
 // How many kinds there are, the most blocks of a return, and its most bytes. Every bound follows from the first.
-pub const KINDS: usize = 6;
+pub const KINDS: usize = 7;
 
 // The parameters' kind, of which there is always one row, with no id.
 pub const PARAMETERS: usize = 4;
@@ -55,6 +55,7 @@ pub struct Counts {
     pub parameters: u32,
     pub abandoned: u32,
     pub savanna: u32,
+    pub soils: u32,
 }
 
 pub enum Verdict {
@@ -154,6 +155,7 @@ pub fn count_of(c: Counts, kind: usize) -> u32
         4 => c.parameters,
         5 => c.abandoned,
         6 => c.savanna,
+        7 => c.soils,
         _ => 0,
     }
 }
@@ -186,7 +188,7 @@ pub fn last_kind(edition: u32) -> u32
 {
     match edition {
         1 => 4,
-        2 => 6,
+        2 => 7,
         _ => 0,
     }
 }

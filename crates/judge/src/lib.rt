@@ -97,6 +97,7 @@ pub fn count_rows(bytes: &[u8]) -> Counts
         parameters: rows_of(bytes, 4),
         abandoned: rows_of(bytes, 5),
         savanna: rows_of(bytes, 6),
+        soils: rows_of(bytes, 7),
     }
 }
 

@@ -49,11 +49,13 @@ listed f =
     ∷ figure (codes "savanna_co") (f .savannas .gases .co .0)
     ∷ figure (codes "savanna_n2o") (f .savannas .gases .n2o .0)
     ∷ figure (codes "savanna_nox") (f .savannas .gases .nox .0)
+    ∷ net (codes "soil") (f .soils .soil .0)
+    ∷ net (codes "soil_change") (f .soils .change .0)
     ∷ []
 
 -- how many there are: the same of every return (`counted`)
 abbrev pub figureCount : ℕ
-figureCount = 25
+figureCount = 27
 
 -- the values of a list of figures
 abbrev pub valuesOf : List Figure → List Signed

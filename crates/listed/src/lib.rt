@@ -9,7 +9,7 @@ use wide::signed::Signed;
 use worksheets::sheets::Figures;
 
 // How many figures there are, and how many numbers they are.
-pub const FIGURES: usize = 25;
+pub const FIGURES: usize = 27;
 
 pub const NUMBERS: usize = 3 * FIGURES;
 
@@ -62,6 +62,8 @@ fn list(f: Figures) -> [Signed; FIGURES]
     let savanna_n2o = Signed { below: false, size };
     let size = f.savannas.gases.nox.0;
     let savanna_nox = Signed { below: false, size };
+    let soil = f.soils.soil.0;
+    let soil_change = f.soils.change.0;
     [
         e,
         k,
@@ -88,6 +90,8 @@ fn list(f: Figures) -> [Signed; FIGURES]
         savanna_co,
         savanna_n2o,
         savanna_nox,
+        soil,
+        soil_change,
     ]
 }
 

@@ -43,9 +43,9 @@ pub fn length_at(lengths: &[u32], k: usize) -> usize
 }
 
 // The lengths added up.
-fn sum(lengths: &[u32]) -> usize
+pub fn sum(lengths: &[u32]) -> usize
     requires { ⌜ length (now lengths) < 2 ^ 24 ⌝ }
-    ensures { λ r. ⌜ r ≡ total (now (lengths .entry)) ⌝ }
+    ensures { λ r. ⌜ (r ≡ total (now (lengths .entry))) × (r < 2 ^ 56) ⌝ }
 {
     let mut all: usize = 0;
     let mut i: usize = 0;
@@ -227,14 +227,14 @@ pub fn rule_records(edition: u32, lengths: &[u32], area: &[u32]) -> Ruling
     Ruling::Clean
 }
 
-// How many blocks the lists take.
+// How many blocks the lists take, of all kinds or of the first.
 pub fn blocks_in(lengths: &[u32]) -> usize
-    requires { ⌜ (length (now lengths) ≡ kinds) × FewRows (now lengths) ⌝ }
+    requires { ⌜ (length (now lengths) ≤ kinds) × FewRows (now lengths) ⌝ }
     ensures { λ r. ⌜ (r ≡ blocksFrom 1 (now (lengths .entry))) × (r ≤ 60) ⌝ }
 {
     let mut n: usize = 0;
     let mut k: usize = 0;
-    while k < KINDS {
+    while k < lengths.len() {
         n += blocks_of(k + 1, length_at(lengths, k));
         k += 1;
     }

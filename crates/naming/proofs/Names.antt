@@ -9,8 +9,9 @@ use mathlib.Core.List.{List, [], _∷_, flatMap}
 use native.Mathlib.Omega.{arith}
 use borrow.Author.Tests.{leb-true}
 use lib.Dec.{leb}
-use lib.ListN.{length, getD}
+use lib.ListN.{length, getD, List·getD-eq-default}
 use Rattle.form.proofs.Tests.{and-true}
+use Rattle.form.proofs.EachKind.{NoneOf, beyond}
 use Rattle.decimal.specs.Digits.{WrittenAt}
 use Rattle.phrases.specs.Ascii.{codes}
 use Rattle.phrases.specs.Lines.{spaces, WrittenIn}
@@ -56,19 +57,16 @@ word-named {d} {d′} {at} {next} k kind q i e w =
     subst (λ (j : ℕ). WrittenIn 30 (fieldName j i) d d′ at next) (sym q) (as-text (name-word k i e) w, omega (arith, w .place, word-fits k i e))
 
 -- another number is no kind
-pub no-name : (k i : ℕ) → (k ≡ 1 → ⊥) → (k ≡ 2 → ⊥) → (k ≡ 3 → ⊥) → (k ≡ 4 → ⊥) → (k ≡ 5 → ⊥) → (k ≡ 6 → ⊥) → fieldName k i ≡ []
-no-name zero i a b c d e f = refl
-no-name (suc zero) i a b c d e f = absurd (a refl)
-no-name (suc (suc zero)) i a b c d e f = absurd (b refl)
-no-name (suc (suc (suc zero))) i a b c d e f = absurd (c refl)
-no-name (suc (suc (suc (suc zero)))) i a b c d e f = absurd (d refl)
-no-name (suc (suc (suc (suc (suc zero))))) i a b c d e f = absurd (e refl)
-no-name (suc (suc (suc (suc (suc (suc zero)))))) i a b c d e f = absurd (f refl)
-no-name (suc (suc (suc (suc (suc (suc (suc k))))))) i a b c d e f = refl
+pub no-name : (k i : ℕ) → NoneOf 7 k → fieldName k i ≡ []
+no-name zero i e = refl
+no-name (suc k) i e = ap (λ (n : List (List ℕ)). getD n i []) (List·getD-eq-default fieldNames [] {n = k} (not-le (λ h. beyond 7 (suc k) e h (omega arith))))
+  where
+    not-le : (suc k ≤ 7 → ⊥) → 7 ≤ k
+    not-le g = omega arith
 
 -- the kinds' names, with no name before the first
 abbrev pub kindText : List ℕ
-kindText = codes " conversion stock harvest parameters abandoned savanna "
+kindText = codes " conversion stock harvest parameters abandoned savanna soil "
 
 pub kind-word : (k : ℕ) → wordAt k kindText ≡ kindName k
 unfolding flatMap spaces

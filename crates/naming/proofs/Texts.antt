@@ -13,10 +13,10 @@ use Rattle.phrases.proofs.LineTexts.{text-append, item, lines}
 use Rattle.reasons.proofs.Reason.{the-type}
 use Rattle.reasons.specs.declared.Row.{Row}
 use Rattle.reasons.specs.declared.Reason.{Reason}
-use Rattle.reasons.specs.declared.Reason.the-variants.{BadLength, BadCheck, BadHeader, BadBlock, IdBelow, FieldAbove, FractionsAbove, ClearedAbove}
+use Rattle.reasons.specs.declared.Reason.the-variants.{BadLength, BadCheck, BadHeader, BadBlock, IdBelow, FieldAbove, FractionsAbove, ClearedAbove, SoilUneven}
 use Rattle.form.specs.Layout.{parametersKind}
 use Rattle.naming.specs.Names.{fieldName, kindName}
-use Rattle.naming.specs.RowLines.{wordLine, placeLines, namedLines, limitLines, fractionsLines, rowLines}
+use Rattle.naming.specs.RowLines.{wordLine, placeLines, namedLines, limitLines, fractionsLines, soilLines, rowLines}
 
 abbrev pub fractionsNames : List ℕ
 fractionsNames = codes "onsite offsite decay sum "
@@ -24,6 +24,13 @@ fractionsNames = codes "onsite offsite decay sum "
 pub fractions-text : (n f d t : ℕ) → filledIn fractionsNames (unsigned (n ∷ f ∷ d ∷ t ∷ [])) ≡ linesText (fractionsLines n f d t)
 unfolding flatMap spaces
 fractions-text n f d t = lines (item (codes "onsite") n ∷ item (codes "offsite") f ∷ item (codes "decay") d ∷ item (codes "sum") t ∷ []) refl
+
+abbrev pub soilNames : List ℕ
+soilNames = codes "soil_type area_now area_then "
+
+pub soil-text : (t n o : ℕ) → filledIn soilNames (unsigned (t ∷ n ∷ o ∷ [])) ≡ linesText (soilLines t n o)
+unfolding flatMap spaces
+soil-text t n o = lines (item (codes "soil_type") t ∷ item (codes "area_now") n ∷ item (codes "area_then") o ∷ []) refl
 
 pub no-lines : (r : Reason) → OneOf (0 ∷ 1 ∷ 2 ∷ 3 ∷ 7 ∷ []) (tagOf the-type r) → rowLines r ≡ []
 no-lines (BadLength n) o = refl
@@ -34,6 +41,7 @@ no-lines (IdBelow w x) o = absurd (miss (0 ∷ 1 ∷ 2 ∷ 3 ∷ 7 ∷ []) 4 tt 
 no-lines (FieldAbove w i v l) o = absurd (miss (0 ∷ 1 ∷ 2 ∷ 3 ∷ 7 ∷ []) 5 tt o)
 no-lines (FractionsAbove w n f d t) o = absurd (miss (0 ∷ 1 ∷ 2 ∷ 3 ∷ 7 ∷ []) 6 tt o)
 no-lines (ClearedAbove u l) o = refl
+no-lines (SoilUneven w t n o) k = absurd (miss (0 ∷ 1 ∷ 2 ∷ 3 ∷ 7 ∷ []) 8 tt k)
 
 -- the field's number, its name and its value, part by part
 four : (x f n e t : List ℕ) → ((((x ++ f) ++ n) ++ e) ++ t) ≡ x ++ (f ++ (n ++ (e ++ t)))

@@ -90,9 +90,23 @@ savannaNames =
     ∷ codes "NOx"
     ∷ []
 
+-- §11: "land system, soil type, area now and twenty years ago .., native soil carbon .., base, tillage and input factors":
+abbrev soilNames : List (List ℕ)
+soilNames =
+    codes "id"
+    ∷ codes "land_system"
+    ∷ codes "soil_type"
+    ∷ codes "area_now"
+    ∷ codes "area_then"
+    ∷ codes "native"
+    ∷ codes "base"
+    ∷ codes "tillage"
+    ∷ codes "input"
+    ∷ []
+
 -- kind by kind, from 1 on. A new kind is a new line.
 abbrev pub fieldNames : List (List (List ℕ))
-fieldNames = conversionNames ∷ stockNames ∷ harvestNames ∷ parametersNames ∷ abandonedNames ∷ savannaNames ∷ []
+fieldNames = conversionNames ∷ stockNames ∷ harvestNames ∷ parametersNames ∷ abandonedNames ∷ savannaNames ∷ soilNames ∷ []
 
 -- the names of a kind's fields, and that of field i; another number is no kind, and past the last there is no name
 abbrev pub namesOf : ℕ → List (List ℕ)
@@ -105,7 +119,7 @@ fieldName kind i = getD (namesOf kind) i []
 each-named : map (λ (n : List (List ℕ)). length n) fieldNames ≡ map (λ (l : Layout). length l) layouts
 each-named = refl
 
--- "1 conversion, 2 stock, 3 harvest, 4 parameters", 5 abandoned land, 6 savanna, each in a word. A new kind is a new line.
+-- "1 conversion, 2 stock, 3 harvest, 4 parameters", 5 abandoned land, 6 savanna, 7 mineral soil, each in a word. A new kind is a new line.
 abbrev pub kindNames : List (List ℕ)
 kindNames =
     codes "conversion"
@@ -114,6 +128,7 @@ kindNames =
     ∷ codes "parameters"
     ∷ codes "abandoned"
     ∷ codes "savanna"
+    ∷ codes "soil"
     ∷ []
 
 -- the name of a kind; another number is no kind and has no name

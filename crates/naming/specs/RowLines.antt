@@ -8,7 +8,7 @@ use Rattle.phrases.specs.Ascii.{codes}
 use Rattle.phrases.specs.Lines.{Line, numberLine}
 use Rattle.reasons.specs.declared.Row.{Row}
 use Rattle.reasons.specs.declared.Reason.{Reason}
-use Rattle.reasons.specs.declared.Reason.the-variants.{BadLength, BadCheck, BadHeader, BadBlock, IdBelow, FieldAbove, FractionsAbove, ClearedAbove}
+use Rattle.reasons.specs.declared.Reason.the-variants.{BadLength, BadCheck, BadHeader, BadBlock, IdBelow, FieldAbove, FractionsAbove, ClearedAbove, SoilUneven}
 use Rattle.naming.specs.Names.{fieldName, kindName}
 
 -- a name and a word
@@ -44,6 +44,10 @@ limitLines k i v l =
 abbrev pub fractionsLines : ℕ → ℕ → ℕ → ℕ → List Line
 fractionsLines n f d t = numberLine (codes "onsite") n ∷ numberLine (codes "offsite") f ∷ numberLine (codes "decay") d ∷ numberLine (codes "sum") t ∷ []
 
+-- §11: `soil_type`, `area_now`, `area_then`: the type and its two sums
+abbrev pub soilLines : ℕ → ℕ → ℕ → List Line
+soilLines t n o = numberLine (codes "soil_type") t ∷ numberLine (codes "area_now") n ∷ numberLine (codes "area_then") o ∷ []
+
 -- by the number; 1 to 4 and 12 are of a block or of the whole return. A new number is a new case.
 abbrev pub rowLines : Reason → List Line
 rowLines (BadLength n) = []
@@ -57,3 +61,5 @@ rowLines (IdBelow w x) = placeLines w ++ (numberLine (codes "id_before") x ∷ n
 rowLines (FieldAbove w i v l) = namedLines w ++ limitLines (w .kind) i v l
 -- 7: the fractions
 rowLines (FractionsAbove w n f d t) = namedLines w ++ fractionsLines n f d t
+-- 13: the soil type and its two area sums
+rowLines (SoilUneven w t n o) = namedLines w ++ soilLines t n o

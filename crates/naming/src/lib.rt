@@ -3,7 +3,7 @@ ghost use Prim.Native.Nat.{_+_, _≤_};
 ghost use lib.ListN.{length};
 ghost use Rattle.phrases.specs.Lines.{WrittenIn, linesText};
 ghost use Rattle.naming.specs.Names.{fieldName, kindName};
-ghost use Rattle.naming.specs.RowLines.{placeLines, namedLines, limitLines, fractionsLines, rowLines};
+ghost use Rattle.naming.specs.RowLines.{placeLines, namedLines, limitLines, fractionsLines, soilLines, rowLines};
 use phrases::put_lines;
 use phrases::put_one;
 use phrases::put_two;
@@ -43,6 +43,12 @@ fn put_field_name(kind: u32, i: usize, out: &mut [u8], at: usize) -> usize
             out,
             at,
         ),
+        7 => put_word(
+            b"id land_system soil_type area_now area_then native base tillage input ",
+            i,
+            out,
+            at,
+        ),
         _ => at,
     }
 }
@@ -53,7 +59,7 @@ fn put_kind_name(kind: u32, out: &mut [u8], at: usize) -> usize
     ensures { λ r. ⌜ WrittenIn 10 (kindName kind) (now (out .entry)) (now (out .exit)) at r ⌝ }
 {
     put_word(
-        b" conversion stock harvest parameters abandoned savanna ",
+        b" conversion stock harvest parameters abandoned savanna soil ",
         kind as usize,
         out,
         at,
@@ -115,6 +121,16 @@ fn put_fractions(
     put_lines(b"onsite offsite decay sum ", &values, out, at)
 }
 
+// The soil type and its two area sums, the current one and the one of twenty years ago.
+fn put_soil(soil: u32, current: u64, former: u64, out: &mut [u8], at: usize) -> usize
+    requires { ⌜ at + 120 ≤ length (now out) ⌝ }
+    ensures { λ r. ⌜ WrittenIn 120 (linesText (soilLines soil current former)) (now (out .entry)) (now (out .exit)) at r ⌝ }
+{
+    let soil = soil as u64;
+    let values = [0, 0, soil, 0, 0, current, 0, 0, former];
+    put_lines(b"soil_type area_now area_then ", &values, out, at)
+}
+
 // Which row it is and what clashes there, by the numbers of one row. A new number is a new line.
 pub fn put_row(reason: Reason, out: &mut [u8], at: usize) -> usize
     requires { ⌜ at + 240 ≤ length (now out) ⌝ }
@@ -143,6 +159,15 @@ pub fn put_row(reason: Reason, out: &mut [u8], at: usize) -> usize
         } => {
             let next = put_named(row, out, at);
             put_fractions(onsite, offsite, decay, sum, out, next)
+        }
+        Reason::SoilUneven {
+            row,
+            soil,
+            now,
+            then,
+        } => {
+            let next = put_named(row, out, at);
+            put_soil(soil, now, then, out, next)
         }
         _ => at,
     }

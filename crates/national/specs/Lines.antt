@@ -32,7 +32,7 @@ refusalLine r = codes "return " ++ (decimal (r .position) ++ 32 ∷ refusedLine 
 abbrev pub stopLine : ℕ → List ℕ → List ℕ
 stopLine i why = codes "stopped " ++ (decimal i ++ 32 ∷ why)
 
--- `blocks N`, "a first header that says 0 blocks or more than 16"; `short`, "a file that ends inside a return"; `many`, "a 501st return";
+-- `blocks N`, "a first header that says 0 blocks or more than" a return has; `short`, "a file that ends inside a return"; `many`, "a 501st return";
 -- nothing of a whole file
 unfoldable pub stopText : ℕ → Stop → List ℕ
 stopText i Whole = []

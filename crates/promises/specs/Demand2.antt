@@ -7,7 +7,7 @@ use mathlib.Core.List.{List}
 use native.Mathlib.Omega.{arith}
 use lib.ListN.{length, getD}
 use lib.Dec.{ltb, lit<}
-use lib.IntN.{pos, negℤ, _-ℤ_, _*ℤ_}
+use lib.IntN.{ℤ, pos, negℤ, _-ℤ_, _*ℤ_}
 use Rattle.form.specs.Ruling.{onFront}
 use Rattle.form.specs.Layout.{kinds}
 use Rattle.form.specs.Bytes.{byteAt}
@@ -23,16 +23,19 @@ use Rattle.rows.specs.declared.Written.the-variants.{Done}
 use Rattle.trips.proofs.Again.{returned, read-accepted, read-edition, read-counts, read-rows, leftBehind, write-done, write-same}
 use Rattle.standing.proofs.Accepted.{formed}
 use Rattle.wide.specs.Numbers.{value}
-use Rattle.wide.specs.Signs.{amount, nearestZ}
+use Rattle.wide.specs.Signs.{amount, signedOf, nearestZ}
 use Rattle.wide.proofs.Laws.{value-words}
 use Rattle.wide.proofs.SignLaws.{nearest-turned, form-holds}
-use Rattle.form.specs.Sums.{sumOf, commercial, tonnesPerM3, fuelwood, otherUse, harvestPart, clearedPart}
+use Rattle.form.specs.Sums.{sumOf, commercial, tonnesPerM3, fuelwood, otherUse, areaNow, areaThen, harvestPart, clearedPart}
 use Rattle.totals.specs.Columns.{rate, stockAmount, stockCarbon, stockPart, onsitePart, offsitePart, decayPart, thinnerPart, thinnerTotal}
 use Rattle.totals.specs.Sums.{totalsOf}
 use Rattle.totals.proofs.Accepted.{columns-small}
 use Rattle.totals.specs.Abandoned.{youngArea, youngRate, youngCarbon, olderArea, olderRate, olderCarbon, abandonedPart}
 use Rattle.savannas.specs.Savannas.{burnedArea, biomass, reallyBurned, live, liveOxidised, liveCarbon, deadOxidised, deadCarbon, nitrogenRatio, ch4Ratio, coRatio, n2oRatio, noxRatio, carbonShare, carbonPart, savannasOf}
 use Rattle.savannas.specs.declared.Savannas.{Savannas}
+use Rattle.soils.specs.Soils.{nativeCarbon, baseFactor, tillageFactor, inputFactor, soilCarbon, stockNow, stockThen, allStocks, soilsOf}
+use Rattle.soils.specs.declared.Soils.{Soils}
+use Rattle.soils.proofs.Rows.{sums-small}
 use Rattle.burning.specs.Released.{releasedOf, burnedBy}
 use Rattle.burning.specs.Gases.{gasesOf}
 use Rattle.burning.specs.declared.Gases.{Gases}
@@ -103,6 +106,21 @@ pub record Sheet4-3 (s : List ℕ) (v : Savannas) : Type 0 where
   pub N2O : Rounded (pos (11 * sumOf (λ r. carbonOf r * nitrogenRatio r * n2oRatio r) (rows 6 s))) (7 * 10 ^ 18) (pos (value (v .gases .n2o .0)))
   pub NOx : Rounded (pos (23 * sumOf (λ r. carbonOf r * nitrogenRatio r * noxRatio r) (rows 6 s))) (7 * 10 ^ 18) (pos (value (v .gases .nox .0)))
 
+-- "Soil carbon is the product of native carbon and the three factors, and a stock is that times the area", summed over the rows: now, and twenty years ago
+abbrev pub carbonOfSoil : List ℕ → ℕ
+carbonOfSoil r = nativeCarbon r * baseFactor r * tillageFactor r * inputFactor r
+
+abbrev pub stocksNow : List ℕ → ℕ
+stocksNow s = sumOf (λ r. carbonOfSoil r * areaNow r) (rows 7 s)
+
+abbrev pub stocksThen : List ℕ → ℕ
+stocksThen s = sumOf (λ r. carbonOfSoil r * areaThen r) (rows 7 s)
+
+-- 5-5, as the request for it has it: "the sum of stocks now less that of twenty years ago, over 20, signed, kept exact and rounded once to tonnes of carbon", where a stock counts in 10^-4 t
+pub record Sheet5-5 (s : List ℕ) (v : Soils) : Type 0 where
+  pub soil : amount (v .soil .0) ≡ pos (stocksNow s) -ℤ pos (stocksThen s)
+  pub change : Rounded (pos (stocksNow s) -ℤ pos (stocksThen s)) (20 * 10 ^ 4) (amount (v .change .0))
+
 -- "rounded once, at the final tonne": Q, the report and CO2 from the columns of one return, or from their sums over several
 pub q-rounded : (g : Ledger) → Rounded (pos 11 *ℤ amount (stocksOf g .p .0)) 3000000 (amount (stocksOf g .q .0))
 unfolding stocksOf
@@ -164,6 +182,18 @@ figures-5-4 s = record { uptake = value-words _ .number; CO2 = rounds-plain _ (l
 pub figures-4-3 : (s : List ℕ) → Sheet4-3 s (figuresOf (byKind s) .savannas)
 unfolding savannasOf burnedBy gasesOf carbonShare carbonPart
 figures-4-3 s = record { carbon = value-words _ .number; CH4 = rounds-plain _ (lit< tt) (part 4 _); CO = rounds-plain _ (lit< tt) (part 7 _); N2O = rounds-plain _ (lit< tt) (part 11 _); NOx = rounds-plain _ (lit< tt) (part 23 _) }
+
+pub figures-5-5 : (s : List ℕ) → Sheet5-5 s (figuresOf (byKind s) .soils)
+unfolding soilsOf allStocks soilCarbon stockNow stockThen
+figures-5-5 s =
+    let z = pos (stocksNow s) -ℤ pos (stocksThen s) in
+    let e = form-holds z .number in
+    record { soil = e; change = subst (λ (x : ℤ). Rounded z (20 * 10 ^ 4) (amount (signedOf (nearestZ x (20 * 10 ^ 4))))) (sym e) (rounds-net z (20 * 10 ^ 4) (lit< tt)) }
+
+-- no sum overflows: 32 stocks of at most 2.7 x 10^16 are below 2^60, so either sum is one word
+pub soils-fit : (s : List ℕ) (c : Counts) → verdictOf s ≡ Accepted c → (stocksNow s < 2 ^ 60) × (stocksThen s < 2 ^ 60)
+unfolding soilCarbon stockNow stockThen
+soils-fit s c accepted = let w = sums-small s c (formed s c accepted) in (omega (arith, w .0), omega (arith, w .1))
 
 -- ---- "Good rows written as a return read back as those rows"
 -- Whatever write answers other than a refusal: the bytes that it left at the front of its room, read to any room that is long enough for the rows, are

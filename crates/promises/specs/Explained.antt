@@ -1,13 +1,14 @@
 -- §7. "A small tool takes a return and says, for a refusal, the number, the place and the values that clash .. Values that stand in the return are proved to be those at that place,
 -- a computed one to follow its rule in 01, and no earlier number, or lower place under that number, to be at fault."
--- §8. "The explaining tool then shows 100K and L."
+-- §8. "The explaining tool then shows 100K and L." §11: for 13 the soil type and its two area sums; the place is that of its own sentence.
 use Prim.Native.Nat.{ℕ, _*_, _<_, _≤_}
 use mathlib.Core.Path.{_≡_, refl, ap}
 use mathlib.Core.List.{List, _++_}
 use borrow.Author.Tests.{le-ltb}
 use lib.ListN.{length, drop}
 use Rattle.form.specs.Ruling.{ruling}
-use Rattle.form.specs.Sums.{columnK, columnL}
+use Rattle.form.specs.Records.{filed}
+use Rattle.form.specs.Sums.{columnK, columnL, soilType, sumNow, sumThen}
 use Rattle.form.specs.Verdict.{rules, rows, verdictOf}
 use Rattle.form.specs.declared.Counts.{Counts}
 use Rattle.form.specs.declared.Ruling.{Ruling}
@@ -21,16 +22,18 @@ use Rattle.heaviest.proofs.Largest.{onsite-weighs, offsite-weighs, decay-weighs
 use Rattle.phrases.specs.Lines.{refusedLine, linesText}
 use Rattle.phrases.specs.Room.{putOf, textAfter}
 use Rattle.phrases.specs.declared.Put.the-variants.{Done}
-use Rattle.reasons.specs.Reasons.{refusalOf, reasonOf}
+use Rattle.areas.specs.Place.{FirstOfLowest}
+use Rattle.reasons.specs.Reasons.{refusalOf, rowNamed, reasonOf}
 use Rattle.reasons.specs.Explains.{Explains}
 use Rattle.faults.specs.declared.Fault.the-variants.{Fourth}
 use Rattle.reasons.specs.declared.Header.{Header}
 use Rattle.reasons.specs.declared.Reason.{Reason}
 use Rattle.reasons.specs.declared.Reason.the-variants.{BadBlock}
+use Rattle.naming.specs.RowLines.{namedLines, soilLines}
 use Rattle.wording.specs.Wording.{woodLines, valueLines}
 use Rattle.explained.specs.Explained.{explanationOf, rulingOf, weightsLines, explainedText, explained}
 use Rattle.explained.specs.declared.Explanation.the-variants.{Accepted, Refused}
-use Rattle.explained.proofs.Laws.{accepted-explained, ruling-explained, refused-explained, refused-text, values-stand, fourth-never, wood-place, wood-above, wood-text}
+use Rattle.explained.proofs.Laws.{accepted-explained, ruling-explained, refused-explained, refused-text, values-stand, fourth-never, wood-place, wood-above, wood-text, soil-place, soil-text}
 use Rattle.reasons.proofs.Explains.{reason-told}
 use Rattle.reasons.proofs.Unexplained.{unexplained}
 use Rattle.door.specs.Door.{sizeOf}
@@ -97,6 +100,15 @@ pub record WoodTold (s : List ℕ) (p : ℕ) : Type 0 where
 
 pub explained-wood : (s : List ℕ) (p : ℕ) → verdictOf s ≡ verdict.Refused 12 p → WoodTold s p
 explained-wood s p e = record { place = wood-place s e; above = wood-above s e; text = wood-text s e }
+
+-- where 13 is given, the row at the place is the first of the lowest soil type whose two area sums differ, and behind `refused 13 PLACE` the text names that row and has
+-- the type, the sum of the areas now and that of the areas twenty years ago, and no other line
+pub record SoilTold (s : List ℕ) (p type : ℕ) : Type 0 where
+  pub place : FirstOfLowest (filed s) p type
+  pub text : explained s ≡ refusedLine 13 p ++ linesText (namedLines (rowNamed s p) ++ soilLines type (sumNow (rows 7 s) type) (sumThen (rows 7 s) type))
+
+pub explained-soil : (s : List ℕ) (p : ℕ) → verdictOf s ≡ verdict.Refused 13 p → SoilTold s p (soilType (filed s .row p))
+explained-soil s p e = record { place = soil-place s e; text = soil-text s e }
 
 -- whatever the text is, the contracts of `explain_lines` and of `niloferq_explain` put it into room that is long enough: its length is answered, and it
 -- stands at the front

@@ -7,6 +7,7 @@
 --     FromC       what success leaves in memory that is lent from C, and demands 2 and 3 of it
 --     Lent        what is lent as `&[u8]` is bytes, so that the round trips ask nothing of running code
 --     Wood        no accepted return clears more wood than it uses, so M and O are never below zero
+--     Soils       in an accepted return each soil type has as much land now as twenty years ago; else 13, at the first row of the lowest type that has not
 --     Editions    edition 1 returns are read as before, but for 12
 --     Adding      the check is the last total of a department's adding sheet
 --     Table52     a lookup answers the printed entry of table 5-2, or which number is off it
@@ -26,6 +27,7 @@ pub mod Demand3
 pub mod FromC
 pub mod Lent
 pub mod Wood
+pub mod Soils
 pub mod Editions
 pub mod Adding
 pub mod Table52

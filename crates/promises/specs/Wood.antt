@@ -5,10 +5,12 @@ use mathlib.Core.Bool.{Bool, true, false, true≢false}
 use mathlib.Core.List.{List}
 use native.Mathlib.Omega.{arith}
 use lib.IntN.{pos}
+use Rattle.form.specs.Records.{filed}
 use Rattle.form.specs.Sums.{columnK, columnL}
 use Rattle.form.specs.Verdict.{rows, countsOf, formRules, Formed, verdictBy, verdictOf}
 use Rattle.form.specs.declared.Counts.{Counts}
 use Rattle.form.specs.declared.Verdict.the-variants.{Accepted, Refused}
+use Rattle.areas.specs.Place.{Even}
 use Rattle.totals.specs.Sums.{totalsOf}
 use Rattle.units.specs.Columns.{netDryMatter, netCarbon}
 use Rattle.ledger.specs.Ledger.{entered}
@@ -17,6 +19,7 @@ use Rattle.worksheets.specs.Sheets.{byKind, given, figuresOf}
 use Rattle.worksheets.specs.declared.sheets.Figures.{Figures}
 use Rattle.worksheets.specs.Answers.{worked, outcomeOf}
 use Rattle.steps.proofs.Wood.{wood-good, wood-refused, wood-passes, wood-stops, plain-m, plain-o}
+use Rattle.steps.proofs.Soils.{soil-passes}
 use Rattle.cases.proofs.Single.{nth, spent-answered}
 
 -- "12, place 0, when L is above 100K": so it is where 12 is given, and it is not in an accepted return
@@ -26,14 +29,14 @@ refused-12 = wood-refused
 pub accepted-wood : (s : List ℕ) (c : Counts) → verdictOf s ≡ Accepted c → columnL (rows 1 s) ≤ 100 * columnK (rows 3 s)
 accepted-wood = wood-good
 
--- and a return that keeps 1 to 7 is one or the other; "equality still good"
+-- and of a return that keeps 1 to 7 either is so; "equality still good": what may still refuse it is 13
 pub more-cleared-refused : (s : List ℕ) (c : Counts) → Formed s c → 100 * columnK (rows 3 s) < columnL (rows 1 s) → verdictOf s ≡ Refused 12 0
 unfolding verdictOf
 more-cleared-refused s c f h = ap (verdictBy s) (wood-stops s (formRules s) (f .clean) h)
 
-pub enough-used-accepted : (s : List ℕ) (c : Counts) → Formed s c → columnL (rows 1 s) ≤ 100 * columnK (rows 3 s) → verdictOf s ≡ Accepted c
+pub enough-used-accepted : (s : List ℕ) (c : Counts) → Formed s c → columnL (rows 1 s) ≤ 100 * columnK (rows 3 s) → Even (rows 7 s) → verdictOf s ≡ Accepted c
 unfolding verdictOf
-enough-used-accepted s c f h = ap (verdictBy s) (wood-passes s (formRules s) (f .clean) h) ∙ sym (ap Accepted (f .counts))
+enough-used-accepted s c f h e = ap (verdictBy s) (wood-passes s (formRules s) (f .clean) h ∙ soil-passes (filed s) e) ∙ sym (ap Accepted (f .counts))
 
 -- "M, O then never fall below zero": of an accepted return they are the plain numbers 100 K - L and (100 K - L) x N, with no sign
 pub m-never-below : (s : List ℕ) (c : Counts) → verdictOf s ≡ Accepted c

@@ -13,12 +13,13 @@ use lib.ListN.{length}
 use Rattle.form.specs.Layout.{layout}
 use Rattle.form.specs.Block.{blocks, recordAt, badCheck, checkSaid, checkDue, badBlock}
 use Rattle.form.specs.Records.{filed, brokenBy, overspent}
-use Rattle.form.specs.Sums.{columnK, columnL}
+use Rattle.form.specs.Sums.{columnK, columnL, soilType}
 use Rattle.form.specs.Verdict.{rows, verdictOf}
 use Rattle.form.specs.declared.Ruling.the-variants.{Broken}
 use Rattle.form.specs.declared.Verdict.the-variants.{Refused}
 use Rattle.form.proofs.Tests.{and-true, either}
 use Rattle.form.proofs.Tables.{id-number}
+use Rattle.areas.proofs.Balanced.{place-told}
 use Rattle.faults.specs.declared.Fault.the-variants.{Fourth}
 use Rattle.faults.specs.Faults.{faultOf, Faulty, fourth}
 use Rattle.faults.proofs.First.{first-fault}
@@ -27,25 +28,26 @@ use Rattle.reasons.specs.declared.Header.{Header}
 use Rattle.reasons.specs.declared.Reason.{Reason}
 use Rattle.reasons.specs.declared.Reason.the-variants.{BadLength, BadBlock}
 use Rattle.reasons.specs.Above.{aboveFrom}
-use Rattle.reasons.specs.Reasons.{refusalOf, checkReason, headerReason, blockReason, rowNamed, idReason, limitReason, fractionsReason, woodReason, reasonOf}
-use Rattle.reasons.specs.Explains.{RowStands, Explains, length-1, check-2, header-3, block-4, ids-5, field-6, fractions-7, wood-12}
+use Rattle.reasons.specs.Reasons.{refusalOf, checkReason, headerReason, blockReason, rowNamed, idReason, limitReason, fractionsReason, woodReason, soilReason, reasonOf}
+use Rattle.reasons.specs.Explains.{RowStands, Explains, length-1, check-2, header-3, block-4, ids-5, field-6, fractions-7, wood-12, soils-13}
 use Rattle.reasons.proofs.Above.{above-there}
 use Rattle.reasons.proofs.Rows.{id-used, id-parts, id-order, row-stands}
-use Rattle.reasons.proofs.Refused.{at-length, at-check, at-header, at-block, at-id, at-field, at-fractions, at-wood, last-number, known-kinds}
+use Rattle.reasons.proofs.Refused.{at-length, at-check, at-header, at-block, at-id, at-field, at-fractions, at-wood, at-soil, last-number, known-kinds}
 
 module _ (s : List ℕ) {n p : ℕ} (e : verdictOf s ≡ Refused n p) where
   -- what is shown of the reason of each number is so of the refusal's
   by-number : (P : Reason → Type 0) → (n ≡ 1 → P (BadLength (length s))) → (n ≡ 2 → P (checkReason s p)) → (n ≡ 3 → P (headerReason s p)) → (n ≡ 4 → P (blockReason s p))
-      → (n ≡ 5 → P (idReason s p)) → (n ≡ 6 → P (limitReason s p)) → (n ≡ 7 → P (fractionsReason s p)) → (n ≡ 12 → P (woodReason s)) → P (reasonOf s n p)
+      → (n ≡ 5 → P (idReason s p)) → (n ≡ 6 → P (limitReason s p)) → (n ≡ 7 → P (fractionsReason s p)) → (n ≡ 12 → P (woodReason s)) → (n ≡ 13 → P (soilReason s p)) → P (reasonOf s n p)
   unfolding reasonOf
-  by-number P one two three four five six seven twelve =
+  by-number P one two three four five six seven twelve thirteen =
       either P (eqb n 1) (λ q. one (eqb-true n 1 q)) (λ a.
       either P (eqb n 2) (λ q. two (eqb-true n 2 q)) (λ b.
       either P (eqb n 3) (λ q. three (eqb-true n 3 q)) (λ c.
       either P (eqb n 4) (λ q. four (eqb-true n 4 q)) (λ d.
       either P (eqb n 5) (λ q. five (eqb-true n 5 q)) (λ f.
       either P (eqb n 6) (λ q. six (eqb-true n 6 q)) (λ g.
-      either P (eqb n 7) (λ q. seven (eqb-true n 7 q)) (λ h. twelve (last-number s e a b c d f g h))))))))
+      either P (eqb n 7) (λ q. seven (eqb-true n 7 q)) (λ h.
+      either P (eqb n 12) (λ q. twelve (eqb-true n 12 q)) (λ i. thirteen (last-number s e a b c d f g h i)))))))))
 
   -- the row that a number behind 3 names
   row-of : {m : ℕ} → n ≡ m → 3 < m → p < 12 * blocks s → filed s .used p ≡ true → RowStands s (rowNamed s p)
@@ -76,6 +78,9 @@ module _ (s : List ℕ) {n p : ℕ} (e : verdictOf s ≡ Refused n p) where
       let b = and-true (eqb (filed s .kind p) 1) (overspent (filed s .row p)) (u .1) in
       fractions-7 (rowNamed s p) (row-of q (omega arith) (w .inside) (u .0)) (eqb-true (filed s .kind p) 1 (b .0)) (ltb-true 1000 _ (b .1)))
       (λ q. wood-12 (omega (arith, ltb-true (100 * columnK (rows 3 s)) (columnL (rows 1 s)) (at-wood s e q .broken))))
+      (λ q.
+      let w = place-told (filed s) (at-soil s e q) in
+      soils-13 (rowNamed s p) (soilType (filed s .row p)) (row-of q (omega arith) (w .inside) (w .used-there)) w)
 
   pub reason-told : refusalOf (reasonOf s n p) ≡ Broken n p
   reason-told =
@@ -88,6 +93,7 @@ module _ (s : List ℕ) {n p : ℕ} (e : verdictOf s ≡ Refused n p) where
       told
       told
       (λ q. ap₂ Broken (sym q) (omega (arith, at-wood s e q .inside)))
+      told
     where
       told : {m : ℕ} → n ≡ m → Broken m p ≡ Broken n p
       told q = ap (λ (x : ℕ). Broken x p) (sym q)

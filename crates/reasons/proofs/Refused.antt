@@ -1,8 +1,8 @@
 -- What a refusal says of its place, by its number: the rule's place, broken there and at no lower one. Assumes nothing.
---     at-length to at-wood    for each number; a new number is a new entry
---     last-number             a number that is none of 1 to 7 is 12
+--     at-length to at-soil    for each number; a new number is a new entry
+--     last-number             a number that is none of 1 to 7 and 12 is 13
 --     known-kinds             behind number 3 every record is of a kind that there is
---     wood-formed             where 12 is given, the return can be read row by row
+--     wood-formed, soil-formed    where 12 or 13 is given, the return can be read row by row
 use Prim.Native.Nat.{ℕ, _*_, _/_, _<_, _≤_}
 use mathlib.Core.Path.{_≡_, refl, sym, _∙_}
 use mathlib.Core.Bool.{false, or-false, false≢true}
@@ -14,7 +14,7 @@ use Rattle.form.specs.Ruling.{Rule, rule, ruling}
 use Rattle.form.specs.Layout.{kinds}
 use Rattle.form.specs.Block.{blocks, edition, badLength, badCheck, badHeader, badBlock}
 use Rattle.form.specs.Records.{filed, badId, brokenBy, fieldAbove, fractionsAbove}
-use Rattle.form.specs.Sums.{clearedAbove, sumRules}
+use Rattle.form.specs.Sums.{clearedAbove, soilUneven, sumRules}
 use Rattle.form.specs.Verdict.{blockRules, formRules, rules, rows, countsOf, Formed, verdictOf}
 use Rattle.form.specs.declared.Ruling.{Ruling}
 use Rattle.form.specs.declared.Ruling.the-variants.{Clean, Broken}
@@ -70,18 +70,30 @@ module _ (s : List ℕ) {n p : ℕ} (e : verdictOf s ≡ Refused n p) where
   unfolding blockRules
   at-wood = broken-at s 12 e
 
-  pub last-number : eqb n 1 ≡ false → eqb n 2 ≡ false → eqb n 3 ≡ false → eqb n 4 ≡ false → eqb n 5 ≡ false → eqb n 6 ≡ false → eqb n 7 ≡ false → n ≡ 12
+  pub at-soil : n ≡ 13 → BrokenAt (rule 13 (12 * blocks s) (soilUneven (filed s))) p
   unfolding blockRules
-  last-number a b c d f g h = eqb-true n 12 (sym (or-false (eqb n 12)) ∙ rw (a, b, c, d, f, g, h) at (given-number s n p e))
+  at-soil = broken-at s 13 e
+
+  pub last-number : eqb n 1 ≡ false → eqb n 2 ≡ false → eqb n 3 ≡ false → eqb n 4 ≡ false → eqb n 5 ≡ false → eqb n 6 ≡ false → eqb n 7 ≡ false → eqb n 12 ≡ false
+      → n ≡ 13
+  unfolding blockRules
+  last-number a b c d f g h i = eqb-true n 13 (sym (or-false (eqb n 13)) ∙ rw (a, b, c, d, f, g, h, i) at (given-number s n p e))
 
   pub known-kinds : 3 < n → (j : ℕ) → j < 12 * blocks s → (0 < filed s .kind j) × (filed s .kind j ≤ kinds)
   known-kinds d j i =
       let h = headed s (j / 12) (headers-kept s (refused s n p .0 e) d (j / 12) (omega arith)) in
       (omega (arith, h .low), omega (arith, h .high, last-kinds (edition s (j / 12))))
 
-  -- no rule of formRules has the number 12
+  -- no rule of formRules has the number
+  formed-by : has n (formRules s) ≡ false → Formed s (countsOf s)
+  formed-by h =
+      let behind = sym (ruling-append (formRules s) (sumRules (filed s))) ∙ refused-ruling s n p e in
+      record { clean = kept-by-number (formRules s) (ruling (formRules s)) _ refl h behind; counts = refl }
+
   pub wood-formed : n ≡ 12 → Formed s (countsOf s)
   unfolding blockRules
-  wood-formed q =
-      let behind = sym (ruling-append (formRules s) (sumRules (filed s))) ∙ refused-ruling s n p e in
-      record { clean = kept-by-number (formRules s) (ruling (formRules s)) _ refl (rw q) behind; counts = refl }
+  wood-formed q = formed-by (rw q)
+
+  pub soil-formed : n ≡ 13 → Formed s (countsOf s)
+  unfolding blockRules
+  soil-formed q = formed-by (rw q)

@@ -2,7 +2,7 @@
 --     id-used, id-parts, id-order    what rule 5 says of a place that breaks it; id-broken, what breaks it
 --     row-stands        what is so of the row that is named; row-there, the row by its numbers
 --     id-there          the id of the record at a place
---     fractions-there   the three fractions of a conversion row; limit-there, the first field above its limit
+--     fractions-there   the three fractions of a conversion row; limit-there, the first field above its limit; soil-there, the type and the sums of a soil row
 use Prim.Native.Nat.{ℕ, _+_, _-_, _*_, _/_, _%_, _<_, _≤_}
 use mathlib.Core.Path.{_≡_, refl, sym, ap, _∙_}
 use mathlib.Core.Bool.{true, not, _&&_}
@@ -17,10 +17,14 @@ use Rattle.form.specs.Records.{Filed, filed, hasId, idOf, badId}
 use Rattle.form.proofs.Tests.{on, and-true}
 use Rattle.form.proofs.Tables.{id-number}
 use Rattle.reasons.specs.declared.Row.{Row}
-use Rattle.reasons.specs.declared.Reason.the-variants.{FractionsAbove}
+use Rattle.form.specs.Sums.{soilType, sumNow, sumThen}
+use Rattle.form.specs.Verdict.{rows}
+use Rattle.areas.specs.Areas.{areasOf}
+use Rattle.areas.specs.declared.Areas.{Areas}
+use Rattle.reasons.specs.declared.Reason.the-variants.{FractionsAbove, SoilUneven}
 use Rattle.reasons.specs.declared.records.Above.{Above}
 use Rattle.reasons.specs.Above.{aboveFrom}
-use Rattle.reasons.specs.Reasons.{rowNamed, limitBy, limitReason, fractionsBy, fractionsReason}
+use Rattle.reasons.specs.Reasons.{rowNamed, limitBy, limitReason, fractionsBy, fractionsReason, soilBy, soilReason}
 use Rattle.reasons.specs.Explains.{RowStands}
 
 pub id-used : (f : Filed) (j : ℕ) → badId f j ≡ true → f .used j ≡ true
@@ -79,3 +83,9 @@ fractions-there s p k w e x y z =
 pub limit-there : (s : List ℕ) (p : ℕ) {w : Row} {at : ℕ} {a : Above} → w ≡ rowNamed s p → at ≡ recordAt (0 + p / 12) (p % 12)
     → a ≡ aboveFrom 0 (layout (w .kind)) (rowAt (layout (w .kind)) s at) → limitBy w a ≡ limitReason s p
 limit-there s p w e q = rw (q, start-of p e, w)
+
+pub soil-there : (s : List ℕ) (p : ℕ) {w : Row} {at t : ℕ} {a : Areas} → filed s .kind p ≡ 7 → w ≡ rowNamed s p → at ≡ recordAt (0 + p / 12) (p % 12)
+    → t ≡ number 2 s (at + 6) → a ≡ areasOf (rows 7 s) t → SoilUneven w t (a .now) (a .then) ≡ soilReason s p
+unfolding rowFrom
+soil-there s p k w e t a =
+    rw (a, w) (ap (soilBy (rowNamed s p) (rows 7 s)) (rw (t, start-of p e) (ap (λ (n : ℕ). soilType (rowAt (layout n) s (recordAt (p / 12) (p % 12)))) (sym k))))

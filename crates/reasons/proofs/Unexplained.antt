@@ -10,16 +10,17 @@ use lib.Dec.{ltb, leb, eqb}
 use Rattle.form.specs.Layout.{field, kinds, parametersKind, layout, aboveLimit}
 use Rattle.form.specs.Block.{blocks, edition, checkSaid, checkDue, badLength, badCheck, badHeader, badBlock}
 use Rattle.form.specs.Records.{filed, hasId, badId, brokenBy, fieldAbove, fractionsAbove, overspent, onsite, offsite, decay}
-use Rattle.form.specs.Sums.{columnK, columnL, clearedAbove}
+use Rattle.form.specs.Sums.{columnK, columnL, clearedAbove, soilUneven}
 use Rattle.form.specs.Verdict.{blockRules, rules, rows, verdictOf}
 use Rattle.form.specs.declared.Counts.{Counts}
 use Rattle.form.specs.declared.Verdict.the-variants.{Accepted}
 use Rattle.form.proofs.Tests.{and-true, and-rest, same-of}
 use Rattle.form.proofs.Order.{Kept, ruleOf, ruling-clean, kept-of}
 use Rattle.standing.proofs.Accepted.{accepted-ruling, limit-of}
+use Rattle.areas.proofs.Balanced.{kept-even}
 use Rattle.faults.proofs.First.{faulty-bad}
 use Rattle.reasons.specs.declared.Reason.{Reason}
-use Rattle.reasons.specs.Explains.{Explains, length-1, check-2, header-3, block-4, ids-5, field-6, fractions-7, wood-12}
+use Rattle.reasons.specs.Explains.{Explains, length-1, check-2, header-3, block-4, ids-5, field-6, fractions-7, wood-12, soils-13}
 use Rattle.reasons.proofs.Rows.{id-broken}
 
 -- a kind with an id is another than the parameters'
@@ -63,6 +64,10 @@ module _ (s : List ℕ) {c : Counts} (acc : verdictOf s ≡ Accepted c) where
   unfolding blockRules Kept
   wood-kept = kept 12 0 (omega arith)
 
+  soil-kept : (j : ℕ) → j < 12 * blocks s → soilUneven (filed s) j ≡ false
+  unfolding blockRules Kept
+  soil-kept = kept 13
+
   pub unexplained : {r : Reason} → Explains s r → ⊥
   unfolding badCheck brokenBy
   unexplained (length-1 h) = false≢true (sym length-kept ∙ h)
@@ -85,3 +90,4 @@ module _ (s : List ℕ) {c : Counts} (acc : verdictOf s ≡ Accepted c) where
       let r = filed s .row p in
       absurd (omega (arith, ltb-false 1000 (onsite r + offsite r + decay r) spent, h))
   unexplained (wood-12 h) = absurd (omega (arith, ltb-false (100 * columnK (rows 3 s)) (columnL (rows 1 s)) wood-kept, h))
+  unexplained (soils-13 w t r f) = f .differ (kept-even (filed s) soil-kept t)

@@ -1,5 +1,5 @@
 -- §7. "says, for a refusal, the number, the place and the values that clash: the length, stored and computed check, the block's header or non-zero byte, the two ids,
--- the field and its limit, the sum of the fractions." §8: "The explaining tool then shows 100K and L."
+-- the field and its limit, the sum of the fractions." §8: "The explaining tool then shows 100K and L."; §11: for 13 the soil type and its two area sums.
 use Prim.Native.Nat.{ℕ, _+_, _-_, _*_, _/_, _%_}
 use mathlib.Core.Bool.{cond}
 use mathlib.Core.List.{List}
@@ -9,7 +9,7 @@ use Rattle.form.specs.Bytes.{number}
 use Rattle.form.specs.Layout.{layout}
 use Rattle.form.specs.Block.{blocks, kindOf, countOf, blockNumber, blocksSaid, edition, recordAt, checkSaid, checkDue}
 use Rattle.form.specs.Records.{filed, idOf, onsite, offsite, decay}
-use Rattle.form.specs.Sums.{columnK, columnL}
+use Rattle.form.specs.Sums.{columnK, columnL, soilType, sumNow, sumThen}
 use Rattle.form.specs.Verdict.{rows}
 use Rattle.form.specs.declared.Ruling.{Ruling}
 use Rattle.form.specs.declared.Ruling.the-variants.{Broken}
@@ -18,7 +18,7 @@ use Rattle.reasons.specs.declared.records.Above.{Above}
 use Rattle.reasons.specs.declared.Header.{Header}
 use Rattle.reasons.specs.declared.Row.{Row}
 use Rattle.reasons.specs.declared.Reason.{Reason}
-use Rattle.reasons.specs.declared.Reason.the-variants.{BadLength, BadCheck, BadHeader, BadBlock, IdBelow, FieldAbove, FractionsAbove, ClearedAbove}
+use Rattle.reasons.specs.declared.Reason.the-variants.{BadLength, BadCheck, BadHeader, BadBlock, IdBelow, FieldAbove, FractionsAbove, ClearedAbove, SoilUneven}
 use Rattle.reasons.specs.Above.{aboveFrom}
 
 -- "a definition gives this paper's number and values for each of its cases": the number and the place of a reason
@@ -31,6 +31,7 @@ refusalOf (IdBelow w x) = Broken 5 (w .place)
 refusalOf (FieldAbove w i v l) = Broken 6 (w .place)
 refusalOf (FractionsAbove w n f d t) = Broken 7 (w .place)
 refusalOf (ClearedAbove u l) = Broken 12 0
+refusalOf (SoilUneven w t n o) = Broken 13 (w .place)
 
 -- the header of block b, as it stands there
 abbrev pub headerOf : List ℕ → ℕ → Header
@@ -75,6 +76,13 @@ fractionsReason s p = fractionsBy (rowNamed s p) (filed s .row p)
 abbrev pub woodReason : List ℕ → Reason
 woodReason s = ClearedAbove (100 * columnK (rows 3 s)) (columnL (rows 1 s))
 
+-- 13: the row, its soil type, and the type's area sums, now and twenty years ago
+abbrev pub soilBy : Row → List (List ℕ) → ℕ → Reason
+soilBy w soils t = SoilUneven w t (sumNow soils t) (sumThen soils t)
+
+abbrev pub soilReason : List ℕ → ℕ → Reason
+soilReason s p = soilBy (rowNamed s p) (rows 7 s) (soilType (filed s .row p))
+
 -- the values that clash where number n is given at place p. A new number is a new line.
 unfoldable pub reasonOf : List ℕ → ℕ → ℕ → Reason
 reasonOf s n p =
@@ -85,4 +93,5 @@ reasonOf s n p =
     (cond (eqb n 5) (idReason s p)
     (cond (eqb n 6) (limitReason s p)
     (cond (eqb n 7) (fractionsReason s p)
-    (woodReason s)))))))
+    (cond (eqb n 12) (woodReason s)
+    (soilReason s p))))))))

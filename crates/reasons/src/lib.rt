@@ -11,6 +11,7 @@ ghost use Rattle.reasons.specs.Reasons.{headerOf, checkReason, headerRea
 use crate::records::field_above;
 use crate::records::fractions_above;
 use crate::records::id_below;
+use crate::records::soil_uneven;
 use balance::weigh_wood;
 use faults::Fault;
 use faults::first_fault;
@@ -77,6 +78,12 @@ pub enum Reason {
     ClearedAbove {
         used: u64,
         cleared: u64,
+    },
+    SoilUneven {
+        row: Row,
+        soil: u32,
+        now: u64,
+        then: u64,
     },
 }
 
@@ -157,6 +164,7 @@ pub fn reason_of(bytes: &[u8], number: u8, place: u32) -> Reason
         5 => id_below(bytes, place),
         6 => field_above(bytes, place),
         7 => fractions_above(bytes, place),
-        _ => cleared_above(bytes),
+        12 => cleared_above(bytes),
+        _ => soil_uneven(bytes, place),
     }
 }

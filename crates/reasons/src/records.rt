@@ -1,4 +1,4 @@
-// The values that clash in a record, by its place: numbers 5, 6 and 7.
+// The values that clash in a record, by its place: numbers 5, 6, 7 and 13.
 ghost use mathlib.Core.Path.{_≡_};
 ghost use mathlib.Core.Bool.{true};
 ghost use Prim.Native.Nat.{_+_, _*_, _^_, _≤_, _<_};
@@ -7,9 +7,11 @@ ghost use Rattle.form.specs.Layout.{layout, rowAt};
 ghost use Rattle.form.specs.Block.{blocks};
 ghost use Rattle.form.specs.Records.{filed, badId};
 ghost use Rattle.reasons.specs.Above.{aboveFrom};
-ghost use Rattle.reasons.specs.Reasons.{rowNamed, idReason, limitReason, fractionsReason};
+ghost use Rattle.form.specs.Verdict.{countsOf, Formed};
+ghost use Rattle.reasons.specs.Reasons.{rowNamed, idReason, limitReason, fractionsReason, soilReason};
 use crate::Reason;
 use crate::Row;
+use areas::areas_of;
 use form::byte_at;
 use form::four_at;
 use form::layout::field;
@@ -17,6 +19,7 @@ use form::layout::numbers;
 use form::number_at;
 use form::row_start;
 use form::two_at;
+use judge::count_rows;
 
 // A field above its limit: its number in the row, what it is, and what it may be.
 pub struct Above {
@@ -105,5 +108,22 @@ pub fn fractions_above(bytes: &[u8], place: u32) -> Reason
         offsite,
         decay,
         sum: onsite + offsite + decay,
+    }
+}
+
+// 13: a row of mineral soil, its soil type, and the two area sums of the type over the whole return.
+pub fn soil_uneven(bytes: &[u8], place: u32) -> Reason
+    requires { ⌜ Formed (now bytes) (countsOf (now bytes)) ⌝ }
+    requires { ⌜ (place < 12 * blocks (now bytes)) × (filed (now bytes) .kind place ≡ 7) ⌝ }
+    ensures { λ r. ⌜ r ≡ soilReason (now (bytes .entry)) place ⌝ }
+{
+    let row = row_named(bytes, place);
+    let soil = two_at(bytes, row_start(0, place as usize) + 6);
+    let sums = areas_of(bytes, count_rows(bytes), soil);
+    Reason::SoilUneven {
+        row,
+        soil,
+        now: sums.now,
+        then: sums.then,
     }
 }

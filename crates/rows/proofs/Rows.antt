@@ -1,72 +1,33 @@
 -- The rows of an accepted return, kind by kind, as they are decoded. Assumes nothing.
---     rows-turn       the rows of a kind are those at its places; rows-long, how many numbers they are
 --     need-next       the room that the kinds need, one more
 --     judged, short, all-read    the answers, from rule to rule
 use Prim.Native.Nat.{ℕ, zero, suc, _+_, _*_, _/_, _≤_, _<_}
 use mathlib.Core.Path.{_≡_, refl, sym, ap, ap₂, _∙_}
 use mathlib.Core.List.{List, [], _∷_, _++_, flatten}
-use native.Mathlib.Nat.{mul-le-mul}
 use native.Mathlib.Omega.{arith}
 use lib.ListN.{length}
 use borrow.Author.Tests.{ltb-false}
 use Rattle.form.specs.First.{first}
 use Rattle.form.specs.Layout.{kinds, numbersOf}
 use Rattle.form.specs.Ruling.{rule, ruling}
-use Rattle.form.specs.Block.{blocks}
-use Rattle.form.specs.Records.{Filed, filed}
 use Rattle.form.specs.Verdict.{rules, rowCount, rows, countsOf, countIn, verdictBy, verdictOf, Formed}
-use Rattle.form.specs.Standing.{blocksFor, startBlock, startPlace, rowsFrom}
+use Rattle.form.specs.Standing.{blocksFor, startBlock}
 use Rattle.form.specs.declared.Counts.{Counts}
 use Rattle.form.specs.declared.Spot.the-variants.{At, Nowhere}
 use Rattle.form.specs.declared.Verdict.the-variants.{Accepted, Refused}
 use Rattle.form.proofs.Search.{first-none}
 use Rattle.form.proofs.Order.{ruled, kept, ruled-before, kept-before}
 use Rattle.form.proofs.Meaning.{refused-ruling}
-use Rattle.standing.proofs.Stand.{start-le, start-all}
-use Rattle.standing.proofs.Accepted.{accepted-ruling, formed, formed-counts, in-order, lies, rows-are, few-rows}
+use Rattle.standing.proofs.Accepted.{accepted-ruling, formed, formed-counts}
 use Rattle.filing.specs.Written.{inTurn}
-use Rattle.filing.specs.Tables.{rowOn}
-use Rattle.filing.proofs.Stores.{length-turns}
-use Rattle.filing.proofs.Parts.{length-rowOn}
-use Rattle.form.proofs.Fields.{few-numbers}
-use Rattle.filing.proofs.Alike.{turn-same}
 use Rattle.filing.proofs.Laying.{length-next}
+use Rattle.decoding.proofs.Decoded.{rows-long}
 use Rattle.rows.specs.Reading.{rowsOf, areaTo, outgrown, readRules, readAnswer}
 
-pub flat-from : (f : Filed) (j n : ℕ) → flatten (rowsFrom f j n) ≡ inTurn (f .row) j n
-unfolding flatten rowsFrom inTurn
-flat-from f j zero = refl
-flat-from f j (suc n) = ap (λ (x : List ℕ). f .row j ++ x) (flat-from f (suc j) n)
-
 module _ (s : List ℕ) (c : Counts) (acc : Formed s c) (k : ℕ) (h : k < kinds) where
-  pub rows-turn : inTurn (rowOn (suc k) s) (startPlace (suc k) s) (rowCount (suc k) s) ≡ rowsOf s (suc k)
-  unfolding rowOn
-  rows-turn =
-      turn-same (rowOn (suc k) s) (filed s .row) (startPlace (suc k) s) (startPlace (suc k) s) (rowCount (suc k) s)
-      (λ i l.
-      let b : (startPlace (suc k) s + i) / 12 ≡ startBlock (suc k) s + i / 12 = omega arith in
-      rw (b, lies s c acc (suc k) i (omega arith) h l .kind))
-      ∙ sym (flat-from (filed s) (startPlace (suc k) s) (rowCount (suc k) s))
-      ∙ ap flatten (sym (rows-are s c acc (suc k)))
-
-  pub rows-long : length (rowsOf s (suc k)) ≡ numbersOf (suc k) * rowCount (suc k) s
-  rows-long = ap length (sym rows-turn) ∙ length-turns (rowOn (suc k) s) (numbersOf (suc k)) (length-rowOn (suc k) s) (startPlace (suc k) s) (rowCount (suc k) s)
-
-  -- at most 32 rows of at most 16 numbers
-  pub rows-few : numbersOf (suc k) * rowCount (suc k) s ≤ 512
-  rows-few = mul-le-mul (few-numbers (suc k)) (few-rows s c acc (suc k))
-
-  -- the places of the kind's rows are in the blocks
-  pub places-in : startPlace (suc k) s + rowCount (suc k) s ≤ 12 * blocks s
-  unfolding startBlock
-  places-in =
-      let o = in-order s c acc in
-      let le = start-le s o (suc (suc k)) (suc kinds) (omega arith) in
-      omega (arith, start-all s o)
-
   -- one kind more
   pub need-next : length (areaTo s (k + 1)) ≡ length (areaTo s k) + numbersOf (suc k) * rowCount (suc k) s
-  need-next = length-next (rowsOf s) k ∙ ap (λ (x : ℕ). length (areaTo s k) + x) rows-long
+  need-next = length-next (rowsOf s) k ∙ ap (λ (x : ℕ). length (areaTo s k) + x) (rows-long s c acc k h)
 
 pub start-next : (s : List ℕ) (k : ℕ) → startBlock (suc (suc k)) s ≡ startBlock (suc k) s + blocksFor (rowCount (suc k) s)
 unfolding startBlock

@@ -1,4 +1,4 @@
--- "Writing: 10, then 5 to 9", with 12 "straight after 7". "Success writes exactly the blocks at the front; later elements keep their values."
+-- "Writing: 10, then 5 to 9", with 12 "straight after 7" and 13 "straight after 12". "Success writes exactly the blocks at the front; later elements keep their values."
 use Prim.Native.Nat.{ℕ}
 use mathlib.Core.List.{List, [], _∷_, _++_}
 use lib.ListN.{length}

@@ -69,7 +69,7 @@ module _ (s : List ℕ) (one : edition s 0 ≡ 1) where
   unfolding lastKind
   low-kinds h b l = let g = headed s b (h b l) in rw (g .alike, one) at (g .high)
 
-  form-as-before : length s ≤ 5120 → ruling (formRules s) ≡ ruling (rules01 s)
+  pub form-as-before : length s ≤ 5120 → ruling (formRules s) ≡ ruling (rules01 s)
   unfolding blockRules badLength
   form-as-before short =
       both-rule 1 1 (λ p. badLength s) (λ p. badLength01 s) _ _ (first-same _ _ 1 (λ p l. lengths-same)) (λ e.

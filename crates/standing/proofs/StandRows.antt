@@ -1,9 +1,10 @@
 -- The rows of a kind of an accepted return stand one after the other. Assumes nothing.
 --     rows-stand    rows k s are the rows at rowCount k s places from startPlace k s on
 --     row-at        the row at such a place, by block and position
---     from-length, from-at    how many rows a run of places has, and each of them
+--     from-length, from-at    how many rows a run of places has, and each of them; from-same, each by its equal
+--     in-line       rows of which each stands as far behind the first as there are before it; tally, how many there are before a place
 use Prim.Native.Nat.{ℕ, zero, suc, _+_, _*_, _/_, _%_, _<_, _≤_, min}
-use mathlib.Core.Path.{_≡_, refl, ap, _∙_}
+use mathlib.Core.Path.{_≡_, refl, ap, ap₂, _∙_}
 use mathlib.Core.Bool.{Bool, true, false, cond, _&&_, and-false}
 use mathlib.Core.List.{List, [], _∷_, _++_, append-nil}
 use native.Mathlib.Nat.{add-zero}
@@ -22,7 +23,7 @@ use Rattle.form.proofs.Places.{block-of, position-of, rowIn}
 use Rattle.standing.proofs.Stand.{Ordered, full-at, at-start}
 
 module _ (f : Filed) where
-  from-snoc : (j n : ℕ) → rowsFrom f j (suc n) ≡ rowsFrom f j n ++ (f .row (j + n) ∷ [])
+  pub from-snoc : (j n : ℕ) → rowsFrom f j (suc n) ≡ rowsFrom f j n ++ (f .row (j + n) ∷ [])
   unfolding rowsFrom
   from-snoc j zero = rw (add-zero j)
   from-snoc j (suc n) = let e : j + suc n ≡ suc j + n = omega arith in rw e (ap (λ (l : List (List ℕ)). f .row j ∷ l) (from-snoc (suc j) n))
@@ -40,12 +41,12 @@ module _ (f : Filed) where
 
   module _ (k : ℕ) where
     -- how many of the first n places hold a row of the kind
-    unfoldable tally : ℕ → ℕ
+    unfoldable pub tally : ℕ → ℕ
     tally zero = 0
     tally (suc n) = tally n + cond (f .used n && eqb (f .kind n) k) 1 0
 
     -- rows of which each stands as far behind place i as there are before it
-    in-line : (i n : ℕ) → ((j : ℕ) → j < n → (f .used j && eqb (f .kind j) k) ≡ true → j ≡ i + tally j) → rowsBelow f k n ≡ rowsFrom f i (tally n)
+    pub in-line : (i n : ℕ) → ((j : ℕ) → j < n → (f .used j && eqb (f .kind j) k) ≡ true → j ≡ i + tally j) → rowsBelow f k n ≡ rowsFrom f i (tally n)
     unfolding rowsBelow rowsFrom tally
     in-line i zero h = refl
     in-line i (suc n) h = go (f .used n && eqb (f .kind n) k) (h n (omega arith)) (in-line i n (λ j l. h j (omega arith)))
@@ -54,6 +55,19 @@ module _ (f : Filed) where
             → rowsBelow f k n ++ cond b (f .row n ∷ []) [] ≡ rowsFrom f i (tally n + cond b 1 0)
         go true e q = rw (q, add-one (tally n), from-snoc i (tally n), ← e refl)
         go false e q = rw (add-zero (tally n), append-nil (rowsBelow f k n)) q
+
+-- the rows at places, each by its equal
+pub from-same : (f g : Filed) (i j n : ℕ) → ((k : ℕ) → k < n → f .row (i + k) ≡ g .row (j + k)) → rowsFrom f i n ≡ rowsFrom g j n
+unfolding rowsFrom
+from-same f g i j zero h = refl
+from-same f g i j (suc n) h =
+    ap₂ (λ (x : List ℕ) (y : List (List ℕ)). x ∷ y)
+    (rw (add-zero i, add-zero j) at (h 0 (omega arith)))
+    (from-same f g (suc i) (suc j) n
+    (λ k l.
+    let a : suc i + k ≡ i + suc k = omega arith in
+    let b : suc j + k ≡ j + suc k = omega arith in
+    rw (a, b) (h (suc k) (omega arith))))
 
 -- one place more of a block with c rows, of the kind or not
 one-more : (e : Bool) (r c : ℕ) → min r (cond e c 0) + cond (ltb r c && e) 1 0 ≡ min (suc r) (cond e c 0)

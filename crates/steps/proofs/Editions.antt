@@ -1,4 +1,4 @@
--- What an accepted return says of its edition, and an edition 1 return of abandoned land and savannas; and that 4 stops one above ten blocks. Assumes nothing.
+-- What an accepted return says of its edition, and an edition 1 return of abandoned land, savannas and mineral soils; and that 4 stops one above ten blocks. Assumes nothing.
 use Prim.Native.Nat.{ℕ, _+_, _/_, _≤_, _<_}
 use mathlib.Core.Path.{_≡_, refl, ap, _∙_}
 use mathlib.Core.Bool.{false}
@@ -6,6 +6,7 @@ use mathlib.Core.List.{List, [], _∷_, _++_}
 use native.Mathlib.Decide.{decLt}
 use native.Mathlib.Omega.{arith}
 use lib.Dec.{lit≤}
+use lib.IntN.{pos}
 use lib.ListN.{length}
 use Rattle.form.specs.First.{first}
 use Rattle.form.specs.Ruling.{ruling}
@@ -33,6 +34,7 @@ use Rattle.units.specs.Columns.{co2}
 use Rattle.burning.specs.Released.{burnedBy}
 use Rattle.burning.specs.Gases.{gas, gasesOf}
 use Rattle.savannas.specs.Savannas.{savannasOf}
+use Rattle.soils.specs.Soils.{soilGain, soilChange, allStocks, soilsOf}
 use Rattle.worksheets.specs.Sheets.{abandonedOf, byKind, figuresOf}
 
 none-left : (l : List (List ℕ)) → length l ≡ 0 → l ≡ []
@@ -55,6 +57,10 @@ module _ (s : List ℕ) (c : Counts) (accepted : verdictOf s ≡ Accepted c) whe
     unfolding lastKind
     no-row-6 = no-rows s c acc 6 (rw one (lit≤ tt))
 
+    no-row-7 : rowCount 7 s ≡ 0
+    unfolding lastKind
+    no-row-7 = no-rows s c acc 7 (rw one (lit≤ tt))
+
     pub no-land : c .abandoned ≡ 0
     no-land = ap (λ (x : Counts). x .abandoned) (formed-counts s c acc) ∙ no-row
 
@@ -68,6 +74,13 @@ module _ (s : List ℕ) (c : Counts) (accepted : verdictOf s ≡ Accepted c) whe
     pub no-fire : figuresOf (byKind s) .savannas ≡ record { carbon = carbon 0; gases = record { ch4 = gas 0; co = gas 0; n2o = gas 0; nox = gas 0 } }
     unfolding savannasOf burnedBy gasesOf sumOf settled value wordsOf
     no-fire = rw (none-left (rows 6 s) (rows-length s c acc 6 ∙ no-row-6)) refl
+
+    pub no-soil : c .soils ≡ 0
+    no-soil = ap (λ (x : Counts). x .soils) (formed-counts s c acc) ∙ no-row-7
+
+    pub no-change : figuresOf (byKind s) .soils ≡ record { soil = soilGain (pos 0); change = soilChange (pos 0) }
+    unfolding soilsOf allStocks sumOf settled value wordsOf
+    no-change = rw (none-left (rows 7 s) (rows-length s c acc 7 ∙ no-row-7)) refl
 
 -- ---- "4 then stops an edition 1 return above ten"
 module _ (s : List ℕ) (one : edition s 0 ≡ 1) where
@@ -95,7 +108,7 @@ module _ (s : List ℕ) (one : edition s 0 ≡ 1) where
     at-most-ten : 1 ≤ blocks s → blocks s ≤ 10
     unfolding kinds startBlock
     at-most-ten h =
-        omega (arith, start-all s in-order, few 1, few 2, few 3, only-row s in-order h, none-above 5 (omega arith), none-above 6 (omega arith))
+        omega (arith, start-all s in-order, few 1, few 2, few 3, only-row s in-order h, none-above 5 (omega arith), none-above 6 (omega arith), none-above 7 (omega arith))
 
   pub ten-blocks : (c : Counts) → verdictOf s ≡ Accepted c → length s ≤ 5120
   ten-blocks c accepted =

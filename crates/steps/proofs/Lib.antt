@@ -1,7 +1,8 @@
 -- The steps of promises, each theorem's where no crate below has them.
 --     Told      a verdict, what a write answers, the figures and the doubles are one ruling's alone; what the sheets' answer says
---     Editions  what is told of an edition, that edition 1 has no abandoned land and no savannas, and that 4 stops one above ten blocks
+--     Editions  what is told of an edition, that edition 1 has no abandoned land, no savannas and no mineral soils, and that 4 stops one above ten blocks
 --     Wood      what rule 12 says of a return, and of M and O
+--     Soils     what rule 13 says of a return, and of rows to be written
 --     Figures   so many parts of a mass that is held as words
 --     Rounds    rounding is to nearest, a half to the even neighbour, for both signs
 --     Clauses   what follows from the facts of a contract's clauses
@@ -10,6 +11,7 @@
 pub mod Told
 pub mod Editions
 pub mod Wood
+pub mod Soils
 pub mod Figures
 pub mod Rounds
 pub mod Clauses

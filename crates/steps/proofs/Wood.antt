@@ -1,11 +1,11 @@
 -- What rule 12 says of a return, and of M and O. Assumes nothing.
 --     wood-good, wood-refused    an accepted return uses at least what it clears; one that is refused 12 clears more, and the place is 0
---     wood-passes, wood-stops    of a return that keeps the other rules, which of the two it is
+--     wood-passes, wood-stops    of a return that keeps the rules before, which of the two it is
 --     plain-m, plain-o           so M and O are plain numbers
 use Prim.Native.Nat.{ℕ, _-_, _*_, _≤_, _<_}
 use mathlib.Core.Path.{_≡_, refl, sym, ap, _∙_}
 use mathlib.Core.Bool.{true, false}
-use mathlib.Core.List.{List, [], _++_}
+use mathlib.Core.List.{List, _++_}
 use native.Mathlib.Omega.{arith}
 use borrow.Author.Tests.{lt-ltb, le-ltb, ltb-true, ltb-false}
 use lib.IntN.{ℤ, pos, _-ℤ_, _*ℤ_}
@@ -19,6 +19,7 @@ use Rattle.form.specs.declared.Verdict.the-variants.{Accepted, Refused}
 use Rattle.form.proofs.Order.{Kept, kept-of, append-kept, ruling-clean, kept-before, one-broken, one-kept}
 use Rattle.form.proofs.Meaning.{broken-at}
 use Rattle.standing.proofs.Accepted.{accepted-ruling}
+use Rattle.areas.specs.Areas.{soilRules}
 use Rattle.wide.specs.Signs.{amount}
 use Rattle.wide.proofs.Laws.{value-words}
 use Rattle.wide.proofs.SignLaws.{minus-above, form-holds}
@@ -44,12 +45,11 @@ module _ (s : List ℕ) where
 
   -- rules that are all kept, and behind them 12
   module _ (rs : List Rule) (clean : ruling rs ≡ Clean) where
-    pub wood-passes : columnL (rows 1 s) ≤ 100 * columnK (rows 3 s) → ruling (rs ++ sumRules (filed s)) ≡ Clean
-    unfolding ruling
-    wood-passes h = kept-before rs (sumRules (filed s)) clean ∙ one-kept 12 _ [] (wood-clean (rows 3 s) (rows 1 s) h)
+    pub wood-passes : columnL (rows 1 s) ≤ 100 * columnK (rows 3 s) → ruling (rs ++ sumRules (filed s)) ≡ ruling (soilRules (filed s))
+    wood-passes h = kept-before rs (sumRules (filed s)) clean ∙ one-kept 12 _ (soilRules (filed s)) (wood-clean (rows 3 s) (rows 1 s) h)
 
     pub wood-stops : 100 * columnK (rows 3 s) < columnL (rows 1 s) → ruling (rs ++ sumRules (filed s)) ≡ Broken 12 0
-    wood-stops h = kept-before rs (sumRules (filed s)) clean ∙ one-broken 12 _ [] (lt-ltb (100 * columnK (rows 3 s)) (columnL (rows 1 s)) h)
+    wood-stops h = kept-before rs (sumRules (filed s)) clean ∙ one-broken 12 _ (soilRules (filed s)) (lt-ltb (100 * columnK (rows 3 s)) (columnL (rows 1 s)) h)
 
 -- M where no more is cleared than used, and O from it
 module _ (k l : ℕ) (h : l ≤ 100 * k) where

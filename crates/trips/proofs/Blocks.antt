@@ -1,5 +1,4 @@
 -- One block: what stands in the bytes as it is written, and what the rules read there. Assumes nothing.
---     turn-stands, turns-stand    parts of one length, one after the other
 --     block-read      a block that stands as it is written is read as it was given
 --     block-stands    a block that breaks no rule stands as it would be written
 use Prim.Native.Nat.{ℕ, zero, suc, _+_, _-_, _*_, _/_, _^_, _<_, _≤_}
@@ -25,35 +24,9 @@ use Rattle.filing.specs.Written.{zeros, recordFrom, inTurn, headOf, sealed, rec
 use Rattle.form.specs.Bytes.{littleEndian}
 use Rattle.filing.proofs.Stands.{Stands, stands-left, stands-right, stands-join, stands-at, Bytes, length-le, number-read, number-stands, zeros-read, zeros-stand, record-stands}
 use Rattle.filing.proofs.Stores.{length-turns, zeros-turn}
+use Rattle.filing.proofs.Turns.{turn-stands, turns-stand}
 use Rattle.form.proofs.Fields.{ends-40}
 use Rattle.filing.proofs.Parts.{length-head, length-on, length-body, used-count}
-
-module _ (f : ℕ → List ℕ) (w : ℕ) (long : (k : ℕ) → length (f k) ≡ w) (s : List ℕ) where
-  -- part k of what stands
-  pub turn-stands : (n i p k : ℕ) → k < n → Stands s p (inTurn f i n) → Stands s (p + w * k) (f (i + k))
-  unfolding inTurn
-  turn-stands zero i p k h st = absurd (omega arith)
-  turn-stands (suc n) i p zero h st =
-      let q : p + w * 0 ≡ p = omega (arith, mul-zero w) in
-      rw (q, add-zero i) (stands-left (f i) (inTurn f (suc i) n) st)
-  turn-stands (suc n) i p (suc k) h st =
-      let q : p + w * suc k ≡ p + w + w * k = omega (arith, mul-suc w k) in
-      let j : i + suc k ≡ suc i + k = omega arith in
-      rw (q, j) (turn-stands n (suc i) (p + w) k (omega arith) (stands-right (f i) (inTurn f (suc i) n) (ap (λ (x : ℕ). p + x) (long i)) st))
-
-  -- a whole whose parts stand
-  pub turns-stand : (n i p : ℕ) → ((k : ℕ) → k < n → Stands s (p + w * k) (f (i + k))) → Stands s p (inTurn f i n)
-  unfolding inTurn
-  turns-stand zero i p h = record { rest = drop p s; is = refl }
-  turns-stand (suc n) i p h =
-      let z : p + w * 0 ≡ p = omega (arith, mul-zero w) in
-      stands-join (f i) (inTurn f (suc i) n) {q = p + w} (ap (λ (x : ℕ). p + x) (long i))
-      (rw (z, add-zero i) at (h 0 (omega arith)))
-      (turns-stand n (suc i) (p + w)
-      (λ k l.
-      let q : p + w + w * k ≡ p + w * suc k = omega (arith, mul-suc w k) in
-      let j : suc i + k ≡ i + suc k = omega arith in
-      rw (q, j) (h (suc k) (omega arith))))
 
 -- ---- read as it was given
 

@@ -25,6 +25,7 @@ use Rattle.form.proofs.Search.{any-none}
 use Rattle.form.proofs.Order.{Kept, AllKept, more, ruling-clean, clean-ruling}
 use Rattle.form.proofs.EachKind.{parameters-kind}
 use Rattle.standing.proofs.Stand.{blocks-yes, blocks-no}
+use Rattle.standing.proofs.StandRows.{from-same}
 use Rattle.form.proofs.Meaning.{accepted}
 use Rattle.standing.proofs.Accepted.{formed, rows-are}
 use Rattle.filing.specs.Lists.{Lists, ofKind, rowsIn, rowOf, filedList, filedLists}
@@ -33,7 +34,7 @@ use Rattle.filing.proofs.Choice.{or-of, unless, implies}
 use Rattle.filing.proofs.Alike.{Alike, turn-same}
 use Rattle.rows.specs.Reading.{rowsOf, listsFrom, rowLists}
 use Rattle.rows.specs.Writing.{written}
-use Rattle.rows.proofs.Rows.{flat-from}
+use Rattle.decoding.proofs.Decoded.{flat-from}
 use Rattle.trips.proofs.Same.{rules-same, solid-lists}
 use Rattle.trips.proofs.Shape.{blocksAt, startOf, start-next, start-mono, Where, whereis, where-rises, list-at}
 use Rattle.trips.proofs.Standing.{rowsAt, nth, Clear, places-blocks, long, one-block, few-blocks, blocks-there, nth-block, read, kind-is, count-is, place-same, no-stray}
@@ -64,19 +65,6 @@ turn-take w r i (suc n) =
     let q : w * suc n ≡ w + w * n = omega (arith, mul-suc w n) in
     let p : w * suc i ≡ w * i + w = mul-suc w i in
     rw (turn-take w r (suc i) n, q, p, take-add w (w * n) (drop (w * i) r), drop-drop w (w * i) r)
-
--- the rows at places, each by its equal
-from-same : (f g : Filed) (i j n : ℕ) → ((k : ℕ) → k < n → f .row (i + k) ≡ g .row (j + k)) → rowsFrom f i n ≡ rowsFrom g j n
-unfolding rowsFrom
-from-same f g i j zero h = refl
-from-same f g i j (suc n) h =
-    ap₂ (λ (x : List ℕ) (y : List (List ℕ)). x ∷ y)
-    (rw (add-zero i, add-zero j) at (h 0 (omega arith)))
-    (from-same f g (suc i) (suc j) n
-    (λ k l.
-    let a : suc i + k ≡ i + suc k = omega arith in
-    let b : suc j + k ≡ j + suc k = omega arith in
-    rw (a, b) (h (suc k) (omega arith))))
 
 module _ (ed : ℕ) (l : Lists) (ok : Clear ed l) where
   -- their return

@@ -22,28 +22,17 @@ use Rattle.filing.specs.Written.{inTurn}
 use Rattle.filing.specs.Tables.{rowOn}
 use Rattle.filing.proofs.Parts.{length-rowOn}
 use Rattle.filing.proofs.Stands.{stands-whole}
-use Rattle.trips.proofs.Blocks.{turn-stands}
+use Rattle.filing.proofs.Turns.{turn-part}
+use Rattle.decoding.proofs.Decoded.{rows-turn, rows-counted}
 use Rattle.form.proofs.Fields.{some-numbers}
 use Rattle.filing.proofs.Choice.{ltb-same}
 use Rattle.filing.proofs.Alike.{Alike, alike-then, alike-join, front-alike, back-alike}
 use Rattle.rows.specs.Reading.{rowsOf, listsFrom, rowLists}
-use Rattle.rows.proofs.Rows.{rows-turn, rows-long, start-next, start-first}
-
--- ---- parts of one length
-
-turn-part : (f : ℕ → List ℕ) (w : ℕ) → ((k : ℕ) → length (f k) ≡ w) → (n i k : ℕ) → k < n → take w (drop (w * k) (inTurn f i n)) ≡ f (i + k)
-turn-part f w long n i k h =
-    let st = turn-stands f w long (inTurn f i n) n i 0 k h (stands-whole (inTurn f i n)) in
-    rw (rw (zero-add (w * k)) at (st .is)) (take-at (f (i + k)) (st .rest) w (long (i + k)))
+use Rattle.rows.proofs.Rows.{start-next, start-first}
 
 -- ---- one kind
 
 module _ (s : List ℕ) (c : Counts) (acc : Formed s c) (k : ℕ) (h : k < kinds) where
-  pub rows-counted : rowsIn (suc k) (length (rowsOf s (suc k))) ≡ rowCount (suc k) s
-  rows-counted =
-      ap (λ (x : ℕ). x / numbersOf (suc k)) (rows-long s c acc k h)
-      ∙ mul-div-cancel-left (rowCount (suc k) s) (some-numbers k h)
-
   -- the block of a place of the kind
   there : (i : ℕ) → i < 12 * blocksFor (rowCount (suc k) s)
       → let b = (startPlace (suc k) s + i) / 12 in (kindOf s b ≡ suc k) × (countOf s b ≡ min 12 (rowCount (suc k) s - 12 * (i / 12)))
@@ -67,10 +56,10 @@ module _ (s : List ℕ) (c : Counts) (acc : Formed s c) (k : ℕ) (h : k < kinds
   list-alike = record {
     at = λ i l.
         record {
-          used = rw (zero-add i, rows-counted) (used-there i l);
+          used = rw (zero-add i, rows-counted s c acc k h) (used-there i l);
           kind = sym (there i l .0);
           row = λ t.
-              let lt : i < rowCount (suc k) s = ltb-true i (rowCount (suc k) s) (rw (zero-add i, rows-counted) at t) in
+              let lt : i < rowCount (suc k) s = ltb-true i (rowCount (suc k) s) (rw (zero-add i, rows-counted s c acc k h) at t) in
               rw (zero-add i, ← rows-turn s c acc k h)
               (turn-part (rowOn (suc k) s) (numbersOf (suc k)) (length-rowOn (suc k) s) (rowCount (suc k) s) (startPlace (suc k) s) i lt
               ∙ rw (there i l .0));
@@ -80,7 +69,7 @@ module _ (s : List ℕ) (c : Counts) (acc : Formed s c) (k : ℕ) (h : k < kinds
   -- as many places as its blocks have
   pub list-places : filedList (suc k) (rowsOf s (suc k)) .places ≡ 12 * blocksFor (rowCount (suc k) s)
   unfolding filedList
-  list-places = ap (λ (x : ℕ). 12 * blocksFor x) rows-counted
+  list-places = ap (λ (x : ℕ). 12 * blocksFor x) (rows-counted s c acc k h)
 
 -- ---- all kinds
 

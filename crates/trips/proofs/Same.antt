@@ -12,7 +12,9 @@ use lib.ListN.{length}
 use Rattle.form.specs.First.{first}
 use Rattle.form.specs.Ruling.{rule, refuse, ruling}
 use Rattle.form.specs.Records.{Filed, RowTest, RowRule, hasId, idOf, badId, brokenBy, rowRules, overPlaces, recordRules, rowsBelow, filedRows}
-use Rattle.form.specs.Sums.{clearedAbove, sumRules, filedRules}
+use Rattle.form.specs.Sums.{clearedAbove, soilType, lowestUneven, soilUneven, sumRules, filedRules}
+use Rattle.form.specs.declared.Spot.{Spot}
+use Rattle.form.specs.declared.Ruling.the-variants.{Clean}
 use Rattle.form.proofs.Order.{orRule, ruling-append}
 use Rattle.form.proofs.Tests.{guarded}
 use Rattle.form.proofs.Search.{first-same}
@@ -63,8 +65,22 @@ module _ (e : ℕ) (f g : Filed) (a : Alike f 0 g 0 (f .places)) (same : f .plac
   kind-same : (k : ℕ) → filedRows f k ≡ filedRows g k
   kind-same k = rows-alike k (f .places) (same-at a) ∙ ap (rowsBelow g k) same
 
+  -- 13 at a place is a test of its row, by the rows of mineral soil
+  soil-same : (j : ℕ) → j < f .places → soilUneven f j ≡ soilUneven g j
+  unfolding soilUneven brokenBy
+  soil-same j h =
+      row-same a 0 (soilTest (filedRows f 7)) j h
+      ∙ ap (λ (soils : List (List ℕ)). g .used j && soilTest soils 0 (g .kind j) (g .row j)) (kind-same 7)
+    where
+      soilTest : List (List ℕ) → RowTest
+      soilTest soils edition kind r = eqb kind 7 && lowestUneven soils (soilType r)
+
   sums-same : ruling (sumRules f) ≡ ruling (sumRules g)
-  sums-same = ap₂ (λ (h c : List (List ℕ)). ruling (rule 12 1 (λ p. clearedAbove h c) ∷ [])) (kind-same 3) (kind-same 1)
+  unfolding ruling
+  sums-same =
+      ap₂ (λ (b : Bool) (s : Spot). refuse 12 (first (λ p. b) 1) (refuse 13 s Clean))
+      (ap₂ clearedAbove (kind-same 3) (kind-same 1))
+      (at (soilUneven f) (soilUneven g) soil-same)
 
   pub rules-same : Solid f (f .places) → ruling (filedRules e f) ≡ ruling (filedRules e g)
   rules-same solid =

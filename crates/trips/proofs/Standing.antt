@@ -30,7 +30,8 @@ use Rattle.lists.specs.Rules.{Good, listRules, blocksFrom}
 use Rattle.lists.proofs.Numbers.{good, edition-good, kind-good}
 use Rattle.rows.specs.Writing.{written}
 use Rattle.rows.proofs.Return.{places-from, written-turn, length-written}
-use Rattle.trips.proofs.Blocks.{turn-stands, Read, block-read}
+use Rattle.filing.proofs.Turns.{turn-stands}
+use Rattle.trips.proofs.Blocks.{Read, block-read}
 use Rattle.trips.proofs.Shape.{blocksAt, startOf, start-next, start-mono, start-all, Where, list-at}
 use Rattle.trips.proofs.Fitting.{fits, length-rowOf}
 

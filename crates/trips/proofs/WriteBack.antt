@@ -34,10 +34,11 @@ use Rattle.lists.specs.Rules.{badList, badLengths, notAllowed, badAt, listRules
 use Rattle.rows.specs.Reading.{rowsOf, listsFrom, rowLists, lengthsFrom, lengthsOf}
 use Rattle.rows.specs.Writing.{written}
 use Rattle.rows.proofs.Return.{places-from, length-written}
-use Rattle.rows.proofs.Rows.{rows-long}
+use Rattle.decoding.proofs.Decoded.{rows-long, rows-counted}
 use Rattle.trips.proofs.Same.{rules-same, solid-lists}
-use Rattle.trips.proofs.Blocks.{turns-stand, block-stands}
-use Rattle.trips.proofs.Rooms.{rows-counted, lists-places, lists-alike}
+use Rattle.filing.proofs.Turns.{turns-stand}
+use Rattle.trips.proofs.Blocks.{block-stands}
+use Rattle.trips.proofs.Rooms.{lists-places, lists-alike}
 
 good-list : (kind n : ℕ) → n % numbersOf kind ≡ 0 → rowsIn kind n ≤ 32 → (kind ≡ parametersKind → rowsIn kind n ≡ 1) → badList kind n ≡ false
 unfolding badList

@@ -93,4 +93,5 @@ same-figures a b h =
     let four = h 3 (omega (arith, kinds-are)) in
     let five = h 4 (omega (arith, kinds-are)) in
     let six = h 5 (omega (arith, kinds-are)) in
-    rw (one, two, three, four, five, six)
+    let seven = h 6 (omega (arith, kinds-are)) in
+    rw (one, two, three, four, five, six, seven)

@@ -1,4 +1,4 @@
--- The figures of a return, sheet by sheet, from its rows: 5-1 and 5-2 from the crate ledger, 4-3 from savannas, 5-3 and 5-4 here, in the unit of 01's "Worksheet rules".
+-- The figures of a return, sheet by sheet, from its rows: 5-1 and 5-2 from the crate ledger, 4-3 from savannas, 5-5 from soils, 5-3 and 5-4 here, in the unit of 01's "Worksheet rules".
 use Prim.Native.Nat.{ℕ, _≤_}
 use mathlib.Core.List.{List, [], _∷_}
 use lib.ListN.{getD}
@@ -14,6 +14,7 @@ use Rattle.burning.specs.Gases.{gasesOf}
 use Rattle.burning.specs.declared.Ratios.{Ratios}
 use Rattle.burning.specs.declared.Gases.{Gases}
 use Rattle.savannas.specs.Savannas.{savannasOf}
+use Rattle.soils.specs.Soils.{soilsOf}
 use Rattle.ledger.specs.Ledger.{ledgerOf}
 use Rattle.ledger.specs.Derived.{stocksOf, conversionOf}
 use Rattle.worksheets.specs.declared.sheets.Parameters.{Parameters}
@@ -60,7 +61,7 @@ gasesBy c p = gasesOf (releasedOf c (ratiosIn p)) 1
 unfoldable pub abandonedOf : Carbon → Abandoned
 abandonedOf u = record { uptake = u; co2 = uptakeCo2 u }
 
--- the figures of rows, sheet by sheet: conversion rows are kind 1, stock rows 2, harvest rows 3, abandoned land 5, savannas 6
+-- the figures of rows, sheet by sheet: conversion rows are kind 1, stock rows 2, harvest rows 3, abandoned land 5, savannas 6, mineral soils 7
 abbrev pub figuresOf : Rows → Figures
 figuresOf by =
     let g = ledgerOf (by 1) (by 2) (by 3) (given by .n) in
@@ -71,4 +72,5 @@ figuresOf by =
       gases = gasesBy (g .onsite) (given by);
       abandoned = abandonedOf (carbon (uptakeTotal (by 5)));
       savannas = savannasOf (by 6);
+      soils = soilsOf (by 7);
     }

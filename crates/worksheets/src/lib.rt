@@ -1,4 +1,4 @@
-// Worksheets 5-1 to 5-4 and 4-3: the figures of a return, or its refusal.
+// Worksheets 5-1 to 5-5 and 4-3: the figures of a return, or its refusal.
 pub mod sheets;
 
 ghost use mathlib.Core.Path.{_≡_};
@@ -18,6 +18,7 @@ use ledger::enter;
 use ledger::work_conversion;
 use ledger::work_stocks;
 use savannas::work_savannas;
+use soils::work_soils;
 use sums::sum_abandoned;
 use sums::sum_harvest;
 use sums::sum_stocks;
@@ -37,6 +38,7 @@ pub fn work_out(bytes: &[u8], c: Counts) -> Figures
     let gases = gases_of(g.onsite, p);
     let abandoned = work_abandoned(sum_abandoned(bytes, c));
     let savannas = work_savannas(bytes, c);
+    let soils = work_soils(bytes, c);
     Figures {
         stocks,
         conversion,
@@ -44,6 +46,7 @@ pub fn work_out(bytes: &[u8], c: Counts) -> Figures
         gases,
         abandoned,
         savannas,
+        soils,
     }
 }
 

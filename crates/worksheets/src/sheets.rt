@@ -18,6 +18,7 @@ use form::two_at;
 use ledger::Conversion;
 use ledger::Stocks;
 use savannas::Savannas;
+use soils::Soils;
 use totals::Carbon;
 use totals::Periods;
 use units::Co2;
@@ -120,6 +121,7 @@ pub struct Figures {
     pub gases: Gases,
     pub abandoned: Abandoned,
     pub savannas: Savannas,
+    pub soils: Soils,
 }
 
 // The figures, or a refusal's number and place.

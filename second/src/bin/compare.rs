@@ -25,6 +25,9 @@ mod run {
     const ROOM: usize = MOST_LENT + 4;
     const MOST_LENT: usize = COUNTS_ROOM + 5;
 
+    /// The numbers that the requests put just before 9.
+    const BEFORE_9: [u32; 2] = [12, 13];
+
     pub fn main() -> ExitCode {
         let Some(arguments) = Arguments::from_command("compare") else {
             return ExitCode::FAILURE;
@@ -33,21 +36,25 @@ mod run {
             name: "judge",
             inputs: inputs::least(),
             least: inputs::least(),
-            often: &[0, 1, 2, 3, 4, 5, 6, 7, 9, 12],
+            often: &[0, 1, 2, 3, 4, 5, 6, 7, 9, 12, 13],
+            counted: &[(13, 2_000)],
             sorts: 100,
             balances: 1_000,
+            uneven: 100,
         };
         let mut coverage = Coverage::default();
         let calls = coverage.add(
             Due::Told,
             ["calls", "calls with the input at an odd address"],
         );
-        let before_9 = coverage.add(Due::Times(1_000), ["12, and the room too short"]);
+        let before_9 = BEFORE_9.map(|number| format!("{number}, and the room too short"));
+        let before_9 = coverage.add(Due::Times(1_000), before_9);
         let ran = run(&plan, arguments, inputs::plain, |case, rng| {
             let lent = rng.below(MOST_LENT + 1);
             let outcome = try_one(case, lent, rng, |nth| coverage.count(calls, nth));
-            if outcome.answer == 12_000 && lent < COUNTS_ROOM {
-                coverage.count(before_9, 0);
+            let number = BEFORE_9.iter().position(|&n| n == outcome.answer / 1000);
+            if let Some(nth) = number.filter(|_| lent < COUNTS_ROOM) {
+                coverage.count(before_9, nth);
             }
             outcome
         });

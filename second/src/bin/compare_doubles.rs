@@ -29,6 +29,9 @@ mod run {
     const MEMORY: usize = MOST_LENT + GUARD;
     type Memory = [u8; MEMORY];
 
+    /// The numbers that the requests put just before 11 and 9.
+    const BEFORE_11: [u32; 2] = [12, 13];
+
     pub fn main() -> ExitCode {
         let Some(arguments) = Arguments::from_command("compare_doubles") else {
             return ExitCode::FAILURE;
@@ -37,9 +40,11 @@ mod run {
             name: "doubles",
             inputs: inputs::least(),
             least: inputs::least(),
-            often: &[0, 1, 2, 3, 4, 5, 6, 7, 9, 11, 12],
+            often: &[0, 1, 2, 3, 4, 5, 6, 7, 9, 11, 12, 13],
+            counted: &[(13, 2_000)],
             sorts: 100,
             balances: 1_000,
+            uneven: 100,
         };
         let mut coverage = Coverage::default();
         let tried = [
@@ -47,16 +52,20 @@ mod run {
             "doubles of accepted inputs that demand 3 was tried on",
         ];
         let tried = coverage.add(Due::Told, tried);
-        let before = ["12, and a code above 2", "12, and the room too short"];
-        let before = coverage.add(Due::Times(1_000), before);
+        let before = BEFORE_11.map(|number| {
+            let wrong = ["a code above 2", "the room too short"];
+            let wrong = wrong.map(|wrong| format!("{number}, and {wrong}"));
+            coverage.add(Due::Times(1_000), wrong)
+        });
         let ran = run(&plan, arguments, inputs::with_figures, |case, rng| {
             let asked = (any_code(rng), any_lent(rng));
             let outcome = try_one(case, asked, rng, |nth| coverage.count(tried, nth));
             let wrong = [asked.0 > 2, asked.1 < 8];
+            let number = BEFORE_11.iter().position(|&n| n == outcome.answer / 1000);
             for (nth, _) in wrong.iter().enumerate().filter(|(_, &wrong)| wrong) {
-                if outcome.answer == 12_000 {
-                    coverage.count(before, nth);
-                }
+                number
+                    .into_iter()
+                    .for_each(|number| coverage.count(before[number], nth));
             }
             outcome
         });

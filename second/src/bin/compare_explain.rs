@@ -43,6 +43,9 @@ mod run {
     /// of the rarest.
     const LEAST_ROWS: usize = 500;
 
+    /// The numbers that the requests put just before 11 and 9.
+    const BEFORE_11: [u32; 2] = [12, 13];
+
     /// What is counted of the calls.
     struct Tally {
         coverage: Coverage,
@@ -50,8 +53,9 @@ mod run {
         /// Calls for a row, refused with 11, and with 9.
         rows: Counters,
         refused: Counters,
-        /// Refused with 12, though the code is above 2, and though the room is short.
-        refused_12: Counters,
+        /// For each of [`BEFORE_11`], refused with it though the code is above 2, and
+        /// though the room is short.
+        before_11: [Counters; BEFORE_11.len()],
         reasons: Reasons,
     }
 
@@ -59,14 +63,17 @@ mod run {
         fn new() -> Self {
             let (mut coverage, due) = (Coverage::default(), Due::Times(LEAST));
             let refused = ["11", "9"].map(|number| format!("heaviest rows refused {number}"));
-            let refused_12 = ["a code above 2", "the room too short"];
-            let refused_12 = refused_12.map(|more| format!("heaviest rows refused 12, and {more}"));
+            let before_11 = BEFORE_11.map(|number| {
+                let wrong = ["a code above 2", "the room too short"];
+                let wrong = wrong.map(|more| format!("heaviest rows refused {number}, and {more}"));
+                coverage.add(Due::Times(1_000), wrong)
+            });
             Tally {
                 reasons: Reasons::new(due, Due::Times(LEAST_ROWS), &mut coverage),
                 texts: coverage.add(Due::Told, ["texts"]),
                 rows: coverage.add(Due::Told, ["heaviest rows asked for"]),
                 refused: coverage.add(due, refused),
-                refused_12: coverage.add(Due::Times(1_000), refused_12),
+                before_11,
                 coverage,
             }
         }
@@ -80,9 +87,11 @@ mod run {
             name: "reasons",
             inputs: inputs::least_explained(),
             least: inputs::least_explained(),
-            often: &[0, 1, 2, 3, 4, 5, 6, 7, 12],
+            often: &[0, 1, 2, 3, 4, 5, 6, 7, 12, 13],
+            counted: &[(13, 2_000)],
             sorts: 100,
             balances: 1_000,
+            uneven: 100,
         };
         let mut tally = Tally::new();
         let ran = run(&plan, arguments, inputs::explained, |case, rng| {
@@ -176,9 +185,10 @@ mod run {
             tally.coverage.count(tally.refused, nth);
         }
         let wrong = [code > 2, lent < HEAVIEST_ROOM];
-        for (nth, _) in wrong.iter().enumerate().filter(|(_, &wrong)| wrong) {
-            if expected == 12_000 {
-                tally.coverage.count(tally.refused_12, nth);
+        let number = BEFORE_11.iter().position(|&n| n == expected / 1000);
+        if let Some(number) = number {
+            for (nth, _) in wrong.iter().enumerate().filter(|(_, &wrong)| wrong) {
+                tally.coverage.count(tally.before_11[number], nth);
             }
         }
         let answer = first_heaviest(bytes, code, Lent::front(&mut room, lent));

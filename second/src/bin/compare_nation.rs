@@ -40,7 +40,7 @@ mod run {
     const SORTS: [&str; 6] = [
         "a whole file",
         "blocks, 0",
-        "blocks, more than 16",
+        "blocks, more than there may be",
         "short, under six bytes",
         "short, inside a return",
         "many",
@@ -48,8 +48,17 @@ mod run {
 
     const ROOMS: [&str; 4] = ["exact", "short by one", "empty", "longer"];
 
-    /// Refusal numbers that a return in a file can have.
-    const NUMBERS: [u32; 7] = [2, 3, 4, 5, 6, 7, 12];
+    /// Refusal numbers that a return in a file can have, and how often each is due.
+    const NUMBERS: [(u32, usize); 8] = [
+        (2, STOPS),
+        (3, STOPS),
+        (4, STOPS),
+        (5, STOPS),
+        (6, STOPS),
+        (7, STOPS),
+        (12, STOPS),
+        (13, 2_000),
+    ];
 
     struct Tally {
         coverage: Coverage,
@@ -73,6 +82,10 @@ mod run {
             let mut coverage = Coverage::default();
             let [often, some] = [Due::Times(STOPS), Due::Times(50)];
             let crowds = ["499 returns", "500 returns", "a 501st return"];
+            let refused = coverage.add(Due::Told, [""; 0]);
+            for (number, least) in NUMBERS {
+                coverage.add(Due::Times(least), [format!("returns refused {number}")]);
+            }
             Tally {
                 stops: coverage.add(often, SORTS.map(|sort| format!("from C, {sort}"))),
                 stops_of_program: coverage
@@ -80,7 +93,7 @@ mod run {
                 few: coverage.add(often, (0..=12).map(|count| format!("{count} returns"))),
                 crowds: coverage.add(some, crowds),
                 shuffled: coverage.add(Due::Times(5_000), ["whole files in another order"]),
-                refused: coverage.add(often, NUMBERS.map(|n| format!("returns refused {n}"))),
+                refused,
                 signs: coverage.add(
                     often,
                     ["below zero", "zero", "above"].map(|s| format!("P {s}")),
@@ -104,7 +117,9 @@ mod run {
                 coverage.count(self.few, returns);
             }
             for (_, refusal) in &due.refused {
-                let nth = NUMBERS.iter().position(|&number| number == refusal.number);
+                let nth = NUMBERS
+                    .iter()
+                    .position(|&(number, _)| number == refusal.number);
                 coverage.count(
                     self.refused,
                     nth.expect("a number that a cut return can have"),

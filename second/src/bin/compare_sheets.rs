@@ -26,10 +26,10 @@ use std::process::ExitCode;
 const TAKEN: usize = RETURN_ROOM + 1;
 const INPUTS: usize = 2_000;
 /// For `explain`, whose text is compared on many more without the program.
-const EXPLAINED: usize = 500;
+const EXPLAINED: usize = 800;
 #[rustfmt::skip]
-const LENGTHS: [usize; 21] = [
-    0, 1, 2, 511, 512, 513, 1_024, 5_119, 5_120, 5_121, 5_632, 6_656, 6_657, 7_168, 20_480,
+const LENGTHS: [usize; 23] = [
+    0, 1, 2, 511, 512, 513, 1_024, 5_119, 5_120, 5_121, 5_632, 6_656, 6_657, 7_168, 8_192, 8_193, 20_480,
     TAKEN - 2, TAKEN - 1, TAKEN, TAKEN + 1, TAKEN + 511, TAKEN + 807,
 ];
 const FILLINGS: usize = 5;
@@ -45,9 +45,11 @@ fn main() -> ExitCode {
         name: "sheets",
         inputs: INPUTS,
         least: INPUTS,
-        often: &[0, 1, 2, 3, 4, 5, 6, 7, 12],
+        often: &[0, 1, 2, 3, 4, 5, 6, 7, 12, 13],
+        counted: &[],
         sorts: 10,
         balances: 5,
+        uneven: 1,
     };
     let mut coverage = Coverage::default();
     let halves = Halves::new(Due::Times(1), &mut coverage);
@@ -66,6 +68,7 @@ fn main() -> ExitCode {
         least: EXPLAINED,
         // No sort of rows is asked of so few.
         sorts: 0,
+        uneven: 0,
         ..plan
     };
     let explained = run(&plan, arguments, make_explained, |case, rng| {

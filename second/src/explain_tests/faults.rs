@@ -59,6 +59,7 @@ fn ends() {
     fault("end", &[(5, 1)], (2, 0), "");
     fault("end", &[(3, 1), (6, 0), (4, 1)], (2, 1), "");
     fault("end", &[(5, 11), (5, 1), (4, 1)], (2, 0), "");
+    fault("end", &[(7, 1), (4, 1)], (2, 0), "");
 }
 
 #[test]
@@ -155,7 +156,7 @@ fn strays() {
 /// maker's table, made by itself, has an area of zeros.
 #[test]
 fn strays_stand_where_zero_is_due() {
-    for kind in 1..=6 {
+    for kind in 1..=KINDS.len() as u8 {
         for count in if kind == 4 { 1..=1 } else { 1..=12 } {
             let mut block = [0; 512];
             (block[0], block[1]) = (kind, count);

@@ -68,11 +68,19 @@ fn refusals_are_shorter() {
         row
     };
     cleared.conversion = (0..32).map(row).collect();
+    // The last soil type, 32 rows of it from the last place that soils can have on.
+    let soils = FULL.iter().position(|&(kind, _)| kind == 7).expect("soils");
+    let uneven = (0..32).fold(high(full(), soils), |hand, nth| {
+        let (b, r) = (soils + nth / 12, nth % 12);
+        let hand = hand.two(b, r, 6, 65_535).four(b, r, 8, 100_000);
+        hand.four(b, r, 12, if nth == 0 { 99_999 } else { 100_000 })
+    });
     let used = |id| [id, 9_999_999, 10_000, 0, 0];
     cleared.harvest = (0..32).map(used).collect();
     cleared.parameters = vec![[0; 6]];
     for (text, length) in [
         (text_of(&cleared.to_bytes()), 58),
+        (explained(uneven), 110),
         (text_of(&unfit), 49),
         (explained(header(0)), 118),
         (explained(header(b)), 116),
@@ -87,6 +95,10 @@ fn refusals_are_shorter() {
         (
             explained(high(full(), savannas).four(savannas + 1, 11, 4, u32::MAX)),
             117,
+        ),
+        (
+            explained(high(full(), soils).four(soils + 1, 11, 12, u32::MAX)),
+            118,
         ),
         (explained(fractions), 108),
     ] {

@@ -1,4 +1,4 @@
-//! Numbers 5 to 7, and 12.
+//! Numbers 5 to 7, 12 and 13.
 
 use super::*;
 use crate::judge::tests::{full, FULL};
@@ -52,6 +52,7 @@ const KIND_NAMES: [&str; KINDS.len()] = [
     "parameters",
     "abandoned",
     "savanna",
+    "soil",
 ];
 
 /// The names of each row's fields, in their order.
@@ -65,6 +66,7 @@ const NAMES: [&str; KINDS.len()] = [
     "id area growth_rate carbon_fraction longer_area longer_growth_rate longer_carbon_fraction",
     "id area density fraction_really_burned live_fraction live_oxidised_fraction \
      live_carbon_fraction dead_oxidised_fraction dead_carbon_fraction N/C CH4 CO N2O NOx",
+    "id land_system soil_type area_now area_then native base tillage input",
 ];
 
 /// Each field one above its limit, where its bytes hold that.
@@ -135,8 +137,8 @@ fn the_row_is_named() {
         assert_eq!(twelve(place), due);
     }
     let b = FULL.len() - 1;
-    let last = explained(full().four(b, 7, 0, u32::MAX).two(b, 7, 8, 10_001));
-    let due = "refused 6 187 block 15 row 7 kind_name savanna id 4294967295";
+    let last = explained(full().four(b, 7, 0, u32::MAX).two(b, 7, 16, 10_001));
+    let due = "refused 6 223 block 18 row 7 kind_name soil id 4294967295";
     assert_eq!(first_lines(last), due);
 }
 
@@ -190,4 +192,36 @@ fn thinner_rows_clear_nothing() {
     rows.conversion.remove(0);
     let due = "heaviest_onsite none\nheaviest_offsite none\nheaviest_decay 8\n";
     assert!(text_of(&rows.to_bytes()).starts_with(due));
+}
+
+/// Number 13 names the row at its place, the type there, and both sums over all rows of it.
+#[test]
+fn soils() {
+    let with = |soils: &[[u32; 3]]| {
+        let mut rows = worked_day();
+        rows.edition = 2;
+        let row = |(id, &[own, now, then]): (u32, &[u32; 3])| [id, 9, own, now, then, 1, 1, 1, 1];
+        rows.soil = (7..).zip(soils).map(row).collect();
+        text_of(&rows.to_bytes())
+    };
+    let due = "refused 13 48\nblock 4\nrow 0\nkind_name soil\nid 7\nsoil_type 3\narea_now 5\narea_then 4\n";
+    assert_eq!(with(&[[3, 5, 4]]), due);
+    // The lowest type that is uneven, at its first row, which is even by itself.
+    let rows = [
+        [9, 1, 0],
+        [2, 8, 8],
+        [3, 5, 5],
+        [9, 0, 7],
+        [3, 0, 2],
+        [3, 1, 1],
+    ];
+    let due = "refused 13 50\nblock 4\nrow 2\nkind_name soil\nid 9\nsoil_type 3\narea_now 6\narea_then 8\n";
+    assert_eq!(with(&rows), due);
+    let due = "refused 13 48\nblock 4\nrow 0\nkind_name soil\nid 7\nsoil_type 9\narea_now 1\narea_then 7\n";
+    assert_eq!(with(&[rows[0], rows[1], rows[2], rows[3]]), due);
+    let top = [[65_535, 100_000, 0]; 32];
+    let due = "refused 13 48\nblock 4\nrow 0\nkind_name soil\nid 7\nsoil_type 65535\narea_now 3200000\narea_then 0\n";
+    assert_eq!(with(&top), due);
+    assert!(with(&[[3, 5, 5]]).starts_with("heaviest_onsite 7\n"));
+    assert!(with(&[[3, 5, 0], [3, 0, 5]]).starts_with("heaviest_onsite 7\n"));
 }

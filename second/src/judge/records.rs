@@ -1,7 +1,7 @@
 //! Numbers 5 to 7: the ids, and each record by its fields.
 
 use super::{four, two, used_records, Block, Record, Refusal, RECORDS_PER_BLOCK};
-use super::{ABANDONED, CONVERSION, HARVEST, PARAMETERS, SAVANNA, STOCK};
+use super::{ABANDONED, CONVERSION, HARVEST, PARAMETERS, SAVANNA, SOIL, STOCK};
 
 /// Which of the numbers 6 and 7 a record is at fault with.
 #[derive(Clone, Copy, PartialEq, Eq)]
@@ -40,6 +40,7 @@ pub(super) fn records_hold(blocks: &[Block]) -> Result<(), Refusal> {
             HARVEST => note(records, place, harvest_faults, &mut first),
             ABANDONED => note(records, place, abandoned_faults, &mut first),
             SAVANNA => note(records, place, savanna_faults, &mut first),
+            SOIL => note(records, place, soil_faults, &mut first),
             _ => note(records, place, parameter_faults, &mut first),
         }
     }
@@ -88,6 +89,9 @@ const MOST_AMOUNT: u32 = 10_000_000;
 /// A stock's growth rate, a harvest's G, and both rates of abandoned land.
 const MOST_RATE: u16 = 10_000;
 const LAST_UNIT_CODE: u8 = 1;
+const MOST_SOIL_AREA: u32 = 100_000;
+const MOST_NATIVE_CARBON: u16 = 10_000;
+const MOST_FACTOR: u16 = 300;
 
 /// The `N` numbers of two bytes that begin at `at`.
 fn twos<const N: usize>(record: &Record, at: usize) -> [u16; N] {
@@ -159,6 +163,17 @@ fn savanna_faults(r: &Record) -> Faults {
         (four(r, 4) > MOST_AREA)
             | (two(r, 8) > MOST_DENSITY)
             | any_above(twos::<11>(r, 10), MOST_FRACTION),
+    )
+}
+
+/// Land system and soil type may be any number of two bytes; two areas, the native
+/// carbon and three factors have limits of their own.
+fn soil_faults(r: &Record) -> Faults {
+    only_limit(
+        (four(r, 8) > MOST_SOIL_AREA)
+            | (four(r, 12) > MOST_SOIL_AREA)
+            | (two(r, 16) > MOST_NATIVE_CARBON)
+            | any_above(twos::<3>(r, 18), MOST_FACTOR),
     )
 }
 

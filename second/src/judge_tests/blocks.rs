@@ -30,8 +30,10 @@ fn lengths() {
     assert_eq!(judge(&[0; 5632]), refused(3, 0));
     assert_eq!(judge(&[0; 6656]), refused(3, 0));
     assert_eq!(judge(&[0; 7168]), refused(3, 0));
-    // Thirteen blocks by the first request, three more by the one on savannas.
-    const LONGEST: usize = 8_192;
+    assert_eq!(judge(&[0; 8192]), refused(3, 0));
+    // Thirteen blocks by the first request, three more by the one on savannas, and by
+    // the one on soils.
+    const LONGEST: usize = 9_728;
     assert_eq!(judge(&[0; LONGEST - 1]), refused(1, 0));
     assert_eq!(judge(&[0; LONGEST]), refused(3, 0));
     assert_eq!(judge(&[0; LONGEST + 1]), refused(1, 0));

@@ -6,7 +6,8 @@ use super::{accepted_in, filled, full, refused, Hand, Verdict, FULL, LAST_KIND, 
 type Field = (usize, usize, u32);
 
 /// By hand from the requests: each kind with its fields behind the id. Land abandoned up to twenty years and longer has area, rate and carbon
-/// fraction "in the units and limits of land stock rows"; savannas have an area, a density, six fractions and five ratios.
+/// fraction "in the units and limits of land stock rows"; savannas have an area, a density, six fractions and five ratios; soils two numbers
+/// that fill their bytes, two areas, the native carbon and three factors.
 #[rustfmt::skip]
 const LATER: [(u8, &[Field]); LAST_KIND - 4] = [
     (5, &[(4, 4, 10_000_000), (8, 2, 10_000), (10, 2, 1_000), (12, 4, 10_000_000), (16, 2, 10_000), (18, 2, 1_000)]),
@@ -14,7 +15,13 @@ const LATER: [(u8, &[Field]); LAST_KIND - 4] = [
         (4, 4, 1_000_000), (8, 2, 10_000), (10, 2, 1_000), (12, 2, 1_000), (14, 2, 1_000), (16, 2, 1_000), (18, 2, 1_000), (20, 2, 1_000),
         (22, 2, 1_000), (24, 2, 1_000), (26, 2, 1_000), (28, 2, 1_000), (30, 2, 1_000),
     ]),
+    (7, &[
+        (4, 2, 65_535), (6, 2, 65_535), (8, 4, 100_000), (12, 4, 100_000), (16, 2, 10_000), (18, 2, 300), (20, 2, 300), (22, 2, 300),
+    ]),
 ];
+
+/// A soil's areas are alike, or number 13 would come behind the others.
+const SOIL_AREAS: [usize; 2] = [8, 12];
 
 /// One row of parameters and so many of each of these kinds.
 fn accepted(rows: &[(u8, u32)]) -> Verdict {
@@ -189,7 +196,11 @@ fn limits() {
     for (kind, fields) in LATER {
         for &(at, width, limit) in fields {
             let with = |value: u32| {
-                let hand = Hand::second(&[(4, 1), (kind, 1)]);
+                let mut hand = Hand::second(&[(4, 1), (kind, 1)]);
+                if kind == 7 && SOIL_AREAS.contains(&at) {
+                    let other = SOIL_AREAS[usize::from(at == SOIL_AREAS[0])];
+                    hand = hand.four(1, 0, other, limit);
+                }
                 match width {
                     2 => hand.two(1, 0, at, value as u16),
                     _ => hand.four(1, 0, at, value),

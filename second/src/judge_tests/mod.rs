@@ -6,6 +6,7 @@ mod clearing;
 mod later;
 mod records;
 mod second_edition;
+mod soils;
 
 use super::{judge, Counts, Refusal, Verdict, LAST_KIND, MOST_BLOCKS};
 

@@ -2,8 +2,9 @@
 
 use super::draw::{draw_row, good_ids, good_value};
 use super::savannas::style_savannas;
+use super::soils::style_soils;
 use super::{fields, place_of, RowCounts, Rows, AFTER, BEFORE};
-use super::{FIRST_WITH_IDS, LATER, MOST_ROWS, SUMMED, WITH_IDS};
+use super::{FIRST_WITH_IDS, LATER, MOST_ROWS, SOIL_AREAS, SUMMED, WITH_IDS};
 use crate::rng::Rng;
 
 const MOST_DENSITY: u32 = 10_000;
@@ -37,6 +38,7 @@ impl Rows {
             good_conversion(rng, row, thinner);
         }
         style_savannas(rng, &mut rows.savanna);
+        style_soils(rng, &mut rows.soil);
         rows.cover(rng);
         rows
     }
@@ -57,6 +59,27 @@ impl Rows {
     /// Good rows of either edition with at least `least` in each of its kinds
     /// with ids.
     pub fn good_from(rng: &mut Rng, least: usize) -> Self {
+        let edition = rng.pick(&[1, 2]);
+        Self::good_from_in(rng, edition, least)
+    }
+
+    /// The same in an edition that has the kinds above 4.
+    pub fn good_later(rng: &mut Rng, least: usize) -> Self {
+        Self::good_from_in(rng, 2, least)
+    }
+
+    /// Good as far as they can be, after this field of a row was changed within its limit:
+    /// a large conversion row has to have its harvest, and a soil type its area.
+    pub fn make_good_again(&mut self, rng: &mut Rng, kind: u8, field: usize) {
+        match kind {
+            1 => self.cover_with_more(rng, 0),
+            7 if field == SOIL_AREAS[1] => self.even_soils(rng, SOIL_AREAS[1]),
+            7 => self.even_soils(rng, SOIL_AREAS[0]),
+            _ => {}
+        }
+    }
+
+    fn good_from_in(rng: &mut Rng, edition: u16, least: usize) -> Self {
         // Now and then all blocks of the edition, or all rows.
         let least = match rng.below(16) {
             0 => 25,
@@ -64,7 +87,6 @@ impl Rows {
             _ => least,
         };
         let mut counts = WITH_IDS.map(|_| any_count(rng).max(least));
-        let edition = rng.pick(&[1, 2]);
         let later = &mut counts[FIRST_WITH_IDS..];
         if edition == 1 {
             later.fill(0);

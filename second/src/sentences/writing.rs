@@ -9,6 +9,7 @@ pub static OF_WRITING: Sentences<SeenRows> = Sentences {
     general: &[
         ("10, an unknown edition and nothing else at place 0", |s| s.answer == 10_000 && s.added_up() && !s.known()),
         ("accepted, edition 2 without kinds above 4", |s| s.accepted(2) && s.later() == []),
+        ("6, a soil type of 65,536", |s| s.row_refused(6, SOIL) && s.row.get(2) == Some(&65_536)),
         ("accepted, edition 2 with all kinds above 4", |s| s.accepted(2) && s.later().len() == later_kinds().count()),
     ],
     of_kinds: &[
@@ -25,6 +26,8 @@ pub static OF_WRITING: Sentences<SeenRows> = Sentences {
     ],
 };
 
+const SOIL: u8 = 7;
+
 fn kind_of(kind: u8) -> &'static Kind {
     &KINDS[usize::from(kind) - 1]
 }
@@ -36,16 +39,26 @@ pub struct SeenRows {
     /// Of all rows together.
     area: usize,
     answer: u32,
+    /// The soil that is refused, if it is one.
+    row: Vec<u32>,
 }
 
 impl SeenRows {
     pub fn of(lists: &RowLists, answer: u32) -> Self {
-        SeenRows {
+        let mut seen = SeenRows {
             edition: lists.edition,
             lengths: lists.lengths.clone(),
             area: lists.rows.len(),
             answer,
+            row: Vec::new(),
+        };
+        if seen.row_refused(6, SOIL) {
+            let nth = answer as usize % 1000 - 12 * seen.first_block(SOIL);
+            let rows = &lists.lists()[usize::from(SOIL) - 1];
+            let row = rows.chunks(kind_of(SOIL).numbers).nth(nth);
+            seen.row = row.expect("a row at this place").to_vec();
         }
+        seen
     }
 
     fn known(&self) -> bool {
@@ -76,12 +89,20 @@ impl SeenRows {
         self.answer == 10_000 + u32::from(kind)
     }
 
+    /// The blocks that a kind takes, and the first of them.
+    fn blocks(&self, kind: u8) -> usize {
+        (self.length(kind) / kind_of(kind).numbers).div_ceil(12)
+    }
+
+    fn first_block(&self, kind: u8) -> usize {
+        (1..kind).map(|lower| self.blocks(lower)).sum()
+    }
+
     /// Whether a row of this kind is refused by this number.
     fn row_refused(&self, number: u32, kind: u8) -> bool {
-        let blocks = |kind| (self.length(kind) / kind_of(kind).numbers).div_ceil(12);
-        let first: usize = (1..kind).map(blocks).sum();
+        let first = self.first_block(kind);
         let block = (self.answer % 1000 / 12) as usize;
-        self.answer / 1000 == number && (first..first + blocks(kind)).contains(&block)
+        self.answer / 1000 == number && (first..first + self.blocks(kind)).contains(&block)
     }
 }
 
@@ -132,5 +153,25 @@ mod tests {
             assert_eq!(met(2, &places, 6037), named("6, kind #"));
             assert!(met(2, &places, 6024).is_empty());
         }
+    }
+
+    /// The second of two soils, behind the parameters.
+    #[test]
+    fn a_soil_type_by_hand() {
+        let met = |own: u32| {
+            let mut soils = vec![0; 18];
+            soils[9 + 2] = own;
+            let lists = RowLists {
+                how: String::new(),
+                edition: 2,
+                rows: [vec![0; 6], soils].concat(),
+                lengths: vec![0, 0, 0, 6, 0, 0, 18],
+            };
+            OF_WRITING.met_names(&SeenRows::of(&lists, 6013))
+        };
+        let kind = "6, kind 7";
+        assert_eq!(met(65_536), ["6, a soil type of 65,536", kind]);
+        assert_eq!(met(65_537), [kind]);
+        assert_eq!(met(0), [kind]);
     }
 }

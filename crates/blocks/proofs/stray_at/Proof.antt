@@ -1,6 +1,6 @@
 -- `blocks::stray_at` meets its contract. Assumes nothing.
-use native.Mathlib.Omega.{arith}
-use Rattle.form.proofs.EachKind.{kinds-are}
+use Rattle.form.specs.Layout.{kinds}
+use Rattle.form.proofs.EachKind.{beyond}
 use Rattle.form.proofs.Fields.{no-kind}
 use borrow.Author.Needs.{needs}
 use Rattle.blocks.proofs.stray_at.Statement.{statement}
@@ -27,6 +27,9 @@ stray-fields-requires-6 c κs = search needs
 stray-fields-requires-7 : tie.Need-stray-fields-requires-7
 stray-fields-requires-7 c κs = search needs
 
+stray-fields-requires-8 : tie.Need-stray-fields-requires-8
+stray-fields-requires-8 c κs = search needs
+
 returns : tie.Need-returns
 returns c = rw (c .before .match .keys1) (c .stray-fields .ensures)
 
@@ -46,7 +49,11 @@ returns-6 : tie.Need-returns-6
 returns-6 c = rw (c .before .match .keys6) (c .stray-fields6 .ensures)
 
 returns-7 : tie.Need-returns-7
-returns-7 c = rw (no-kind (c .before .before .before .args .kind) (λ l h. omega (arith, kinds-are))) (c .stray-fields7 .ensures)
+returns-7 c = rw (c .before .match .keys7) (c .stray-fields7 .ensures)
+
+returns-8 : tie.Need-returns-8
+unfolding kinds
+returns-8 c = rw (no-kind (c .before .before .before .args .kind) (beyond kinds (c .before .before .before .args .kind) (c .before .match .rest))) (c .stray-fields8 .ensures)
 
 pub stray-at-spec : {M : Type 1} → statement M
 stray-at-spec =
@@ -59,10 +66,12 @@ stray-at-spec =
     stray-fields-requires-5
     stray-fields-requires-6
     stray-fields-requires-7
+    stray-fields-requires-8
     returns
     returns-2
     returns-3
     returns-4
     returns-5
     returns-6
-    returns-7)
+    returns-7
+    returns-8)

@@ -23,7 +23,10 @@ decode-rows-requires-6 : tie.Need-decode-rows-requires-6
 decode-rows-requires-6 c κs = rw (c .before .match .keys6) at (c .before .before .before .before .pre)
 
 decode-rows-requires-7 : tie.Need-decode-rows-requires-7
-decode-rows-requires-7 c κs = search needs
+decode-rows-requires-7 c κs = rw (c .before .match .keys7) at (c .before .before .before .before .pre)
+
+decode-rows-requires-8 : tie.Need-decode-rows-requires-8
+decode-rows-requires-8 c κs = search needs
 
 same-length : tie.Need-same-length
 same-length c = search needs
@@ -65,7 +68,13 @@ same-length-7 : tie.Need-same-length-7
 same-length-7 c = search needs
 
 returns-7 : tie.Need-returns-7
-returns-7 c = search needs
+returns-7 c = rw (c .before .before .before .before .match .keys7) (c .before .before .decode-rows7 .ensures)
+
+same-length-8 : tie.Need-same-length-8
+same-length-8 c = search needs
+
+returns-8 : tie.Need-returns-8
+returns-8 c = search needs
 
 pub decode-kind-spec : {M : Type 1} → statement M
 decode-kind-spec =
@@ -78,6 +87,7 @@ decode-kind-spec =
     decode-rows-requires-5
     decode-rows-requires-6
     decode-rows-requires-7
+    decode-rows-requires-8
     same-length
     returns
     same-length-2
@@ -91,4 +101,6 @@ decode-kind-spec =
     same-length-6
     returns-6
     same-length-7
-    returns-7)
+    returns-7
+    same-length-8
+    returns-8)

@@ -23,7 +23,10 @@ write-fields-requires-6 : tie.Need-write-fields-requires-6
 write-fields-requires-6 c κs = rw (c .before .match .keys6) at (c .before .before .before .before .pre)
 
 write-fields-requires-7 : tie.Need-write-fields-requires-7
-write-fields-requires-7 c κs = search needs
+write-fields-requires-7 c κs = rw (c .before .match .keys7) at (c .before .before .before .before .pre)
+
+write-fields-requires-8 : tie.Need-write-fields-requires-8
+write-fields-requires-8 c κs = search needs
 
 same-length : tie.Need-same-length
 same-length c = search needs
@@ -65,7 +68,13 @@ same-length-7 : tie.Need-same-length-7
 same-length-7 c = search needs
 
 returns-7 : tie.Need-returns-7
-returns-7 c = search needs
+returns-7 c = rw (c .before .before .before .before .match .keys7) (c .before .before .write-fields7 .ensures)
+
+same-length-8 : tie.Need-same-length-8
+same-length-8 c = search needs
+
+returns-8 : tie.Need-returns-8
+returns-8 c = search needs
 
 pub write-record-spec : {M : Type 1} → statement M
 write-record-spec =
@@ -78,6 +87,7 @@ write-record-spec =
     write-fields-requires-5
     write-fields-requires-6
     write-fields-requires-7
+    write-fields-requires-8
     same-length
     returns
     same-length-2
@@ -91,4 +101,6 @@ write-record-spec =
     same-length-6
     returns-6
     same-length-7
-    returns-7)
+    returns-7
+    same-length-8
+    returns-8)

@@ -24,16 +24,20 @@ rows-of-requires-5 c κs = search needs
 rows-of-requires-6 : tie.Need-rows-of-requires-6
 rows-of-requires-6 c κs = search needs
 
+rows-of-requires-7 : tie.Need-rows-of-requires-7
+rows-of-requires-7 c κs = search needs
+
 returns : tie.Need-returns
 returns c =
     rw (
-      c .before .before .before .before .before .before .two-at .ensures .0,
-      c .before .before .before .before .before .rows-of .ensures,
-      c .before .before .before .before .rows-of2 .ensures,
-      c .before .before .before .rows-of3 .ensures,
-      c .before .before .rows-of4 .ensures,
-      c .before .rows-of5 .ensures,
-      c .rows-of6 .ensures,
+      c .before .before .before .before .before .before .before .two-at .ensures .0,
+      c .before .before .before .before .before .before .rows-of .ensures,
+      c .before .before .before .before .before .rows-of2 .ensures,
+      c .before .before .before .before .rows-of3 .ensures,
+      c .before .before .before .rows-of4 .ensures,
+      c .before .before .rows-of5 .ensures,
+      c .before .rows-of6 .ensures,
+      c .rows-of7 .ensures,
     )
 
 pub count-rows-spec : {M : Type 1} → statement M
@@ -47,4 +51,5 @@ count-rows-spec =
     rows-of-requires-4
     rows-of-requires-5
     rows-of-requires-6
+    rows-of-requires-7
     returns)

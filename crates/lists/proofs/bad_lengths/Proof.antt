@@ -24,7 +24,7 @@ unfolding badLengths
 returns-2 c =
     let a = c .before .before .before .args in
     let e : length (a .lengths .now) ≡ kinds = omega (arith, kinds-are, c .before .if1 .left) in
-    rw (eq-eqb (length (a .lengths .now)) kinds e, c .sum .ensures)
+    rw (eq-eqb (length (a .lengths .now)) kinds e, c .sum .ensures .0)
 
 pub bad-lengths-spec : {M : Type 1} → statement M
 bad-lengths-spec = tie.close (tie.spec returns sum-requires returns-2)

@@ -1,7 +1,7 @@
 -- `lists::blocks_in` meets its contract. Assumes nothing.
 use Prim.Native.Nat.{suc, _+_, _-_, _*_, _≤_}
 use mathlib.Core.Path.{_≡_, _∙_}
-use lib.ListN.{getD, drop}
+use lib.ListN.{length, getD, drop}
 use native.Mathlib.Numerals.{add-one}
 use Rattle.form.specs.Layout.{kinds}
 use Rattle.form.proofs.EachKind.{KindsAre, kinds-are}
@@ -14,10 +14,10 @@ use Rattle.lists.proofs.blocks_in.Statement.{statement}
 use Rattle.lists.proofs.blocks_in.Tie as tie
 
 abbrev Inv-loop : tie.InvT-loop
-Inv-loop lengths n₀ k₀ n k = KindsAre × (k ≤ kinds) × (n ≤ 3 * k) × (n + blocksFrom (suc k) (drop k lengths) ≡ blocksFrom 1 lengths)
+Inv-loop lengths n₀ k₀ n k = KindsAre × (k ≤ length lengths) × (n ≤ 3 * k) × (n + blocksFrom (suc k) (drop k lengths) ≡ blocksFrom 1 lengths)
 
 abbrev μ-loop : tie.MeasureT-loop
-μ-loop lengths n₀ k₀ n k = kinds - k
+μ-loop lengths n₀ k₀ n k = length lengths - k
 
 -- in a turn: the blocks of the kind's list
 here : (c : tie.After-blocks-of Inv-loop μ-loop)

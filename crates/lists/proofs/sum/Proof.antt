@@ -35,7 +35,7 @@ loop-again : tie.Need-loop-again Inv-loop μ-loop
 loop-again c = (search needs, search needs, cc (total-next (c .before .before .before .before .args .lengths .now) (c .before .before .loop .i) (omega arith)))
 
 returns : tie.Need-returns Inv-loop μ-loop
-returns c = c .before .loop .inv .2 ∙ ap total (take-all (c .before .loop .i) (c .before .before .before .args .lengths .now) (omega arith))
+returns c = (c .before .loop .inv .2 ∙ ap total (take-all (c .before .loop .i) (c .before .before .before .args .lengths .now) (omega arith)), omega (arith, c .before .loop .inv, c .before .before .before .pre))
 
 pub sum-spec : {M : Type 1} → statement M
 sum-spec =

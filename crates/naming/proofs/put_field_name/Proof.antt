@@ -51,6 +51,13 @@ put-word-requires-6 : tie.Need-put-word-requires-6
 unfolding flatMap spaces
 put-word-requires-6 c κs = let s = c .before .before .before .before in omega (arith, s .pre, word-fits 6 (s .args .i) refl)
 
+slice-aggregate-put-word-7 : tie.Need-slice-aggregate-put-word-7
+slice-aggregate-put-word-7 c = search needs
+
+put-word-requires-7 : tie.Need-put-word-requires-7
+unfolding flatMap spaces
+put-word-requires-7 c κs = let s = c .before .before .before .before in omega (arith, s .pre, word-fits 7 (s .args .i) refl)
+
 same-length : tie.Need-same-length
 same-length c = search needs
 
@@ -93,11 +100,17 @@ returns-6 : tie.Need-returns-6
 unfolding flatMap spaces
 returns-6 c = let m = c .before .before .before .before .before in word-named 6 _ (m .match .keys6) _ refl (c .before .before .put-word6 .ensures)
 
+same-length-7 : tie.Need-same-length-7
+same-length-7 c = search needs
+
 returns-7 : tie.Need-returns-7
-returns-7 c =
-    let r = c .match .rest in
+unfolding flatMap spaces
+returns-7 c = let m = c .before .before .before .before .before in word-named 7 _ (m .match .keys7) _ refl (c .before .before .put-word7 .ensures)
+
+returns-8 : tie.Need-returns-8
+returns-8 c =
     let a = c .before .before .args in
-    (rw (no-name (a .kind) (a .i) (r .0 .0 .0 .0 .0 .1) (r .0 .0 .0 .0 .1) (r .0 .0 .0 .1) (r .0 .0 .1) (r .0 .1) (r .1)) (record { room = refl; place = sym (add-zero (a .at)) }), omega arith)
+    (rw (no-name (a .kind) (a .i) (c .match .rest)) (record { room = refl; place = sym (add-zero (a .at)) }), omega arith)
 
 pub put-field-name-spec : {M : Type 1} → statement M
 put-field-name-spec =
@@ -115,6 +128,8 @@ put-field-name-spec =
     put-word-requires-5
     slice-aggregate-put-word-6
     put-word-requires-6
+    slice-aggregate-put-word-7
+    put-word-requires-7
     same-length
     returns
     same-length-2
@@ -127,4 +142,6 @@ put-field-name-spec =
     returns-5
     same-length-6
     returns-6
-    returns-7)
+    same-length-7
+    returns-7
+    returns-8)

@@ -5,7 +5,7 @@ use native.Mathlib.Nat.{add-zero}
 use Rattle.phrases.specs.Ascii.{codes}
 use Rattle.phrases.specs.Lines.{numberLine, spaces, linesText}
 use Rattle.phrases.proofs.LineTexts.{as-text, more-text, two-text}
-use Rattle.naming.specs.RowLines.{placeLines, namedLines, limitLines, fractionsLines}
+use Rattle.naming.specs.RowLines.{placeLines, namedLines, limitLines, fractionsLines, soilLines}
 use Rattle.naming.proofs.Texts.{no-lines}
 use native.Mathlib.Omega.{arith}
 use borrow.Author.Needs.{needs}
@@ -44,6 +44,15 @@ put-named-requires-2 c κs = search needs
 
 put-fractions-requires : tie.Need-put-fractions-requires
 put-fractions-requires c κs = search needs
+
+enum-known-reason-4 : tie.Need-enum-known-reason-4
+enum-known-reason-4 c = search needs
+
+put-named-requires-3 : tie.Need-put-named-requires-3
+put-named-requires-3 c κs = search needs
+
+put-soil-requires : tie.Need-put-soil-requires
+put-soil-requires c κs = search needs
 
 same-length : tie.Need-same-length
 same-length c = search needs
@@ -89,11 +98,25 @@ returns-3 c =
       omega (arith, p .put-named2 .ensures .1, w .put-fractions .ensures .1),
     )
 
+same-length-4 : tie.Need-same-length-4
+same-length-4 c = search needs
+
 returns-4 : tie.Need-returns-4
-unfolding linesText
 returns-4 c =
+    let w = c .before .before in
+    let p = w .before .before .before .before in
+    let r = p .before .before .before .reason4 .given in
+    let v = r .0 .1 in
+    let clash = soilLines (v .0) (v .1 .0) (v .1 .1 .0) in (
+      rw (r .1) (more-text (namedLines (r .0 .0)) clash (p .put-named3 .ensures .0) (w .put-soil .ensures .0)),
+      omega (arith, p .put-named3 .ensures .1, w .put-soil .ensures .1),
+    )
+
+returns-5 : tie.Need-returns-5
+unfolding linesText
+returns-5 c =
     let a = c .before .before .args in
-    (rw (no-lines (a .reason) (c .match .keys4)) (record { room = refl; place = sym (add-zero (a .at)) }), omega arith)
+    (rw (no-lines (a .reason) (c .match .keys5)) (record { room = refl; place = sym (add-zero (a .at)) }), omega arith)
 
 pub put-row-spec : {M : Type 1} → statement M
 put-row-spec =
@@ -109,10 +132,15 @@ put-row-spec =
     enum-known-reason-3
     put-named-requires-2
     put-fractions-requires
+    enum-known-reason-4
+    put-named-requires-3
+    put-soil-requires
     same-length
     returns
     same-length-2
     returns-2
     same-length-3
     returns-3
-    returns-4)
+    same-length-4
+    returns-4
+    returns-5)

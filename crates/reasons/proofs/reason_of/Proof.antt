@@ -7,18 +7,19 @@ use borrow.Author.Tests.{ne-eqb, eqb-true}
 use Rattle.form.specs.Records.{filed, brokenBy}
 use Rattle.form.proofs.Tests.{and-true}
 use Rattle.form.proofs.Meaning.{length-first}
+use Rattle.areas.proofs.Balanced.{place-told}
 use Rattle.reasons.specs.Reasons.{reasonOf}
-use Rattle.reasons.proofs.Refused.{at-check, at-header, at-block, at-id, at-field, at-fractions, last-number, wood-formed}
+use Rattle.reasons.proofs.Refused.{at-check, at-header, at-block, at-id, at-field, at-fractions, at-soil, last-number, wood-formed, soil-formed}
 use Rattle.reasons.proofs.reason_of.Statement.{statement}
 use Rattle.reasons.proofs.reason_of.Tie as tie
 
 -- past the arms of all other numbers
-twelve : (c : tie.At-match-rest) → c .before .before .args .number ≡ 12
-twelve c =
+thirteen : (c : tie.At-match-rest) → c .before .before .args .number ≡ 13
+thirteen c =
     let t = c .before .before in
     let r = c .match .rest in
-    last-number (now (t .args .bytes)) (t .pre) (ne-eqb _ 1 (r .0 .0 .0 .0 .0 .0 .1)) (ne-eqb _ 2 (r .0 .0 .0 .0 .0 .1)) (ne-eqb _ 3 (r .0 .0 .0 .0 .1))
-    (ne-eqb _ 4 (r .0 .0 .0 .1)) (ne-eqb _ 5 (r .0 .0 .1)) (ne-eqb _ 6 (r .0 .1)) (ne-eqb _ 7 (r .1))
+    last-number (now (t .args .bytes)) (t .pre) (ne-eqb _ 1 (r .0 .0 .0 .0 .0 .0 .0 .1)) (ne-eqb _ 2 (r .0 .0 .0 .0 .0 .0 .1)) (ne-eqb _ 3 (r .0 .0 .0 .0 .0 .1))
+    (ne-eqb _ 4 (r .0 .0 .0 .0 .1)) (ne-eqb _ 5 (r .0 .0 .0 .1)) (ne-eqb _ 6 (r .0 .0 .1)) (ne-eqb _ 7 (r .0 .1)) (ne-eqb _ 12 (r .1))
 
 bad-check-requires : tie.Need-bad-check-requires
 bad-check-requires c κs = let t = c .before .before in at-check (now (t .args .bytes)) (t .pre) (c .match .keys2) .inside
@@ -51,7 +52,14 @@ fractions-above-requires c κs =
     (w .inside, eqb-true (filed s .kind p) 1 (and-true (eqb (filed s .kind p) 1) _ (and-true (filed s .used p) _ (w .broken) .1) .0))
 
 cleared-above-requires : tie.Need-cleared-above-requires
-cleared-above-requires c κs = let t = c .before .before in wood-formed (now (t .args .bytes)) (t .pre) (twelve c)
+cleared-above-requires c κs = let t = c .before .before in wood-formed (now (t .args .bytes)) (t .pre) (c .match .keys8)
+
+soil-uneven-requires : tie.Need-soil-uneven-requires
+soil-uneven-requires c κs =
+    let t = c .before .before in
+    let s = now (t .args .bytes) in
+    let w = place-told (filed s) (at-soil s (t .pre) (thirteen c)) in
+    (soil-formed s (t .pre) (thirteen c), (w .inside, w .kind-there))
 
 returns : tie.Need-returns
 unfolding reasonOf
@@ -83,7 +91,11 @@ returns-7 c = rw (c .before .match .keys7) (c .fractions-above .ensures)
 
 returns-8 : tie.Need-returns-8
 unfolding reasonOf
-returns-8 c = rw (twelve (c .before)) (c .cleared-above .ensures)
+returns-8 c = rw (c .before .match .keys8) (c .cleared-above .ensures)
+
+returns-9 : tie.Need-returns-9
+unfolding reasonOf
+returns-9 c = rw (thirteen (c .before)) (c .soil-uneven .ensures)
 
 pub reason-of-spec : {M : Type 1} → statement M
 reason-of-spec =
@@ -96,6 +108,7 @@ reason-of-spec =
     field-above-requires
     fractions-above-requires
     cleared-above-requires
+    soil-uneven-requires
     returns
     returns-2
     returns-3
@@ -103,4 +116,5 @@ reason-of-spec =
     returns-5
     returns-6
     returns-7
-    returns-8)
+    returns-8
+    returns-9)

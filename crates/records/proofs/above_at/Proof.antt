@@ -1,6 +1,6 @@
 -- `records::above_at` meets its contract. Assumes nothing.
-use native.Mathlib.Omega.{arith}
-use Rattle.form.proofs.EachKind.{kinds-are}
+use Rattle.form.specs.Layout.{kinds}
+use Rattle.form.proofs.EachKind.{beyond}
 use Rattle.form.proofs.Fields.{no-kind}
 use borrow.Author.Needs.{needs}
 use Rattle.records.proofs.above_at.Statement.{statement}
@@ -27,6 +27,9 @@ above-fields-requires-6 c κs = search needs
 above-fields-requires-7 : tie.Need-above-fields-requires-7
 above-fields-requires-7 c κs = search needs
 
+above-fields-requires-8 : tie.Need-above-fields-requires-8
+above-fields-requires-8 c κs = search needs
+
 returns : tie.Need-returns
 returns c = rw (c .before .match .keys1) (c .above-fields .ensures)
 
@@ -46,7 +49,11 @@ returns-6 : tie.Need-returns-6
 returns-6 c = rw (c .before .match .keys6) (c .above-fields6 .ensures)
 
 returns-7 : tie.Need-returns-7
-returns-7 c = rw (no-kind (c .before .before .before .args .kind) (λ l h. omega (arith, kinds-are))) (c .above-fields7 .ensures)
+returns-7 c = rw (c .before .match .keys7) (c .above-fields7 .ensures)
+
+returns-8 : tie.Need-returns-8
+unfolding kinds
+returns-8 c = rw (no-kind (c .before .before .before .args .kind) (beyond kinds (c .before .before .before .args .kind) (c .before .match .rest))) (c .above-fields8 .ensures)
 
 pub above-at-spec : {M : Type 1} → statement M
 above-at-spec =
@@ -59,10 +66,12 @@ above-at-spec =
     above-fields-requires-5
     above-fields-requires-6
     above-fields-requires-7
+    above-fields-requires-8
     returns
     returns-2
     returns-3
     returns-4
     returns-5
     returns-6
-    returns-7)
+    returns-7
+    returns-8)

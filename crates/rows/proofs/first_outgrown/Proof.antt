@@ -12,7 +12,8 @@ use Rattle.form.proofs.Search.{first-zero, first-more, first-found}
 use Rattle.form.proofs.EachKind.{KindsAre, kinds-are}
 use Rattle.standing.proofs.Accepted.{counted}
 use Rattle.rows.specs.Reading.{areaTo, outgrown}
-use Rattle.rows.proofs.Rows.{rows-few, need-none, need-next}
+use Rattle.decoding.proofs.Decoded.{rows-few}
+use Rattle.rows.proofs.Rows.{need-none, need-next}
 use borrow.Author.Needs.{needs}
 use native.Mathlib.Omega.{arith}
 use Rattle.rows.proofs.first_outgrown.Statement.{statement}

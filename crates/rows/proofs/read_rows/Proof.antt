@@ -16,7 +16,8 @@ use Rattle.filing.specs.Tables.{rowOn}
 use Rattle.filing.proofs.Stores.{Filling, filling-none, filling-more, filling-all}
 use Rattle.filing.proofs.Laying.{length-next, part-in}
 use Rattle.rows.specs.Reading.{rowsOf, areaTo}
-use Rattle.rows.proofs.Rows.{rows-turn, rows-long, places-in, need-none, start-first, start-next}
+use Rattle.decoding.proofs.Decoded.{rows-turn, rows-long, places-in}
+use Rattle.rows.proofs.Rows.{need-none, start-first, start-next}
 use borrow.Author.Needs.{needs}
 use native.Mathlib.Omega.{arith}
 use Rattle.rows.proofs.read_rows.Statement.{statement}

@@ -81,10 +81,14 @@ work-abandoned-requires c κs =
 work-savannas-requires : tie.Need-work-savannas-requires
 work-savannas-requires c κs = acc (c .before .before .before .before .before .before .before .before .before .before .before .before)
 
+work-soils-requires : tie.Need-work-soils-requires
+work-soils-requires c κs = acc (c .before .before .before .before .before .before .before .before .before .before .before .before .before)
+
 returns : tie.Need-returns
 unfolding entered totalsOf
 returns c =
-    let a = c .before in
+    let f = c .before in
+    let a = f .before in
     let b = a .before .before in
     let v = b .before .before in
     let g = v .before .before in
@@ -93,7 +97,7 @@ returns c =
     let conversion = v .work-conversion .ensures ∙ ap conversionOf (ledger g) in
     let gases = b .gases-of .ensures ∙ (λ i. gasesBy (ledger g i .onsite) (t .before .read-parameters .ensures i)) in
     let abandoned = a .work-abandoned .ensures ∙ ap abandonedOf (a .before .sum-abandoned .ensures) in
-    λ i. record { stocks = stocks i; conversion = conversion i; thinner = t .sum-conversion .ensures i .thinner; gases = gases i; abandoned = abandoned i; savannas = c .work-savannas .ensures i }
+    λ i. record { stocks = stocks i; conversion = conversion i; thinner = t .sum-conversion .ensures i .thinner; gases = gases i; abandoned = abandoned i; savannas = f .work-savannas .ensures i; soils = c .work-soils .ensures i }
 
 pub work-out-spec : {M : Type 1} → statement M
 work-out-spec =
@@ -110,4 +114,5 @@ work-out-spec =
     sum-abandoned-requires
     work-abandoned-requires
     work-savannas-requires
+    work-soils-requires
     returns)

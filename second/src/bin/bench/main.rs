@@ -2,9 +2,9 @@
 //! run: `bench [FUNCTION..]`, all functions where none is named. The judge is
 //! also set beside a plain sum of the bytes, and what plain_returns.c has beside
 //! that (`/C`). The parts for the other functions come with the features
-//! `lines`, `doubles`, `rows`, `explain` and `nation`. Ten blocks, one and the sixteen of
-//! edition 2 come first, then how each function grows from two blocks to fifteen, in
-//! fewer rounds, and last the national line of 500 full returns.
+//! `lines`, `doubles`, `rows`, `explain` and `nation`. Ten blocks, one and all of edition 2
+//! come first, then how each function grows from two blocks to one less than all, in fewer
+//! rounds, and last the national line of 500 full returns.
 
 #[cfg(door_missing)]
 compile_error!(
@@ -47,7 +47,7 @@ mod run {
     }
 
     impl Load {
-        /// In edition 2 where there is abandoned land, or savannas.
+        /// In edition 2 where there are rows of a kind above 4.
         pub fn new(rng: &mut Rng, counts: RowCounts, rounds: usize) -> Self {
             let edition = 1 + u16::from(later(&counts));
             let rows = (0..RETURNS).map(|_| Rows::good_in(rng, edition, counts));
@@ -87,9 +87,9 @@ mod run {
         ];
         let others = (2..MOST_BLOCKS).filter(|&blocks| blocks != FIRST_FULL);
         loads.extend(others.map(|blocks| Load::of_blocks(&mut rng, blocks)));
-        println!("{ROUNDS} rounds ({FEWER} for two blocks to fifteen) over {RETURNS} returns, medians, ns per call");
+        println!("{ROUNDS} rounds ({FEWER} for how they grow) over {RETURNS} returns, medians, ns per call");
         println!(
-            "{:<14}{:<24}{:>12}{:>12}{:>16}",
+            "{:<14}{:<30}{:>12}{:>12}{:>16}",
             "function", "blocks, rows", "niloferq", "other", "niloferq/other"
         );
         for load in &loads {
@@ -148,7 +148,7 @@ mod run {
         }
         let times = measure(inputs, load.rounds, load.repeats, first, second);
         println!(
-            "{function:<14}{:<24}{:>12.1}{:>12.1}{:>16.2}",
+            "{function:<14}{:<30}{:>12.1}{:>12.1}{:>16.2}",
             load.name, times.first, times.second, times.ratio
         );
         true

@@ -89,8 +89,10 @@ mod run {
             inputs: INPUTS,
             least: INPUTS,
             often: &[0],
+            counted: &[],
             sorts: 100,
             balances: 0,
+            uneven: 0,
         };
         let make = |index: usize, rng: &mut Rng| {
             let broken = index % EVERY == EVERY - 1;

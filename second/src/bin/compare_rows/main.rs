@@ -32,9 +32,11 @@ mod run {
     pub const LONGER: usize = 20;
     /// Rooms that are tried beside the exact ones.
     const DRAWN: usize = 2;
+    /// The numbers that the requests put just before 9.
+    const BEFORE_9: [u32; 2] = [12, 13];
     /// Editions and row counts that are tried with rooms of every length: full
     /// returns, some with kinds left out, and the parameters alone.
-    const EVERY_LENGTH: [(u16, &[usize]); 9] = [
+    const EVERY_LENGTH: [(u16, &[usize]); 10] = [
         (1, &[32, 32, 32]),
         (1, &[2, 0, 3]),
         (1, &[0, 1, 12]),
@@ -43,6 +45,7 @@ mod run {
         (2, &[1, 0, 0, 13]),
         (2, &[0, 2, 0, 0, 13]),
         (2, &[0, 0, 0, 2, 3]),
+        (2, &[0, 1, 0, 0, 2, 13]),
         (2, &[]),
     ];
 
@@ -64,7 +67,7 @@ mod run {
         /// 10 when writing.
         number: u32,
         places: Counters,
-        /// Number 12, though the rooms are too short for any return.
+        /// Each of [`BEFORE_9`], though the rooms are too short for any return.
         before_9: Counters,
     }
 
@@ -77,15 +80,19 @@ mod run {
                 round_trips: coverage.add(Due::Told, ["round trips"]),
                 number,
                 places: coverage.add(Due::Once, places),
-                before_9: coverage.add(Due::Times(1_000), ["12, and the rooms too short"]),
+                before_9: coverage.add(
+                    Due::Times(1_000),
+                    BEFORE_9.map(|number| format!("{number}, and the rooms too short")),
+                ),
                 coverage,
             }
         }
 
         pub fn note(&mut self, answer: u32, too_short: bool) {
             self.coverage.count(self.calls, 0);
-            if answer == 12_000 && too_short {
-                self.coverage.count(self.before_9, 0);
+            let number = BEFORE_9.iter().position(|&n| n == answer / 1000);
+            if let Some(nth) = number.filter(|_| too_short) {
+                self.coverage.count(self.before_9, nth);
             }
             if answer / 1000 == self.number {
                 self.coverage.count(self.places, (answer % 1000) as usize);

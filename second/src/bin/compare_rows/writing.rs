@@ -24,9 +24,11 @@ pub fn compare(arguments: Arguments) -> bool {
         name: "write",
         inputs: least,
         least,
-        often: &[0, 5, 6, 7, 9, 10, 12],
+        often: &[0, 5, 6, 7, 9, 10, 12, 13],
+        counted: &[(13, 2_000)],
         sorts: 100,
         balances: 1_000,
+        uneven: 100,
     };
     let make = |index: usize, rng: &mut Rng| {
         let turn = index / SWEEP_EVERY;
@@ -106,7 +108,7 @@ fn try_one(lists: &RowLists, rng: &mut Rng, tally: &mut Tally) -> Outcome {
     let mut difference = None;
     for (turn, lent) in rooms.into_iter().enumerate() {
         let (expected, paper, found) = call(&before, lists, lent);
-        // What is refused by 12 has conversion rows, and the parameters behind them.
+        // What is refused by 12 or 13 has conversion rows or soils, and the parameters.
         tally.note(expected, lent.blocks < 2 * BLOCK || lent.sizes == 0);
         if turn == drawn {
             answer = expected;

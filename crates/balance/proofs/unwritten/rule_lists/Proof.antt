@@ -1,12 +1,8 @@
 -- `balance::unwritten::rule_lists` meets its contract. Assumes nothing.
-use mathlib.Core.Path.{ap, _∙_}
 use denote.Ref.{now}
-use Rattle.form.specs.Ruling.{ruling}
-use Rattle.form.specs.Records.{filedRows}
 use Rattle.filing.specs.Lists.{cut, filedLists}
-use Rattle.balance.specs.Wood.{woodRules}
-use Rattle.balance.specs.declared.Wood.{Wood}
-use Rattle.balance.proofs.Weighing.{wood-rules}
+use Rattle.balance.proofs.Weighing.{wood-broken, wood-kept}
+use native.Mathlib.Omega.{arith}
 use borrow.Author.Needs.{needs}
 use Rattle.balance.proofs.unwritten.rule_lists.Statement.{statement}
 use Rattle.balance.proofs.unwritten.rule_lists.Tie as tie
@@ -17,12 +13,38 @@ weigh-lists-requires c κs = search needs
 rule-wood-requires : tie.Need-rule-wood-requires
 rule-wood-requires c κs = search needs
 
+enum-known-number : tie.Need-enum-known-number
+enum-known-number c = search needs
+
+enum-told : tie.Need-enum-told
+enum-told c = search needs
+
+rule-unwritten-requires : tie.Need-rule-unwritten-requires
+rule-unwritten-requires c κs = search needs
+
 returns : tie.Need-returns
 returns c =
-    let w = c .before in
-    let a = w .before .before .before .args in
-    let f = filedLists (cut (now (a .lengths)) (now (a .area))) in
-    c .rule-wood .ensures ∙ ap (λ (x : Wood). ruling (woodRules x)) (w .weigh-lists .ensures) ∙ wood-rules (filedRows f 3) (filedRows f 1)
+    let w = c .before .before .before in
+    let m = w .before in
+    let a = m .before .before .before .args in
+    wood-broken (filedLists (cut (now (a .lengths)) (now (a .area)))) (w .rule-wood .ensures) (m .weigh-lists .ensures) (c .before .number .given .1)
+
+returns-2 : tie.Need-returns-2
+returns-2 c =
+    let t = c .before in
+    let w = t .before .before in
+    let m = w .before in
+    let a = m .before .before .before .args in
+    wood-kept (filedLists (cut (now (a .lengths)) (now (a .area)))) (w .rule-wood .ensures) (m .weigh-lists .ensures) (t .enum-told .given .1) (c .rule-unwritten .ensures)
 
 pub rule-lists-spec : {M : Type 1} → statement M
-rule-lists-spec = tie.close (tie.spec weigh-lists-requires rule-wood-requires returns)
+rule-lists-spec =
+    tie.close
+    (tie.spec
+    weigh-lists-requires
+    rule-wood-requires
+    enum-known-number
+    enum-told
+    rule-unwritten-requires
+    returns
+    returns-2)

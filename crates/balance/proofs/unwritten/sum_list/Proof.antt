@@ -9,8 +9,8 @@ use Rattle.filing.specs.Lists.{rowsIn, rowOf, filedList}
 use Rattle.wide.specs.Numbers.{value, Is}
 use Rattle.wide.proofs.Laws.{is-as}
 use Rattle.balance.specs.Wood.{woodPart}
-use Rattle.balance.proofs.KindRows.{rows-next, rows-all}
-use Rattle.balance.proofs.Parts.{next-fits, few, sum-more}
+use Rattle.lists.proofs.KindRows.{rows-next, rows-all, sum-more}
+use Rattle.balance.proofs.Parts.{next-fits, few}
 use borrow.Author.Needs.{needs}
 use native.Mathlib.Omega.{arith}
 use Rattle.balance.proofs.unwritten.sum_list.Statement.{statement}

@@ -9,7 +9,8 @@ use Rattle.form.proofs.EachKind.{kinds-are, one-kind}
 use Rattle.filing.specs.Lists.{cut, filedLists}
 use Rattle.wide.specs.Numbers.{value}
 use Rattle.wide.proofs.Laws.{words, is-as}
-use Rattle.balance.proofs.KindRows.{Part, has-three, first-part, third-part}
+use Rattle.lists.proofs.KindRows.{Part}
+use Rattle.balance.proofs.TwoParts.{has-three, first-part, third-part}
 use native.Mathlib.Omega.{arith}
 use borrow.Author.Needs.{needs}
 use Rattle.balance.proofs.unwritten.weigh_lists.Statement.{statement}

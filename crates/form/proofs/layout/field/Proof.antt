@@ -1,9 +1,8 @@
 -- `form::layout::field` meets its contract. Assumes nothing.
 use mathlib.Core.Path.{sym, ap}
-use Rattle.form.specs.Layout.{Layout, fieldAt}
-use Rattle.form.proofs.EachKind.{kinds-are}
+use Rattle.form.specs.Layout.{Layout, kinds, fieldAt}
+use Rattle.form.proofs.EachKind.{beyond}
 use Rattle.form.proofs.Fields.{no-kind}
-use native.Mathlib.Omega.{arith}
 use borrow.Author.Needs.{needs}
 use Rattle.form.proofs.layout.field.Statement.{statement}
 use Rattle.form.proofs.layout.field.Tie as tie
@@ -26,6 +25,9 @@ abandoned-requires c κs = rw (c .match .keys5) at (c .before .pre)
 savanna-requires : tie.Need-savanna-requires
 savanna-requires c κs = rw (c .match .keys6) at (c .before .pre)
 
+soil-requires : tie.Need-soil-requires
+soil-requires c κs = rw (c .match .keys7) at (c .before .pre)
+
 returns : tie.Need-returns
 returns c = search needs
 
@@ -45,7 +47,11 @@ returns-6 : tie.Need-returns-6
 returns-6 c = search needs
 
 returns-7 : tie.Need-returns-7
-returns-7 c = let a = c .before .args in sym (ap (λ (l : Layout). fieldAt l (a .i)) (no-kind (a .kind) (λ l h. omega (arith, kinds-are))))
+returns-7 c = search needs
+
+returns-8 : tie.Need-returns-8
+unfolding kinds
+returns-8 c = let a = c .before .args in sym (ap (λ (l : Layout). fieldAt l (a .i)) (no-kind (a .kind) (beyond kinds (a .kind) (c .match .rest))))
 
 pub field-spec : {M : Type 1} → statement M
 field-spec =
@@ -57,10 +63,12 @@ field-spec =
     parameters-requires
     abandoned-requires
     savanna-requires
+    soil-requires
     returns
     returns-2
     returns-3
     returns-4
     returns-5
     returns-6
-    returns-7)
+    returns-7
+    returns-8)

@@ -2,9 +2,9 @@
 use mathlib.Core.Path.{sym, ap}
 use lib.Dec.{lit≤}
 use lib.ListN.{length}
-use Rattle.form.proofs.EachKind.{kinds-are}
+use Rattle.form.specs.Layout.{kinds}
+use Rattle.form.proofs.EachKind.{beyond}
 use Rattle.form.proofs.Fields.{no-kind}
-use native.Mathlib.Omega.{arith}
 use borrow.Author.Needs.{needs}
 use Rattle.form.proofs.layout.numbers.Statement.{statement}
 use Rattle.form.proofs.layout.numbers.Tie as tie
@@ -28,7 +28,11 @@ returns-6 : tie.Need-returns-6
 returns-6 c = search needs
 
 returns-7 : tie.Need-returns-7
-returns-7 c = (sym (ap length (no-kind (c .before .args .kind) (λ l h. omega (arith, kinds-are)))), lit≤ tt)
+returns-7 c = search needs
+
+returns-8 : tie.Need-returns-8
+unfolding kinds
+returns-8 c = (sym (ap length (no-kind (c .before .args .kind) (beyond kinds (c .before .args .kind) (c .match .rest)))), lit≤ tt)
 
 pub numbers-spec : {M : Type 1} → statement M
-numbers-spec = tie.close (tie.spec returns returns-2 returns-3 returns-4 returns-5 returns-6 returns-7)
+numbers-spec = tie.close (tie.spec returns returns-2 returns-3 returns-4 returns-5 returns-6 returns-7 returns-8)

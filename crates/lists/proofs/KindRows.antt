@@ -1,6 +1,6 @@
 -- The rows of a kind among the records that lists would make. Assumes nothing.
---     rows-next, rows-all             a list's rows, one after the other
---     first-part, third-part          the parts of an area that are the lists of kinds 1 and 3: whose rows they have, and how few
+--     rows-next, rows-all             a list's rows, one after the other; sum-more, what they add up to
+--     kind-part                       the part of an area that is the list of a kind: whose rows it has, and how few
 use Prim.Native.Nat.{ℕ, zero, suc, _+_, _-_, _*_, _≤_, _<_}
 use mathlib.Core.Path.{_≡_, refl, sym, ap, ap₂, _∙_}
 use mathlib.Core.Bool.{and-false}
@@ -12,13 +12,13 @@ use borrow.Author.Tests.{lt-ltb, le-ltb, eq-eqb, ne-eqb}
 use lib.ListN.{length, getD, take, drop}
 use Rattle.form.specs.Layout.{kinds}
 use Rattle.form.specs.Records.{Filed, rowsBelow, filedRows}
-use Rattle.form.proofs.EachKind.{kinds-are}
+use Rattle.form.specs.Sums.{sumOf}
 use Rattle.filing.specs.Lists.{Lists, cut, total, rowsIn, rowOf, filedList, behind, filedFrom, filedLists}
-use Rattle.filing.proofs.Cut.{cut-length, total-none, total-next}
+use Rattle.filing.proofs.Cut.{cut-length}
 use Rattle.filing.proofs.Alike.{Same, front-alike, back-alike, one-alike, rows-alike}
 use Rattle.lists.specs.Rules.{Good}
 use Rattle.lists.proofs.Places.{kinds-from}
 use Rattle.lists.proofs.Scan.{part-in, part-is, part-long}
 
 module _ (f g : Filed) (k : ℕ) where
   -- records behind others: first the rows of the first, then those of the second
@@ -81,6 +81,12 @@ module _ (k : ℕ) (r : List ℕ) where
       let s : j + (n - j) ≡ n = omega arith in
       sym (rest-none j (n - j) (omega arith)) ∙ ap (rowsBelow (filedList k r) k) s
 
+-- one row more in a sum
+pub sum-more : (f : List ℕ → ℕ) (rs : List (List ℕ)) (r : List ℕ) → sumOf f (rs ++ (r ∷ [])) ≡ sumOf f rs + f r
+unfolding sumOf
+sum-more f [] r = omega arith
+sum-more f (x ∷ rs) r = omega (arith, sum-more f rs r)
+
 -- the part of an area that is the list of a kind: it lies in the area, has few rows, and they are the kind's
 pub record Part (lengths area : List ℕ) (kind from end : ℕ) : Type 0 where
   pub inside : end ≤ length area
@@ -88,28 +94,11 @@ pub record Part (lengths area : List ℕ) (kind from end : ℕ) : Type 0 where
   pub rows : filedRows (filedList kind (take (end - from) (drop from area))) kind ≡ filedRows (filedLists (cut lengths area)) kind
 
 module _ (lengths area : List ℕ) (g : Good lengths (length area)) where
-  pub has-three : 3 ≤ length lengths
-  has-three = omega (arith, g .each, kinds-are)
-
-  pub first-part : {m : ℕ} → m ≡ getD lengths 0 0 → Part lengths area 1 0 m
-  first-part {m} e =
-      let k : 0 < kinds = omega (arith, kinds-are) in
-      let z : 0 + m ≡ m = zero-add m in
-      let at = sym (total-none lengths) in
-      let whole : Part lengths area 1 0 (0 + m) = record {
-        inside = part-in area 0 g at k e;
-        few = rw (part-long area 0 g at k e, e) (g .few 0 k);
-        rows = rw (part-is area 0 g at k e) (sym (kind-rows 1 (cut lengths area) 0 (omega (arith, cut-length lengths area, has-three))));
-      } in
-      rw z at whole
-
-  pub third-part : {a b m : ℕ} → a ≡ getD lengths 0 0 → b ≡ getD lengths 1 0 → m ≡ getD lengths 2 0 → Part lengths area 3 (a + b) (a + b + m)
-  third-part {a} {b} {m} ea eb e =
-      let k : 2 < kinds = omega (arith, kinds-are) in
-      let at : a + b ≡ total (take 2 lengths) =
-      omega (arith, total-none lengths, total-next lengths 0 (omega (arith, has-three)), total-next lengths 1 (omega (arith, has-three))) in
+  pub kind-part : (k : ℕ) {from m : ℕ} → k < kinds → from ≡ total (take k lengths) → m ≡ getD lengths k 0 → Part lengths area (suc k) from (from + m)
+  kind-part k h at e =
+      let one : 1 + k ≡ suc k = omega arith in
       record {
-        inside = part-in area 2 g at k e;
-        few = rw (part-long area 2 g at k e, e) (g .few 2 k);
-        rows = rw (part-is area 2 g at k e) (sym (kind-rows 1 (cut lengths area) 2 (omega (arith, cut-length lengths area, has-three))));
+        inside = part-in area k g at h e;
+        few = rw (part-long area k g at h e, e) (g .few k h);
+        rows = rw (part-is area k g at h e) (sym (rw one at (kind-rows 1 (cut lengths area) k (omega (arith, cut-length lengths area, g .each)))));
       }

@@ -1,0 +1,3 @@
+-- What rule 13 compares.
+pub mod Areas
+pub mod Place
