@@ -1,5 +1,6 @@
 /* Writes a return of edition 2 with rows of every kind to standard output: all_kinds >FILE. examples/all_kinds.return is what it writes. It shows how a
- * program writes a return; include/niloferq.h has the fields of each kind with their units. Status 0: written. 1: not. */
+ * program writes a return; include/niloferq.h has the fields of each kind with their units. Edition 3 would refuse its scattered trees, by 14.
+ * Status 0: written. 1: not. */
 #include "niloferq.h"
 #include <stdio.h>
 

@@ -91,9 +91,9 @@ static void good_returns(void) {
         for (uint32_t i = 0; i < n; i++) random_row(rows[i], id += from_to(1, 1000));
         if (random % 3 == 1)
             for (uint32_t i = 0; i < n; i++) sharp_row(rows[i], i);
-        must_pass(rows, n, 1 + (uint32_t)(random / 30 % 2), "a random good return passes", random, random % 10 == 0);
+        must_pass(rows, n, 1 + (uint32_t)(random / 30 % NILOFERQ_EDITIONS), "a random good return passes", random, random % 10 == 0);
     }
-    printf("2. good returns: %lu at the limits and %lu random ones pass, in both editions\n", limits, random);
+    printf("2. good returns: %lu at the limits and %lu random ones pass, in each edition\n", limits, random);
 }
 
 /* Around each distance where the comparison turns: the last that may pass does, the next doesn't, on both sides. */
@@ -165,7 +165,7 @@ static void missing_row(void) {
         if (gone * UINT64_C(100000000000000) < total) continue; /* decay moves in steps of 1,000 */
         memcpy(fewer, rows, sizeof rows);
         memmove(fewer[small], fewer[small + 1 < ROWS ? small + 1 : small], (n - 1 - small) * sizeof(row));
-        struct besides more = in_edition(1 + (uint32_t)(k / 12 % 2), k);
+        struct besides more = in_edition(1 + (uint32_t)(k / 12 % NILOFERQ_EDITIONS), k);
         make(&full, rows, n, more);
         make(&less, fewer, n - 1, more);
         cases++;

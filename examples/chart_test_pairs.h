@@ -57,8 +57,8 @@ static uint32_t at_most_one(uint32_t room) { return room && draw64() % 2; }
 
 /* Makes returns of both, in editions and with other kinds that differ, and has the chart compare them. */
 static struct finding compare_made(unsigned long which) {
-    make(&old.bytes, old.rows, old.n, in_edition(1 + (uint32_t)(draw64() % 2), which));
-    make(&new.bytes, new.rows, new.n, in_edition(1 + (uint32_t)(draw64() % 2), (unsigned long)draw64() % 1000));
+    make(&old.bytes, old.rows, old.n, in_edition(1 + (uint32_t)(draw64() % NILOFERQ_EDITIONS), which));
+    make(&new.bytes, new.rows, new.n, in_edition(1 + (uint32_t)(draw64() % NILOFERQ_EDITIONS), (unsigned long)draw64() % 1000));
     must(gather(old.bytes.b, old.bytes.length, &both[0].figures) == 0 && examine(&both[0]), "the old return is good", which);
     must(gather(new.bytes.b, new.bytes.length, &both[1].figures) == 0 && examine(&both[1]), "the new return is good", which);
     return find_less(&both[0].figures, &both[1].figures);

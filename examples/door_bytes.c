@@ -13,39 +13,46 @@ static uint32_t judged(const uint8_t *bytes, size_t length) {
     return niloferq_judge(bytes, length, counts, NILOFERQ_COUNTS);
 }
 
-/* The day's bytes in both editions, and number 3 for editions that are unknown, mixed, or have no such kind. */
+/* The day's bytes in each edition, and number 3 for editions that are unknown, mixed, or have no such kind. */
 static void editions_in_bytes(const uint8_t *day, size_t length) {
     static uint8_t bytes[NILOFERQ_RETURN_ROOM], by_hand[NILOFERQ_RETURN_ROOM];
-    static const uint32_t unknown[] = {0, NILOFERQ_EDITIONS + 1, 257, 258, 65535};
+    static const uint32_t unknown[] = {0, NILOFERQ_EDITIONS + 1, 257, 258, 259, 65535};
     shape one_each;
     memcpy(by_hand, day, length);
-    for (size_t at = 0; at < length; at += 512) put_edition(by_hand + at, 2);
-    must(written_as(DAY_IN_2, bytes) == length && memcmp(bytes, by_hand, length) == 0, "write: the day in edition 2 has another edition and checks");
-    fill_shape(one_each, NILOFERQ_EDITIONS, 1);
-    length = written_as(one_each, bytes);
-    must(length == NILOFERQ_KINDS * 512, "a row of each kind, a block each");
-    for (uint32_t block = 0; block < NILOFERQ_KINDS; block++) must(bytes[512 * block] == block + 1, "the kinds stand in order");
-    for (uint32_t block = 0; block < NILOFERQ_KINDS; block++) {
-        put_edition(bytes + 512 * block, 1); /* unlike block 0's, so with block 0 itself it is block 1 that is unlike */
-        must(judged(bytes, length) == (block ? 3000 + block : 3001), "judge: an edition unlike block 0's");
-        put_edition(bytes + 512 * block, NILOFERQ_EDITIONS);
+    for (uint32_t edition = 1; edition <= NILOFERQ_EDITIONS; edition++) {
+        put_editions(by_hand, length, edition);
+        must(written_as((const shape){edition, 1, 1, 1, 1}, bytes) == length && memcmp(bytes, by_hand, length) == 0,
+             "write: the day in another edition has another edition and checks");
     }
-    must(judged(bytes, length) == 0, "judge: one edition everywhere");
+    for (uint32_t edition = 2; edition <= NILOFERQ_EDITIONS; edition++) {
+        fill_shape(one_each, edition, 1);
+        length = written_as(one_each, bytes);
+        must(length == NILOFERQ_KINDS * 512, "a row of each kind, a block each");
+        for (uint32_t block = 0; block < NILOFERQ_KINDS; block++) must(bytes[512 * block] == block + 1, "the kinds stand in order");
+        for (uint32_t other = 0; other <= NILOFERQ_EDITIONS + 1; other++)
+            for (uint32_t block = 0; other != edition && block < NILOFERQ_KINDS; block++) {
+                int unknown_first = block == 0 && (other == 0 || other > NILOFERQ_EDITIONS);
+                put_edition(bytes + 512 * block, other); /* unlike block 0's, so with block 0 itself it is block 1 that is unlike, but where it is unknown */
+                must(judged(bytes, length) == (block ? 3000 + block : unknown_first ? 3000 : 3001), "judge: an edition unlike block 0's");
+                put_edition(bytes + 512 * block, edition);
+            }
+        must(judged(bytes, length) == 0, "judge: one edition everywhere");
+    }
     for (size_t i = 0; i < sizeof unknown / sizeof *unknown; i++) {
-        for (uint32_t block = 0; block < NILOFERQ_KINDS; block++) put_edition(bytes + 512 * block, unknown[i]);
+        put_editions(bytes, length, unknown[i]);
         must(judged(bytes, length) == 3000, "judge: an unknown edition");
     }
 }
 
 /* The day with a row of a kind above 4: where it stands, its bytes, and number 3 in edition 1. */
-static void later_in_bytes(uint32_t kind) {
+static void later_in_bytes(uint32_t kind, uint32_t edition) {
     static uint8_t bytes[NILOFERQ_RETURN_ROOM];
-    shape counts = {2, 1, 1, 1, 1};
+    shape counts = {edition, 1, 1, 1, 1};
     counts[kind] = 1;
     size_t length = written_as(counts, bytes);
     must(length == 5 * 512 && bytes[3 * 512] == PARAMETERS && bytes[4 * 512] == kind, "a kind above 4 stands after the parameters");
     must(memcmp(bytes + 4 * 512 + 8, KINDS[kind].record, 40) == 0, "the bytes of its row");
-    for (uint32_t block = 0; block < 5; block++) put_edition(bytes + 512 * block, 1);
+    put_editions(bytes, length, 1);
     must(judged(bytes, length) == 3004, "judge: a kind above 4 in edition 1");
 }
 
@@ -64,10 +71,10 @@ static uint32_t judged_with(uint8_t *bytes, size_t length, size_t block, size_t 
 static int width_of(uint32_t kind, uint32_t field) { return KINDS[kind].limits[field] > 65535 ? 4 : 2; }
 
 /* Numbers 3 to 6 at the thirteenth row of a kind above 4, which is alone in its second block. */
-static void thirteenth_in_bytes(uint32_t kind) {
+static void thirteenth_in_bytes(uint32_t kind, uint32_t edition) {
     static uint8_t bytes[NILOFERQ_RETURN_ROOM];
     shape thirteen;
-    fill_shape(thirteen, NILOFERQ_EDITIONS, 13);
+    fill_shape(thirteen, edition, 13);
     size_t length = written_as(thirteen, bytes), at = 8 + 4;
     uint32_t block = first_block(thirteen, kind) + 1, place = 12 * block;
     must(judged(bytes, length) == 0, "judge: thirteen rows of each kind");
@@ -90,10 +97,10 @@ static void thirteenth_in_bytes(uint32_t kind) {
 }
 
 /* The longest return, and a block or a byte more. */
-static void longest(void) {
+static void longest(uint32_t edition) {
     static uint8_t bytes[NILOFERQ_RETURN_ROOM + 512];
     shape full;
-    fill_shape(full, NILOFERQ_EDITIONS, NILOFERQ_MOST_ROWS);
+    fill_shape(full, edition, NILOFERQ_MOST_ROWS);
     size_t length = written_as(full, bytes);
     must(length == NILOFERQ_RETURN_ROOM && judged(bytes, length) == 0, "judge: the longest return");
     must(judged(bytes, length + 1) == 1000 && judged(bytes, length + 512) == 1000, "judge: more than the longest return");
@@ -102,9 +109,11 @@ static void longest(void) {
 
 void returns_in_bytes(const uint8_t *day, size_t length) {
     editions_in_bytes(day, length);
-    for (uint32_t kind = PARAMETERS + 1; kind <= NILOFERQ_KINDS; kind++) {
-        later_in_bytes(kind);
-        thirteenth_in_bytes(kind);
+    for (uint32_t edition = 2; edition <= NILOFERQ_EDITIONS; edition++) {
+        for (uint32_t kind = PARAMETERS + 1; kind <= NILOFERQ_KINDS; kind++) {
+            later_in_bytes(kind, edition);
+            thirteenth_in_bytes(kind, edition);
+        }
+        longest(edition);
     }
-    longest();
 }

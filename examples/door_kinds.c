@@ -3,7 +3,7 @@
 #include <string.h>
 
 /* Limits have the id's, which is any number, in front. In a record an id and an area have four bytes, anything else two, then there are zeros. */
-const struct kind KINDS[NILOFERQ_COUNTS] = {
+const struct kind KINDS[NILOFERQ_KINDS + 1] = {
     [CONVERSION] = {1, NILOFERQ_CONVERSION_NUMBERS, NILOFERQ_MOST_ROWS, .row = {7, 200, 1000, 100, 400, 900, 500, 200, 900, 500, 300, 1000, 100, 300, 500}},
     [STOCK] = {1, NILOFERQ_STOCK_NUMBERS, NILOFERQ_MOST_ROWS, .row = {1, 0, 680, 1000, 500}},
     [HARVEST] = {1, NILOFERQ_HARVEST_NUMBERS, NILOFERQ_MOST_ROWS, .row = {1, 500, 950, 300, 0}},
@@ -21,6 +21,7 @@ const struct kind KINDS[NILOFERQ_COUNTS] = {
 
 void fill_shape(shape counts, uint32_t edition, uint32_t rows) {
     counts[EDITION] = edition;
+    counts[SCATTERED] = 0;
     for (uint32_t kind = 1; kind <= NILOFERQ_KINDS; kind++) counts[kind] = KINDS[kind].since > edition ? 0 : kind == PARAMETERS ? 1 : rows;
 }
 
@@ -41,6 +42,7 @@ void fill_rows(struct rows *r, const shape counts) {
             uint32_t *row = r->area + r->area_len;
             memcpy(row, KINDS[kind].row, 4 * KINDS[kind].numbers);
             if (kind != PARAMETERS) row[0] += i;
+            if (kind == STOCK) row[UNIT_CODE] = i < counts[SCATTERED];
             r->area_len += KINDS[kind].numbers;
         }
         r->lengths[kind - 1] = KINDS[kind].numbers * counts[kind];
@@ -74,4 +76,11 @@ void put_check(uint8_t *block) {
     uint32_t check = 0;
     for (uint32_t i = 0; i < 508; i++) check += (i + 1) * block[i];
     put(block + 508, check, 4);
+}
+
+void put_editions(uint8_t *bytes, size_t length, uint32_t edition) {
+    for (size_t at = 0; at < length; at += 512) {
+        put(bytes + at + 6, edition, 2);
+        put_check(bytes + at);
+    }
 }

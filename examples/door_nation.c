@@ -63,19 +63,24 @@ static const long long Q_OF_DAYS[] = {0, 48583, 97167, 145750};
 
 /* ---- the returns that a file is made of */
 
-/* d: the worked day. c: it with a wrong check in its last block, refused 2 3. u: it with no harvest, refused 12 0. p: the lone parameters. z: with zeros in
- * place of all its bytes but the number of blocks, refused 2 0. */
+/* d: the worked day. e: it in edition 3. s: it in edition 2 with scattered trees, which move no figure. t: the same in edition 3, refused 14 12. c: it with a
+ * wrong check in its last block, refused 2 3. u: it with no harvest, refused 12 0. p: the lone parameters. z: with zeros in place of all its bytes but the
+ * number of blocks, refused 2 0. */
 static uint8_t returns[128][NILOFERQ_RETURN_ROOM];
 static size_t sizes[128];
 
 static void make_returns(const uint8_t *day, size_t size) {
-    static const char each[] = "dcuz";
+    static const char each[] = "dectuz";
     for (const char *at = each; *at; at++) memcpy(returns[(unsigned char)*at], day, sizes[(unsigned char)*at] = size);
     returns['c'][size - 1] ^= 1;
     memset(returns['u'] + 2 * 512 + 12, 0, 16);
     put_check(returns['u'] + 2 * 512);
     memset(returns['z'], 0, size);
     put(returns['z'] + 4, (uint32_t)(size / 512), 2);
+    put_editions(returns['e'], size, TREELESS);
+    sizes['s'] = written_as((const shape){2, 1, 1, 1, 1, [SCATTERED] = 1}, returns['s']);
+    memcpy(returns['t'], returns['s'], size);
+    put_editions(returns['t'], size, TREELESS);
     sizes['p'] = written_as((const shape){1, 0, 0, 0, 1}, returns['p']);
 }
 
@@ -96,6 +101,8 @@ static const struct {
     {"dcd", "return 2 refused 2 3\n", "nation: good, refused, good", 2, 1, 2},
     {"cdd", "return 1 refused 2 3\n", "nation: refused, good, good", 2, 1, 2},
     {"c", "return 1 refused 2 3\n", "nation: one that is refused", 0, 1, 0},
+    {"des", "", "nation: each edition, and scattered trees", 3, 0, 3},
+    {"stst", "return 2 refused 14 12\nreturn 4 refused 14 12\n", "nation: scattered trees in editions 2 and 3", 2, 2, 2},
     {"udcpz", "return 1 refused 12 0\nreturn 3 refused 2 3\nreturn 5 refused 2 0\n", "nation: three refused, each by its own number", 2, 3, 1},
 };
 

@@ -1,4 +1,4 @@
-/* Tries reading into rooms of every length, and writing in both editions, rows with a fault of each kind among them. */
+/* Tries reading into rooms of every length, and writing in each edition, rows with a fault of each kind among them. */
 #include "door_test.h"
 #include <string.h>
 
@@ -60,6 +60,10 @@ void reading(const uint8_t *day, size_t length) {
     must(due_of(&r, 19, ALL) == 9002 && due_of(&r, 15, ALL) == 9002 && due_of(&r, 14, ALL) == 9001 && due_of(&r, 14, ALL - 1) == 9000, "the places due");
     fill_rows(&r, DAY_IN_2);
     read_every_length(bytes, written(&r, bytes), &r, "read: the day in edition 2 into rooms of every length");
+    for (uint32_t edition = 1; edition < TREELESS; edition++) {
+        fill_rows(&r, (const shape){edition, 1, 3, 1, 1, [SCATTERED] = 2});
+        read_every_length(bytes, written(&r, bytes), &r, "read: the day with scattered trees into rooms of every length");
+    }
     fill_shape(one_each, NILOFERQ_EDITIONS, 1);
     fill_rows(&r, one_each);
     read_every_length(bytes, written(&r, bytes), &r, "read: a row of each kind into rooms of every length");
@@ -69,7 +73,7 @@ void reading(const uint8_t *day, size_t length) {
     must(due_of(&r, 60, ALL) == 9007 && due_of(&r, 61, ALL) == 0, "the places due");
     must(due_of(&r, r.area_len, ALL) == 0 && due_of(&r, r.area_len - 1, ALL) == 9000 + NILOFERQ_KINDS, "the places due");
     for (uint32_t kind = PARAMETERS + 1; kind <= NILOFERQ_KINDS; kind++) {
-        shape alone = {2, 1, 1, 1, 1};
+        shape alone = {2 + kind % 2, 1, 1, 1, 1};
         alone[kind] = 2;
         fill_rows(&r, alone);
         read_every_length(bytes, written(&r, bytes), &r, "read: the day with rows of one kind above 4 into rooms of every length");
@@ -77,6 +81,7 @@ void reading(const uint8_t *day, size_t length) {
 
     for (uint32_t edition = 1; edition <= NILOFERQ_EDITIONS; edition++) {
         fill_shape(full, edition, NILOFERQ_MOST_ROWS);
+        if (edition < TREELESS) full[SCATTERED] = 31;
         read_full(full);
     }
     fill_rows(&r, full);
@@ -130,7 +135,8 @@ static void must_write_back(const shape counts, const char *what) {
     must_refuse(&r, size, 0, 9000, "write: no room for the size");
 }
 
-/* Shapes of all sizes in each edition: the day, a row of each kind, all rows, the parameters alone, and with each kind above 4. */
+/* Shapes of all sizes in each edition: the day, a row of each kind, all rows, of which some are scattered trees, the parameters alone, and with each kind
+ * above 4. */
 static void shapes(void) {
     for (uint32_t edition = 1; edition <= NILOFERQ_EDITIONS; edition++) {
         shape counts = {edition, 1, 1, 1, 1};
@@ -139,6 +145,8 @@ static void shapes(void) {
         must_write_back(counts, "write: a row of each kind");
         fill_shape(counts, edition, NILOFERQ_MOST_ROWS);
         must_write_back(counts, "write: a full return");
+        for (counts[SCATTERED] = 1; edition < TREELESS && counts[SCATTERED] <= NILOFERQ_MOST_ROWS; counts[SCATTERED]++)
+            must_write_back(counts, "write: a full return with scattered trees");
         fill_shape(counts, edition, 0);
         must_write_back(counts, "write: the parameters alone");
         for (uint32_t kind = PARAMETERS + 1; kind <= NILOFERQ_KINDS && KINDS[kind].since <= edition; kind++) {
@@ -171,7 +179,8 @@ static void later_in_1(uint32_t kind) {
 /* Writing in an edition that is not there, and kinds above 4 in edition 1. */
 static void editions(void) {
     static struct rows r;
-    static const uint32_t unknown[] = {0, NILOFERQ_EDITIONS + 1, 65535, 65536, 65537, 65538, 16777217, 4294967295}; /* 65537 and 65538 are 1 and 2 in two bytes */
+    /* 65537 to 65539 are 1 to 3 in two bytes */
+    static const uint32_t unknown[] = {0, NILOFERQ_EDITIONS + 1, 65535, 65536, 65537, 65538, 65539, 16777219, 4294967295};
     shape one_each;
     fill_shape(one_each, NILOFERQ_EDITIONS, 1);
     for (size_t i = 0; i < sizeof unknown / sizeof *unknown; i++) {

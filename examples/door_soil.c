@@ -1,5 +1,5 @@
 /* Tries number 13, a soil type with more or less area now than twenty years ago: each function on returns and rows at both sides of the border, with
- * nothing lent changed by a refusal; its place; and its order, behind 1 to 7, 10 and 12 and before 11 and 9. The sums are by hand, from the paper. */
+ * nothing lent changed by a refusal; its place; and its order, behind 1 to 7, 10, 12 and 14 and before 11 and 9. The sums are by hand, from the paper. */
 #include "door_test.h"
 #include <stdio.h>
 #include <string.h>
@@ -50,9 +50,9 @@ static const struct soils SOILS[] = {
     {32, {{1, 65535, 99999, 100000}, {1, 65535, 100000, 100000}}, 0, 65535, 3199999, 3200000, "the most, and one less"},
 };
 
-/* The day in edition 2, with these soils. */
-static void fill_soils(struct rows *r, const struct soils *s) {
-    shape counts = {2, 1, 1, 1, 1};
+/* The day in this edition, with these soils. */
+static void fill_soils(struct rows *r, const struct soils *s, uint32_t edition) {
+    shape counts = {edition, 1, 1, 1, 1};
     uint32_t given = 6; /* without the rows of zeros at their end */
     while (given > 1 && s->rows[given - 1].type == 0 && s->rows[given - 1].now == 0 && s->rows[given - 1].then == 0) given--;
     counts[SOIL] = s->count;
@@ -103,11 +103,11 @@ static void must_accept_soils(const struct soils *s, const struct rows *r, const
          "read: the same rows");
 }
 
-static void both_sides(void) {
+static void both_sides(uint32_t edition) {
     static struct rows r;
     static uint8_t bytes[NILOFERQ_RETURN_ROOM];
     for (size_t i = 0; i < sizeof SOILS / sizeof *SOILS; i++) {
-        fill_soils(&r, SOILS + i);
+        fill_soils(&r, SOILS + i, edition);
         size_t length = put_together(&r, bytes);
         if (SOILS[i].first != NONE)
             must_refuse_soils(SOILS + i, &r, bytes, length);
@@ -122,7 +122,7 @@ static void later_blocks(void) {
     static uint8_t bytes[NILOFERQ_RETURN_ROOM];
     for (uint32_t at = 11; at < NILOFERQ_MOST_ROWS; at += 5) {
         struct soils s = {NILOFERQ_MOST_ROWS, {{0}}, at, 1000 + at, 5, 6, "a soil type in a later block"};
-        fill_soils(&r, &s);
+        fill_soils(&r, &s, 2);
         for (uint32_t i = 0; i < s.count; i++) {
             uint32_t *row = row_of(&r, SOIL, i);
             row[SOIL_TYPE] = 1000 + i, row[AREA_NOW] = 5, row[AREA_THEN] = i == at ? 6 : 5;
@@ -172,7 +172,7 @@ static const struct {
 static void order(void) {
     static struct rows r;
     static uint8_t bytes[NILOFERQ_RETURN_ROOM], made[NILOFERQ_RETURN_ROOM];
-    fill_soils(&r, &UNEVEN);
+    fill_soils(&r, &UNEVEN, 2);
     size_t length = put_together(&r, made);
     must_be_refused(made, length - 1, 1000, "a length comes before 13");
     for (size_t i = 0; i < sizeof BEFORE_READING / sizeof *BEFORE_READING; i++) {
@@ -183,20 +183,20 @@ static void order(void) {
         must_be_refused(bytes, length, BEFORE_READING[i].answer, BEFORE_READING[i].what);
     }
     for (size_t i = 0; i < sizeof BEFORE_WRITING / sizeof *BEFORE_WRITING; i++) {
-        fill_soils(&r, &UNEVEN);
+        fill_soils(&r, &UNEVEN, 2);
         row_of(&r, BEFORE_WRITING[i].kind, BEFORE_WRITING[i].row)[BEFORE_WRITING[i].field] = BEFORE_WRITING[i].value;
         must_refuse(&r, length, 1, BEFORE_WRITING[i].answer, BEFORE_WRITING[i].what);
     }
-    fill_soils(&r, &UNEVEN);
+    fill_soils(&r, &UNEVEN, 2);
     r.counts[EDITION] = 1;
     must_refuse(&r, length, 1, 10007, "write: soils in edition 1 come before 13");
-    fill_soils(&r, &UNEVEN);
+    fill_soils(&r, &UNEVEN, 2);
     r.lengths[SOIL - 1]--, r.area_len--;
     must_refuse(&r, length, 1, 10007, "write: part of a row comes before 13");
 }
 
 void soils(void) {
-    both_sides();
+    for (uint32_t edition = 2; edition <= NILOFERQ_EDITIONS; edition++) both_sides(edition);
     later_blocks();
     order();
 }

@@ -1,7 +1,7 @@
 /* Tries what the header says: areas of length 0, NULL among their pointers; each function on the worked day, and the figures of the day with thinner
- * rows, with rows of each kind above 4 and with soils that changed. Reading and writing are in door_rows.c, returns byte by byte in door_bytes.c,
- * number 12 in door_wood.c, number 13 in door_soil.c, table 5-2 in door_table52.c, the explanation and the heaviest rows in door_explain.c, the national
- * line in door_nation.c; all of them take the kinds from the table in door_kinds.c. */
+ * rows, with scattered trees, with rows of each kind above 4 and with soils that changed. Reading and writing are in door_rows.c, returns byte by byte in
+ * door_bytes.c, number 14 in door_trees.c, number 12 in door_wood.c, number 13 in door_soil.c, table 5-2 in door_table52.c, the explanation and the heaviest
+ * rows in door_explain.c, the national line in door_nation.c; all of them take the kinds from the table in door_kinds.c. */
 #include "door_test.h"
 #include <stdio.h>
 #include <string.h>
@@ -45,7 +45,7 @@ static const char DAY_LINES[] = "E 340000000\nK 775000\nL 36000000\nM 41500000\n
                                 "onsite 32400000000000\noffsite 16200000000000\nR 48600000000000\ndecay 40500000000000\nco2 326700\n"
                                 "ch4 518\nco 4536\nn2o 4\nnox 129\n";
 static const char *const REQUESTED[] = {"uptake", "uptake_co2", "thinner", "savanna_carbon", "savanna_ch4", "savanna_co", "savanna_n2o", "savanna_nox",
-                                        "soil", "soil_change"};
+                                        "soil", "soil_change", "scattered"};
 
 /* The whole text of the day with these lines among the requested ones, each of the others being 0; the answer is its length. */
 static size_t text_of(char text[NILOFERQ_LINES_ROOM + 1], const char *lines) {
@@ -137,6 +137,15 @@ static void thinner_rows(void) {
     must_be_day(bytes, written(&r, bytes), counts, "thinner 3\n", "the day with rows that are thinner before than after");
 }
 
+/* The day with its stock row as scattered trees, in the editions that have them: of so many thousand trees as it has 0.01 kha, so that no figure moves. */
+static void scattered_rows(void) {
+    static uint8_t bytes[NILOFERQ_RETURN_ROOM];
+    for (uint32_t edition = 1; edition < TREELESS; edition++) {
+        const shape counts = {edition, 1, 1, 1, 1, [SCATTERED] = 1};
+        must_be_day(bytes, written_as(counts, bytes), counts, "scattered 1\n", "the day with scattered trees");
+    }
+}
+
 /* Rows of a kind above 4 beside the day: the table's, of which the last may be another, or all at their limits but for one field. */
 enum { AS_THEY_ARE, LAST_IS, AT_LIMITS };
 static const struct {
@@ -186,7 +195,7 @@ static void later_kinds(void) {
     for (size_t i = 0; i < sizeof CASES / sizeof *CASES; i++) {
         uint32_t kind = CASES[i].kind, last = CASES[i].count - 1;
         size_t row_size = 4 * KINDS[kind].numbers;
-        shape counts = {2, 1, 1, 1, 1};
+        shape counts = {2 + i % 2, 1, 1, 1, 1}; /* in editions 2 and 3 by turns */
         counts[kind] = CASES[i].count;
         fill_rows(&r, counts);
         if (CASES[i].how == LAST_IS) memcpy(row_of(&r, kind, last), CASES[i].row, row_size);
@@ -198,8 +207,10 @@ static void later_kinds(void) {
         if (kind != kind_before) strcat(all, CASES[i].lines);
         kind_before = kind;
     }
-    fill_shape(one_each, NILOFERQ_EDITIONS, 1);
-    must_be_day(bytes, written_as(one_each, bytes), one_each, all, "a row of each kind side by side");
+    for (uint32_t edition = 2; edition <= NILOFERQ_EDITIONS; edition++) {
+        fill_shape(one_each, edition, 1);
+        must_be_day(bytes, written_as(one_each, bytes), one_each, all, "a row of each kind side by side");
+    }
 }
 
 /* Two rows of one soil type beside the day, by hand: land system 0 with so much now and then, and what it gave or got on land system 1. */
@@ -227,6 +238,7 @@ static void changed_soils(void) {
     shape counts = {2, 1, 1, 1, 1};
     counts[SOIL] = 2;
     for (size_t i = 0; i < sizeof SOILS / sizeof *SOILS; i++) {
+        counts[EDITION] = 2 + i % 2;
         fill_rows(&r, counts);
         memcpy(row_of(&r, SOIL, 0), SOILS[i].rows, sizeof SOILS[i].rows);
         must_be_day(bytes, written(&r, bytes), counts, SOILS[i].lines, SOILS[i].what);
@@ -272,11 +284,13 @@ int main(int count, char **words) {
     empty_areas(day, length);
     must_be_day(day, length, DAY, "", "the day itself");
     thinner_rows();
+    scattered_rows();
     later_kinds();
     changed_soils();
     reading(day, length);
     writing(day, length);
     returns_in_bytes(day, length);
+    trees();
     wood();
     soils();
     defaults();

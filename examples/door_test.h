@@ -13,9 +13,13 @@ void must(int holds, const char *what);
 enum { SPARE = 3 };
 static const uint32_t UNTOUCHED = 0xdeadbeef;
 
-/* Kinds are numbered as in the paper. A shape is what a read counts: the edition, and how many rows of each kind. */
-enum { EDITION, CONVERSION, STOCK, HARVEST, PARAMETERS, ABANDONED, SAVANNA, SOIL };
+/* Kinds are numbered as in the paper. A shape is what a read counts: the edition, how many rows of each kind, and how many of the stock rows are scattered
+ * trees. */
+enum { EDITION, CONVERSION, STOCK, HARVEST, PARAMETERS, ABANDONED, SAVANNA, SOIL, SCATTERED };
+_Static_assert(SOIL == NILOFERQ_KINDS && SCATTERED == NILOFERQ_SCATTERED && SCATTERED == NILOFERQ_COUNTS - 1, "the counts' order");
 typedef uint32_t shape[NILOFERQ_COUNTS];
+/* The unit code of a stock row, where it stands in a record, and the edition that has no scattered trees. */
+enum { UNIT_CODE = 1, UNIT_AT = 4, TREELESS = 3 };
 /* The fields of a row of mineral soil whose sums for each soil type have to be equal, and where the type and the later one stand in a record. */
 enum { SOIL_TYPE = 2, AREA_NOW = 3, AREA_THEN = 4, THEN_AT = 12 };
 static inline int is_balanced(uint32_t kind, uint32_t field) { return kind == SOIL && (field == AREA_NOW || field == AREA_THEN); }
@@ -28,7 +32,7 @@ struct kind {
     uint32_t row[NILOFERQ_CONVERSION_NUMBERS], limits[NILOFERQ_CONVERSION_NUMBERS];
     uint8_t record[40];
 };
-extern const struct kind KINDS[NILOFERQ_COUNTS];
+extern const struct kind KINDS[NILOFERQ_KINDS + 1];
 
 /* So many rows of each kind that the edition has; of parameters one. */
 void fill_shape(shape counts, uint32_t edition, uint32_t rows);
@@ -46,7 +50,8 @@ struct rows {
     size_t lengths_len;
 };
 
-/* The table's rows, of each kind so many; copies have rising ids, but for parameters, which have none. */
+/* The table's rows, of each kind so many; copies have rising ids, but for parameters, which have none. The first stock rows are scattered trees, as many as
+ * the shape has, with the numbers of the others. */
 void fill_rows(struct rows *r, const shape counts);
 /* A kind's row in the area, by the lengths. */
 uint32_t *row_of(struct rows *r, uint32_t kind, uint32_t row);
@@ -54,9 +59,10 @@ uint32_t *row_of(struct rows *r, uint32_t kind, uint32_t row);
 size_t written(const struct rows *r, uint8_t bytes[NILOFERQ_RETURN_ROOM]);
 size_t written_as(const shape counts, uint8_t bytes[NILOFERQ_RETURN_ROOM]);
 
-/* Puts a number into so many bytes, the lowest first, as everywhere in a return; and into a block the check that is then due. */
+/* Puts a number into so many bytes, the lowest first, as everywhere in a return; into a block the check that is then due; and an edition into every block. */
 void put(uint8_t *at, uint32_t value, int width);
 void put_check(uint8_t *block);
+void put_editions(uint8_t *bytes, size_t length, uint32_t edition);
 
 /* Accepted with this edition and these counts, in rooms of every length. */
 void must_judge(const uint8_t *bytes, size_t length, const shape due, const char *what);
@@ -73,11 +79,12 @@ void must_be_refused(const uint8_t *bytes, size_t length, uint32_t answer, const
 void must_write(const struct rows *r, size_t room_len, size_t size_len, size_t due, const char *what);
 void must_refuse(const struct rows *r, size_t room_len, size_t size_len, uint32_t answer, const char *what);
 
-/* The trials of reading and writing, of returns byte by byte, of numbers 12 and 13, of niloferq_table52, of niloferq_explain and niloferq_heaviest, and of
- * niloferq_nation, with the worked day. */
+/* The trials of reading and writing, of returns byte by byte, of scattered trees with number 14, of numbers 12 and 13, of niloferq_table52, of
+ * niloferq_explain and niloferq_heaviest, and of niloferq_nation, with the worked day. */
 void reading(const uint8_t *day, size_t length);
 void writing(const uint8_t *day, size_t length);
 void returns_in_bytes(const uint8_t *day, size_t length);
+void trees(void);
 void wood(void);
 void soils(void);
 void table52(void);

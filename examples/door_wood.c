@@ -1,5 +1,5 @@
 /* Tries number 12, more wood cleared than used: each function on returns and rows at both sides of the border, with nothing lent changed by a refusal;
- * and its order, behind 1 to 7 and 10 and before 11 and 9. The sums are by hand, from the paper. */
+ * and its order, behind 1 to 7, 10 and 14 and before 11 and 9. The sums are by hand, from the paper. */
 #include "door_test.h"
 #include <stdio.h>
 #include <string.h>

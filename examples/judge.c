@@ -1,5 +1,6 @@
-/* Judges a return: judge FILE, where - is standard input. Prints the edition and the row counts, or the refusal's number and place. Status 0: printed.
- * 1: the file was not read, or the line not written. 2: wrong use. */
+/* Judges a return: judge FILE, where - is standard input. Prints the edition, the row counts and how many of the stock rows are
+ * scattered trees, or the refusal's number and place. Status 0: printed. 1: the file was not read, or the line not
+ * written. 2: wrong use. */
 #define _POSIX_C_SOURCE 200809L
 #include "files.h"
 #include "niloferq.h"
@@ -24,8 +25,8 @@ int main(int count, char **words) {
     if (answer != 0)
         printf("refused %u %u\n", answer / 1000, answer % 1000);
     else
-        printf("accepted: edition %u, conversion %u, stock %u, harvest %u, parameters %u, abandoned %u, savanna %u, soil %u\n", counts[0],
-               counts[1], counts[2], counts[3], counts[4], counts[5], counts[6], counts[7]);
+        printf("accepted: edition %u, conversion %u, stock %u, harvest %u, parameters %u, abandoned %u, savanna %u, soil %u, scattered %u\n",
+               counts[0], counts[1], counts[2], counts[3], counts[4], counts[5], counts[6], counts[7], counts[NILOFERQ_SCATTERED]);
     if (fflush(stdout) != 0) {
         fprintf(stderr, "judge: cannot write standard output: %s\n", strerror(errno));
         return 1;

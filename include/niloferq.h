@@ -8,9 +8,15 @@
  * The pointer of an area of length 0 has to be a valid one too, as for any other length. NULL with length 0 is tried by
  * examples/door_test and works, though the compiler's guide does not promise it.
  *
- * A refusal is 1,000 times its number plus its place, by the paper's table, tried in its order; number 8 is not given any more; two of niloferq_table52 have
+ * A refusal is 1,000 times its number plus its place, by the paper's table; number 8 is not given any more; two of niloferq_table52 have
  * no number there and are 1 and 2; the refusal of a room that is too short, 9000 and when reading also 9001 to 9007, comes last. On a refusal no lent
  * element has changed, but for niloferq_lines, niloferq_explain and niloferq_nation: the text of a refusal is its lines, and it is written like any other.
+ *
+ * The numbers of a return are tried in this order: 1 to 6, 14, 7, 12, 13; those of rows to be written: 10, 5, 6, 14, 7, 12, 13. Each is tried over the
+ * whole input before the next.
+ *
+ * Number 14 is tried straight after 6: the unit code of a stock row is 1, for scattered trees, in edition 3, which has none. Its place is the row's. A unit
+ * code of 2 or above is 6 in every edition.
  *
  * Number 12, always at place 0, is tried straight after 7: L is above 100 K, so that clearing would give more wood than was used. Equality is good.
  *   K is the sum over the harvest rows of F x G + 1,000 x (I + J), in 10^-4 kt;
@@ -22,7 +28,8 @@
  * Rows in lent memory: a row is its fields in the order below, each a uint32_t, with no zero bytes between. The rows of all kinds
  * lie in one area, kind after kind: conversion, stock, harvest, parameters, abandoned land, savanna, mineral soil, which are kinds 1 to 7.
  *
- * A return is of edition 1 or 2. Edition 1 has kinds 1 to 4 alone. The judge and a read tell the edition, and a write is told it.
+ * A return is of edition 1, 2 or 3. Edition 1 has kinds 1 to 4 alone, edition 2 all kinds; edition 3 is edition 2 without scattered trees. The judge and a
+ * read tell the edition, and a write is told it.
  *
  * The fields of a row, from 0, each with its limit and its unit: a value is a whole number of the unit, from 0 up to the limit. An id may be any
  * number; within a kind the ids rise from row to row. On-site, off-site and decay fraction of a conversion row add up to at most 1,000.
@@ -45,7 +52,7 @@
  *     14  decay_carbon_fraction             1,000  0.001
  *   kind 2, stock
  *      0  id                                  any
- *      1  unit_code                             1  0 is land, 1 is scattered trees
+ *      1  unit_code                             1  0 is land, 1 is scattered trees, not in edition 3
  *      2  rate                             10,000  0.01 t/ha, or 0.0001 kt per thousand trees
  *      3  amount                       10,000,000  0.01 kha, or one thousand trees
  *      4  carbon_fraction                   1,000  0.001
@@ -96,7 +103,7 @@
  *      7  tillage (factor)                    300  0.01
  *      8  input (factor)                      300  0.01
  *
- * The place of a refusal by the numbers 5, 6, 7 and 13 is that of a row: 12 times its block plus its position in the block, both from 0. A kind of n rows
+ * The place of a refusal by the numbers 5, 6, 7, 13 and 14 is that of a row: 12 times its block plus its position in the block, both from 0. A kind of n rows
  * takes (n + 11) / 12 blocks, twelve rows in each but the last, and the kinds stand one after the other. So, when writing, where n[k] rows of each
  * kind k are handed in, this tells which row of which kind is meant:
  *     block = place / 12;
@@ -110,13 +117,16 @@
 #include <stddef.h>
 #include <stdint.h>
 
-/* Of the functions below; 10 had six kinds and no number 13, 9 no national line, 8 no number 12, 7 named no row in an explanation, 6 had no explanation,
- * 5 no table, 4 had five kinds, 3 number 8 and no `thinner`, 2 four kinds and no edition, 1 an area for each kind. */
-#define NILOFERQ_VERSION 11
+/* Of the functions below; 11 had two editions, no number 14 and no `scattered`, 10 six kinds and no number 13, 9 no national line, 8 no number 12,
+ * 7 named no row in an explanation, 6 had no explanation, 5 no table, 4 had five kinds, 3 number 8 and no `thinner`, 2 four kinds and no edition,
+ * 1 an area for each kind. */
+#define NILOFERQ_VERSION 12
 
-#define NILOFERQ_EDITIONS 2            /* the latest edition */
+#define NILOFERQ_EDITIONS 3            /* the latest edition */
 #define NILOFERQ_KINDS 7               /* the kinds of rows */
-#define NILOFERQ_COUNTS (NILOFERQ_KINDS + 1) /* the edition and a count for each kind: counts[0] is the edition, counts[k] the rows of kind k */
+/* The counts: counts[0] is the edition, counts[k] the rows of kind k, counts[NILOFERQ_SCATTERED] how many of the stock rows are scattered trees. */
+#define NILOFERQ_SCATTERED (NILOFERQ_KINDS + 1)
+#define NILOFERQ_COUNTS (NILOFERQ_KINDS + 2)
 #define NILOFERQ_CONVERSION_NUMBERS 15 /* the numbers in a conversion row */
 #define NILOFERQ_STOCK_NUMBERS 5       /* the numbers in a stock row */
 #define NILOFERQ_HARVEST_NUMBERS 5     /* the numbers in a harvest row */
@@ -125,7 +135,7 @@
 #define NILOFERQ_SAVANNA_NUMBERS 14    /* the numbers in a row of savanna */
 #define NILOFERQ_SOIL_NUMBERS 9        /* the numbers in a row of mineral soil */
 #define NILOFERQ_MOST_ROWS 32          /* the most rows of a kind in a return; of parameters there is always one */
-#define NILOFERQ_FIGURES 27            /* the figures of a return */
+#define NILOFERQ_FIGURES 28            /* the figures of a return */
 #define NILOFERQ_MOST_RETURNS 500      /* the most returns of a national line */
 
 /* Rooms that are always enough. */
@@ -136,8 +146,8 @@
      NILOFERQ_MOST_ROWS * NILOFERQ_SAVANNA_NUMBERS +                                                              \
      NILOFERQ_MOST_ROWS * NILOFERQ_SOIL_NUMBERS) /* elements for the rows of a return, 1,766 */
 #define NILOFERQ_RETURN_ROOM 9728                    /* bytes for a return */
-#define NILOFERQ_FIGURES_ROOM (3 * NILOFERQ_FIGURES) /* elements for the figures, 81 */
-#define NILOFERQ_LINES_ROOM 1620                     /* bytes for the lines */
+#define NILOFERQ_FIGURES_ROOM (3 * NILOFERQ_FIGURES) /* elements for the figures, 84 */
+#define NILOFERQ_LINES_ROOM 1680                     /* bytes for the lines */
 #define NILOFERQ_EXPLAIN_ROOM 300                    /* bytes for an explanation */
 #define NILOFERQ_NATION_ROOM 16000                   /* bytes for a national line */
 #define NILOFERQ_HEAVIEST_ROOM 3                     /* elements for the heaviest row */
@@ -151,21 +161,23 @@ extern "C" {
 #endif
 
 /* Judges a return: any bytes of any length.
- * 0: accepted, and the first NILOFERQ_COUNTS elements of counts are the edition and the numbers of conversion, stock, harvest,
- *    parameter, abandoned land, savanna and soil rows; later elements keep their values.
- * 1000 to 7227: refused by one of the numbers 1 to 7. 12000: then, by 12. 13000 to 13227: then, by 13. 9000: a good return, and counts_len is below
- *    NILOFERQ_COUNTS. */
+ * 0: accepted, and the first NILOFERQ_COUNTS elements of counts are the edition, the numbers of conversion, stock, harvest, parameter,
+ *    abandoned land, savanna and soil rows, and how many of the stock rows are scattered trees, which is 0 in edition 3; later elements
+ *    keep their values.
+ * 1000 to 7227, 12000, 13000 to 13227, 14000 to 14227: refused, by the numbers of a return in their order, above. 9000: a good return, and
+ *    counts_len is below NILOFERQ_COUNTS. */
 uint32_t niloferq_judge(const uint8_t *bytes, size_t bytes_len, uint32_t *counts, size_t counts_len);
 
 /* The NILOFERQ_FIGURES figures as numbers, in the order in which `sheets` prints them: E, K, L, M, O, P, Q, report, onsite, offsite, R,
  * decay, co2, ch4, co, n2o, nox, uptake, uptake_co2, thinner, savanna_carbon, savanna_ch4, savanna_co, savanna_n2o, savanna_nox, soil,
- * soil_change. thinner is a count, of the periods of conversion rows whose density after is above that before, 0 to 64: such a period counts with a
- * difference of 0. soil is in 10^-4 t of carbon and soil_change in tonnes of carbon a year; both are above zero for a gain.
+ * soil_change, scattered. thinner is a count, of the periods of conversion rows whose density after is above that before, 0 to 64: such a period counts
+ * with a difference of 0. soil is in 10^-4 t of carbon and soil_change in tonnes of carbon a year; both are above zero for a gain. scattered is a count, of
+ * the stock rows that are scattered trees, 0 to 32.
  * 0: the first NILOFERQ_FIGURES_ROOM elements of room are three for each figure: 1 where it is below zero and else 0, then the upper
  *    and the lower word of its size, which is lower + 2^64 upper; later elements keep their values. Only P, Q, report, soil and
  *    soil_change may be below zero: the sign of M and O is always 0, since a return whose M would be below zero is refused.
- * 1000 to 7227: refused by one of the numbers 1 to 7. 12000: then, by 12. 13000 to 13227: then, by 13. 9000: a good return, and room_len is below
- *    NILOFERQ_FIGURES_ROOM. */
+ * 1000 to 7227, 12000, 13000 to 13227, 14000 to 14227: refused, by the numbers of a return in their order, above. 9000: a good return, and
+ *    room_len is below NILOFERQ_FIGURES_ROOM. */
 uint32_t niloferq_figures(const uint8_t *bytes, size_t bytes_len, uint64_t *room, size_t room_len);
 
 /* The text that the program `sheets` prints: a line for each figure of a good return, or `refused`, number and place.
@@ -175,7 +187,8 @@ size_t niloferq_lines(const uint8_t *bytes, size_t bytes_len, uint8_t *room, siz
 
 /* The text that the program `explain` prints: `refused`, number and place, then, where a row is refused, its block, its position there, its kind and its
  * id, and then the values that clash, a line each, for 12 `used`, which is 100 K, and `cleared`, which is L, for 13 `soil_type`, `area_now` and
- * `area_then`, its two sums; of a good return the heaviest conversion row of each of the three carbon subtotals. docs/EXPLAIN.md has the lines.
+ * `area_then`, its two sums, for 14 `unit_code` and `edition`; of a good return the heaviest conversion row of each of the three carbon subtotals.
+ * docs/EXPLAIN.md has the lines.
  * The text's length, and the text stands at the front of room, with no zero byte behind it; later bytes keep their values.
  * 0: room_len is below the text's length, and room is unchanged. NILOFERQ_EXPLAIN_ROOM bytes are always enough. */
 size_t niloferq_explain(const uint8_t *bytes, size_t bytes_len, uint8_t *room, size_t room_len);
@@ -184,16 +197,16 @@ size_t niloferq_explain(const uint8_t *bytes, size_t bytes_len, uint8_t *room, s
  * with the lower id on a tie; where the subtotal is zero there is none.
  * 0: the first NILOFERQ_HEAVIEST_ROOM elements of room are 1, the row's id and its part in 10^-12 kt C; or 0, 0, 0 where there is none, so that a
  *    row with id 0 is told apart from none. Later elements keep their values.
- * 1000 to 7227: refused by one of the numbers 1 to 7. 12000: then, by 12. 13000 to 13227: then, by 13. 11000: a good return and a code above 2. Last
- *    9000: room_len is below NILOFERQ_HEAVIEST_ROOM. */
+ * 1000 to 7227, 12000, 13000 to 13227, 14000 to 14227: refused, by the numbers of a return in their order, above. 11000: a good return
+ *    and a code above 2. Last 9000: room_len is below NILOFERQ_HEAVIEST_ROOM. */
 uint32_t niloferq_heaviest(const uint8_t *bytes, size_t bytes_len, uint32_t code, uint64_t *room, size_t room_len);
 
 /* One of the three carbon subtotals as a double, by its code: 0 on-site, 1 off-site, 2 decay.
  * 0: the first eight bytes of room are the double's bits, the lowest byte first; later bytes keep their values. The double is a
  *    whole number of 10^-12 kt C, and its distance from the exact subtotal, times 2^53, is at most n + 2 times the exact subtotal,
  *    where n is the number of conversion rows.
- * 1000 to 7227: refused by one of the numbers 1 to 7. 12000: then, by 12. 13000 to 13227: then, by 13. 11000: a good return and a code above 2. Last
- *    9000: room_len is below 8. */
+ * 1000 to 7227, 12000, 13000 to 13227, 14000 to 14227: refused, by the numbers of a return in their order, above. 11000: a good return
+ *    and a code above 2. Last 9000: room_len is below 8. */
 uint32_t niloferq_subtotal(const uint8_t *bytes, size_t bytes_len, uint32_t code, uint8_t *room, size_t room_len);
 
 /* The text that the program `nation` prints of a file of returns end to end, up to NILOFERQ_MOST_RETURNS, each cut by the number of blocks that its first
@@ -205,11 +218,11 @@ uint32_t niloferq_subtotal(const uint8_t *bytes, size_t bytes_len, uint32_t code
 size_t niloferq_nation(const uint8_t *bytes, size_t bytes_len, uint8_t *room, size_t room_len);
 
 /* The rows of a return, kind after kind. NILOFERQ_ROWS_ROOM and NILOFERQ_COUNTS elements are always enough.
- * 0: the rows of all kinds stand at the front of rows, and the first NILOFERQ_COUNTS elements of counts are the edition and the numbers
- *    of conversion, stock, harvest, parameter, abandoned land, savanna and soil rows; later elements of both keep their values.
- * 1000 to 7227: refused by one of the numbers 1 to 7. 12000: then, by 12. 13000 to 13227: then, by 13. Last, of a good return, the lowest place: 9000,
- *    counts_len is below NILOFERQ_COUNTS; 9001 to 9007, the lowest kind whose rows no longer fit: the rows of the kinds up to it have more numbers than
- *    rows_len. */
+ * 0: the rows of all kinds stand at the front of rows, and the first NILOFERQ_COUNTS elements of counts are what niloferq_judge tells; later
+ *    elements of both keep their values.
+ * 1000 to 7227, 12000, 13000 to 13227, 14000 to 14227: refused, by the numbers of a return in their order, above. Last, of a good return,
+ *    the lowest place: 9000, counts_len is below NILOFERQ_COUNTS; 9001 to 9007, the lowest kind whose rows no longer fit: the rows of the kinds up to it
+ *    have more numbers than rows_len. */
 uint32_t niloferq_read(const uint8_t *bytes, size_t bytes_len, uint32_t *rows, size_t rows_len, uint32_t *counts, size_t counts_len);
 
 /* The workbook's default parameters as a row of NILOFERQ_PARAMETERS_NUMBERS numbers: N 500, CH4 12, CO 60, N/C 10, N2O 7, NOx 121. No
@@ -224,9 +237,10 @@ uint32_t niloferq_defaults(uint32_t *room, size_t room_len);
  *    their values. niloferq_read gives the same rows and the edition back.
  * First the lowest place of the number 10: 10000, there is no such edition, or lengths_len is not NILOFERQ_KINDS, or the lengths do not
  *    add up to rows_len; 10001 to 10007, the length of this kind is no whole number of its rows, or is more than NILOFERQ_MOST_ROWS of
- *    them, or for parameters isn't exactly one row, or isn't 0 though the edition does not have the kind. Then 5000 to 7227: refused by
- *    one of the numbers 5 to 7, the place being where the record would stand: above is how to tell which row of which kind that is.
- *    Then 12000: refused by 12. Then 13000 to 13227: refused by 13. Last 9000: room_len is below the number of bytes, or size_len is 0. */
+ *    them, or for parameters isn't exactly one row, or isn't 0 though the edition does not have the kind. Then 5000 to
+ *    7227, 12000, 13000 to 13227, 14000 to 14227: refused by 5, 6, 14, 7, 12 or 13, tried in this order, the place being where the
+ *    record would stand: above is how to tell which row of which kind that is. Last 9000: room_len is below the number of bytes, or
+ *    size_len is 0. */
 uint32_t niloferq_write(uint32_t edition, const uint32_t *rows, size_t rows_len, const uint32_t *lengths, size_t lengths_len, uint8_t *room,
                         size_t room_len, uint32_t *size, size_t size_len);
 

@@ -37,7 +37,8 @@ static const struct {
 } kinds[KINDS + 1] = {{0, 0}, {conversion, 15}, {stock, 5}, {harvest, 5}, {parameters, 6}, {abandoned, 7}, {savanna, 14}, {soil, 9}};
 
 /* The last kind of each edition. */
-static const uint32_t last_kind[3] = {0, 4, KINDS};
+#define EDITIONS 3
+static const uint32_t last_kind[EDITIONS + 1] = {0, 4, KINDS, KINDS};
 
 static uint32_t two(const uint8_t *p) { return p[0] | (uint32_t)p[1] << 8; }
 static uint32_t four(const uint8_t *p) { return two(p) | two(p + 2) << 16; }
@@ -107,6 +108,8 @@ static int broken(const uint8_t *bytes, uint32_t n, uint32_t rule, uint32_t b, u
         return b > 0 && bytes[512 * (b - 1)] == kind && four(p) <= four(bytes + 512 * (b - 1) + 448);
     case 6:
         return above(p, kind);
+    case 14:
+        return kind == 2 && p[4] == 1 && two(bytes + 6) == 3;
     default:
         return kind == 1 && two(p + 12) + two(p + 18) + two(p + 32) > 1000;
     }
@@ -150,8 +153,9 @@ static int32_t uneven_soil(const uint8_t *bytes, uint32_t n) {
     return lowest < 0 ? -1 : (int32_t)places[lowest];
 }
 
-/* 0 with the edition and the counts, or 1,000 times the number plus the place. */
-uint32_t plain_judge(const uint8_t *bytes, size_t length, uint32_t counts[KINDS + 1]) {
+/* 0 with the edition, the counts and the number of scattered trees, or 1,000 times the number plus the place. */
+uint32_t plain_judge(const uint8_t *bytes, size_t length, uint32_t counts[KINDS + 2]) {
+    static const uint32_t rules[] = {5, 6, 14, 7};
     if (length == 0 || length > 9728 || length % 512 != 0) return 1000;
     uint32_t n = (uint32_t)(length / 512);
     for (uint32_t b = 0; b < n; b++) {
@@ -163,26 +167,29 @@ uint32_t plain_judge(const uint8_t *bytes, size_t length, uint32_t counts[KINDS 
     for (uint32_t b = 0; b < n; b++) {
         const uint8_t *p = bytes + 512 * b;
         uint32_t edition = two(p + 6);
-        if (edition < 1 || edition > 2 || edition != two(bytes + 6)) return 3000 + b;
+        if (edition < 1 || edition > EDITIONS || edition != two(bytes + 6)) return 3000 + b;
         if (p[0] < 1 || p[0] > last_kind[edition] || two(p + 2) != b || two(p + 4) != n) return 3000 + b;
     }
     for (uint32_t b = 0; b < n; b++)
         if (bad_block(bytes, n, b)) return 4000 + b;
-    for (uint32_t rule = 5; rule <= 7; rule++)
+    for (uint32_t i = 0; i < sizeof rules / sizeof *rules; i++)
         for (uint32_t b = 0; b < n; b++)
             for (uint32_t r = 0; r < bytes[512 * b + 1]; r++)
-                if (broken(bytes, n, rule, b, r)) return 1000 * rule + 12 * b + r;
+                if (broken(bytes, n, rules[i], b, r)) return 1000 * rules[i] + 12 * b + r;
     if (cleared_above_used(bytes, n)) return 12000;
     int32_t uneven = uneven_soil(bytes, n);
     if (uneven >= 0) return 13000 + (uint32_t)uneven;
-    memset(counts, 0, (KINDS + 1) * sizeof *counts);
+    memset(counts, 0, (KINDS + 2) * sizeof *counts);
     counts[0] = two(bytes + 6);
-    for (uint32_t b = 0; b < n; b++) counts[bytes[512 * b]] += bytes[512 * b + 1];
+    for (uint32_t b = 0; b < n; b++) {
+        counts[bytes[512 * b]] += bytes[512 * b + 1];
+        for (uint32_t r = 0; bytes[512 * b] == 2 && r < bytes[512 * b + 1]; r++) counts[KINDS + 1] += bytes[512 * b + 8 + 40 * r + 4] == 1;
+    }
     return 0;
 }
 
 uint32_t plain_subtotal(const uint8_t *bytes, size_t length, uint32_t code, double *room) {
-    uint32_t counts[KINDS + 1];
+    uint32_t counts[KINDS + 2];
     uint32_t answer = plain_judge(bytes, length, counts);
     if (answer) return answer;
     if (code > 2) return 11000;
@@ -201,7 +208,7 @@ uint32_t plain_subtotal(const uint8_t *bytes, size_t length, uint32_t code, doub
 }
 
 /* Rows of all kinds, kind after kind, as the blocks have them. The room is long enough for any return. */
-uint32_t plain_read(const uint8_t *bytes, size_t length, uint32_t *rows, uint32_t counts[KINDS + 1]) {
+uint32_t plain_read(const uint8_t *bytes, size_t length, uint32_t *rows, uint32_t counts[KINDS + 2]) {
     uint32_t answer = plain_judge(bytes, length, counts);
     if (answer) return answer;
     for (uint32_t b = 0; 512 * b < length; b++) {

@@ -3,17 +3,25 @@
 use crate::coverage::{Counters, Coverage, Due};
 use crate::kinds::{EDITIONS, KINDS};
 
-/// Refusal numbers go up to 13.
-const NUMBERS: u32 = 14;
+/// Refusal numbers go up to 14.
+const NUMBERS: u32 = 15;
 /// "8 is never given again, its number isn't reused" (02, §3): it fails a
 /// comparison when it is due, and is a difference when the first program gives it.
 const RETIRED: u32 = 8;
 /// The kind that number 13 is about.
 const SOIL: usize = 7;
 
-/// Whether a number can be given in an edition: 13 wants soils.
+/// The edition that number 14 is about.
+const WITHOUT_TREES: u32 = 3;
+
+/// Whether a number can be given in an edition: 13 wants soils, and 14 the edition that has
+/// no scattered trees.
 fn can_come(number: u32, edition: u32) -> bool {
-    number != 13 || edition >= KINDS[SOIL - 1].since
+    match number {
+        13 => edition >= KINDS[SOIL - 1].since,
+        14 => edition == WITHOUT_TREES,
+        _ => true,
+    }
 }
 
 /// For each number all, and each edition.
@@ -94,19 +102,27 @@ mod tests {
         assert!(!coverage.reached(short));
     }
 
-    /// Edition 1 has no soils.
+    /// Edition 1 has no soils, and 1 and 2 have scattered trees.
     #[test]
-    fn no_13_in_edition_1() {
+    fn no_13_in_edition_1_and_no_14_before_3() {
         let short = Asked {
             inputs: 1,
             shares: false,
             counts: false,
         };
-        for (edition, good) in [(1, false), (2, true), (77, true)] {
+        for (number, edition, good) in [
+            (13, 1, false),
+            (13, 2, true),
+            (13, 3, true),
+            (13, 77, true),
+            (14, 1, false),
+            (14, 2, false),
+            (14, 3, true),
+        ] {
             let mut coverage = Coverage::default();
-            let answers = Answers::new("", &[13], [Due::Once; 2], &mut coverage);
-            answers.note(edition, 13, &mut coverage);
-            assert_eq!(coverage.reached(short), good, "{edition}");
+            let answers = Answers::new("", &[number], [Due::Once; 2], &mut coverage);
+            answers.note(edition, number, &mut coverage);
+            assert_eq!(coverage.reached(short), good, "{number} in {edition}");
         }
     }
 }

@@ -43,7 +43,7 @@ fn several_header_values(rng: &mut Rng) -> Case {
     let b = rng.below(block_count(&bytes));
     let times = 2 + rng.below(5);
     for _ in 0..times {
-        let value = rng.pick(&[0, 1, 2, 3, 9, 10, 99, 100, 255]);
+        let value = rng.pick(&[0, 1, 2, 3, 4, 9, 10, 99, 100, 255]);
         block(&mut bytes, b)[rng.below(8)] = value;
     }
     repair_checks(&mut bytes);
@@ -77,7 +77,7 @@ fn several_strays(rng: &mut Rng) -> Case {
 /// broken, and several by one block. Their records are empty, but for a byte now
 /// and then.
 fn any_layout(rng: &mut Rng) -> Case {
-    let edition = rng.pick(&[1, 2]);
+    let edition = rng.pick(&[1, 2, 3]);
     let last = usize::from(last_kind(edition.into()));
     let mut kinds = Vec::new();
     for _ in 0..1 + rng.below(4) {

@@ -1,4 +1,4 @@
-//! Damage to the bytes of a return, in either edition: numbers 1 to 4.
+//! Damage to the bytes of a return, in any edition: numbers 1 to 4.
 //!
 //! Several can be laid over each other, from the highest number down: the
 //! repair of checks after 3 or 4 would undo an earlier damage of number 2.

@@ -5,6 +5,7 @@ use crate::answers::Answers;
 use crate::balances::Balances;
 use crate::coverage::{Asked, Coverage, Due};
 use crate::input::Input;
+use crate::retired::Retired;
 use crate::rng::Rng;
 use crate::sorts::RowSorts;
 use crate::uneven::Uneven;
@@ -39,6 +40,8 @@ pub struct Plan<'a> {
     /// The fewest inputs refused by 13, of each sort by the areas of their soils; none is
     /// asked where it is 0.
     pub uneven: usize,
+    /// The fewest inputs by their scattered trees, of each sort; none is asked where it is 0.
+    pub retired: usize,
 }
 
 /// So many times, or told where it is none.
@@ -135,7 +138,7 @@ impl Ran {
     }
 }
 
-/// Goes over the inputs, and counts the answers, the sentences, the sorts of rows, the balances of wood and the areas of soils.
+/// Goes over the inputs, and counts the answers, the sentences, the sorts of rows, the balances of wood, the areas of soils and the scattered trees.
 pub fn run<I: Input>(
     plan: &Plan,
     arguments: Arguments,
@@ -155,6 +158,7 @@ pub fn run<I: Input>(
     let counted: Vec<_> = counted.collect();
     let balances = Balances::new(times_or_told(plan.balances), &mut coverage);
     let uneven = Uneven::new(times_or_told(plan.uneven), &mut coverage);
+    let retired = Retired::new(times_or_told(plan.retired), &mut coverage);
     let [mut made, mut accepted, mut differences] = [0; 3];
     let start = Instant::now();
     for index in 0..arguments.inputs.unwrap_or(plan.inputs) {
@@ -175,6 +179,12 @@ pub fn run<I: Input>(
         }
         balances.note(number, || input.lists(), &mut coverage);
         uneven.note(number, || input.lists(), &mut coverage);
+        retired.note(
+            input.edition(),
+            outcome.answer,
+            || input.lists(),
+            &mut coverage,
+        );
         if outcome.answer == 0 {
             accepted += 1;
             sorts.note(&input.lists(), &mut coverage);

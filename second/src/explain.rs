@@ -3,12 +3,14 @@
 //! header or non-zero byte, the two ids, the field and its limit, the sum of the
 //! fractions". Where one row is refused, the row is named before them. With number 12
 //! it "then shows 100K and L" (02, §8), with 13 the soil type at fault and its two area
-//! sums (02, §11). Of a return that is accepted, the heaviest rows.
+//! sums (02, §11), with 14 the unit code and the edition, which has no such code (02,
+//! §12). Of a return that is accepted, the heaviest rows.
 
 use crate::heaviest;
 use crate::judge::RECORDS_PER_BLOCK;
 use crate::judge::{check, computed_check, edition, first_fault, four, record_at, stored_check};
-use crate::judge::{two, uneven_of, whole_blocks, wood_of, Block, Fault, Record, Refusal};
+use crate::judge::{two, uneven_of, unit_code, whole_blocks, wood_of};
+use crate::judge::{Block, Fault, Record, Refusal};
 use crate::kinds::{Kind, KINDS};
 use crate::land::Conversion;
 use crate::text::Text;
@@ -40,7 +42,7 @@ pub fn explain(bytes: &[u8], room: &mut [u8]) -> usize {
 
 /// The numbers whose place is a row's. 13 is about all rows of a soil type, and its
 /// place is the first of them.
-const AT_A_ROW: [u32; 4] = [5, 6, 7, 13];
+const AT_A_ROW: [u32; 5] = [5, 6, 7, 13, 14];
 
 /// Which row the place is, where it is a row's: its block, its
 /// position there and its kind, so that nobody has to divide by twelve, and its id.
@@ -61,8 +63,8 @@ fn print_row(bytes: &[u8], Refusal { number, place }: Refusal, text: &mut Text) 
 }
 
 /// The values that clash at a refusal's place, a block up to number 4 and a
-/// record from number 5 to 7. Number 12 is about the return as a whole, 13 about the
-/// soil type of the record.
+/// record from number 5 to 7 and with 14. Number 12 is about the return as a whole, 13
+/// about the soil type of the record.
 fn print_clash(bytes: &[u8], refusal: Refusal, text: &mut Text) {
     let (blocks, place) = (whole_blocks(bytes), refusal.place as usize);
     match refusal.number {
@@ -102,6 +104,11 @@ fn print_clash(bytes: &[u8], refusal: Refusal, text: &mut Text) {
             let wood = wood_of(blocks);
             text.line("used ", wood.used());
             text.line("cleared ", wood.l);
+        }
+        14 => {
+            let (_, record) = record_at(blocks, place);
+            text.line("unit_code ", unit_code(record).into());
+            text.line("edition ", edition(&blocks[0]).into());
         }
         _ => {
             let uneven = uneven_of(blocks).expect("number 13 was given");

@@ -5,7 +5,8 @@ mod savanna;
 mod soil;
 
 use crate::case::Case;
-use crate::make::{thin, Rows, AFTER, BEFORE, FIRST_WITH_IDS, MOST_ROWS, SUMMED, WITH_IDS};
+use crate::make::{thin, Rows, AFTER, BEFORE, FIRST_WITH_IDS, LATER_EDITIONS};
+use crate::make::{MOST_ROWS, SUMMED, WITH_IDS};
 use crate::rng::Rng;
 use crate::worst;
 
@@ -22,7 +23,7 @@ pub fn case(rng: &mut Rng) -> Case {
         }),
         10 => (
             "all rows",
-            Rows::good_in(rng, 2, [MOST_ROWS; WITH_IDS.len()]),
+            Rows::good_in_later(rng, [MOST_ROWS; WITH_IDS.len()]),
         ),
         11 => ("uptake near a half", uptake_near_half(rng)),
         12..16 => ("a savanna gas near a half", savanna::gas_near_half(rng)),
@@ -30,25 +31,35 @@ pub fn case(rng: &mut Rng) -> Case {
         17 | 18 => ("soils near a half", soil::near_half(rng)),
         _ => ("all rows", Rows::good(rng, [MOST_ROWS; 3])),
     };
-    if rows.edition == 1 && rng.one_in(2) {
-        rows = add_later_kinds(rng, rows);
+    if rows.edition == 1 {
+        rows = match rng.below(10) {
+            0..3 => add_later_kinds(rng, rows),
+            3 => {
+                let edition = rng.pick(&LATER_EDITIONS);
+                rows.moved_to(edition)
+            }
+            _ => rows,
+        };
     }
     let how = format!("{how}, edition {}, {:?} rows", rows.edition, rows.counts());
     let bytes = rows.to_bytes();
     Case { how, bytes }
 }
 
-/// The same rows in edition 2, with some of the kinds above 4.
+/// The same rows in a later edition, with some of the kinds above 4.
 fn add_later_kinds(rng: &mut Rng, rows: Rows) -> Rows {
     let mut counts = [0; WITH_IDS.len()];
     counts[FIRST_WITH_IDS..].fill_with(|| rng.pick(&[0, 1, 2, 12, 13, 32]));
-    Rows {
+    let more = Rows::good_in_later(rng, counts);
+    let Rows { edition, .. } = more;
+    let rows = Rows {
         conversion: rows.conversion,
         stock: rows.stock,
         harvest: rows.harvest,
         parameters: rows.parameters,
-        ..Rows::good_in(rng, 2, counts)
-    }
+        ..more
+    };
+    rows.moved_to(edition)
 }
 
 /// Uptake on a half or beside it. The last row is one for single units, of land
@@ -57,7 +68,7 @@ fn uptake_near_half(rng: &mut Rng) -> Rows {
     let below = 30_000;
     let mut counts = [0; WITH_IDS.len()].map(|_| rng.below(3));
     counts[3] = 1 + rng.pick(&[0, 0, 1, 2, 12, 31]);
-    let mut rows = Rows::good_in(rng, 2, counts);
+    let mut rows = Rows::good_in_later(rng, counts);
     if rng.one_in(2) {
         // Small values, near zero.
         let small = |row: &mut [u32; 7]| row[1..].iter_mut().for_each(|v| *v %= 10);
@@ -287,7 +298,7 @@ fn large(rng: &mut Rng) -> Rows {
     let count = rng.pick(&[1, 2, 3, 12, 31, 32, 32, 32]);
     let mut rows = Rows::good(rng, [count; 3]);
     if rng.one_in(2) {
-        rows = Rows::good_in(rng, 2, [count; WITH_IDS.len()]);
+        rows = Rows::good_in_later(rng, [count; WITH_IDS.len()]);
     }
     let share = rng.below(4);
     for row in &mut rows.conversion {

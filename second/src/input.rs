@@ -15,7 +15,7 @@ pub trait Input {
     fn sentences() -> Vec<String>;
     /// Which of them it meets, when this answer is due.
     fn met(&self, answer: u32) -> Vec<usize>;
-    /// Its rows, when it is accepted or refused by number 12 or 13.
+    /// Its rows, when it is accepted, or refused by a number that is tried behind its form.
     fn lists(&self) -> Lists;
 }
 

@@ -2,7 +2,7 @@
 
 use crate::case::Case;
 use crate::rng::Rng;
-use crate::{clashes, clearings, figures, mix, plots, sweep, weights};
+use crate::{clashes, clearings, figures, mix, plots, sweep, trees, weights};
 
 /// One input in this many comes from the sweeps, until they are used up.
 const SWEEP_EVERY: usize = 4;
@@ -51,13 +51,14 @@ pub fn explained(index: usize, rng: &mut Rng) -> Case {
 }
 
 /// The mixture, several clashes at one place, rows by their weight, wood that is cleared
-/// and used nearly alike, and soils that are nearly even.
+/// and used nearly alike, soils that are nearly even, and scattered trees.
 pub fn drawn_explained(rng: &mut Rng) -> Case {
-    match rng.below(10) {
+    match rng.below(11) {
         0..4 => mix::case(rng),
         4 | 5 => clashes::case(rng),
         6 | 7 => weights::case(rng),
         8 => clearings::case(rng),
-        _ => plots::case(rng),
+        9 => plots::case(rng),
+        _ => trees::case(rng),
     }
 }

@@ -2,12 +2,13 @@
 //! with edition 2 and its kinds 5, 6 and 7 from the requests on abandoned land, on
 //! savannas and on soils (02, §1, §5 and §11), then number 12 from the request on
 //! fuelwood (02, §8) and 13 from that on soils. "8 is never given again, its number
-//! isn't reused, and 01's order closes over it" (02, §3).
+//! isn't reused, and 01's order closes over it" (02, §3). Edition 3 is edition 2 without
+//! scattered trees, which are number 14, between 6 and 7 (02, §12).
 //!
 //! "Each number is tried over the whole input before the next, and the lowest
-//! place is given": numbers 1 to 4 are a pass each. The faults of 5 to 7 belong
+//! place is given": numbers 1 to 4 are a pass each. The faults of 5, 6, 14 and 7 belong
 //! to single records and don't lean on each other, so one pass notes the first
-//! place of each, and the lowest number that was noted is given. Numbers 12 and 13 add
+//! place of each, and the first number in that order is given. Numbers 12 and 13 add
 //! records up, and are a pass each again.
 
 mod blocks;
@@ -36,19 +37,23 @@ pub enum Verdict {
     Refused(Refusal),
 }
 
-/// What an accepted return is: its edition, and the numbers of conversion,
-/// stock, harvest, parameter, abandoned, savanna and soil rows.
+/// What an accepted return is: its edition, the numbers of conversion, stock, harvest,
+/// parameter, abandoned, savanna and soil rows, and how many of its stock rows are
+/// scattered trees.
 #[derive(Clone, Copy, Debug, PartialEq, Eq)]
 pub struct Counts {
     pub edition: u16,
     pub rows: [u32; LAST_KIND],
+    /// "the answer says how many such rows there were" (02, §12)
+    pub scattered: u32,
 }
 
 impl Counts {
-    /// As C gets them: the edition, then the rows of each kind.
-    pub fn numbers(self) -> [u32; LAST_KIND + 1] {
-        let mut numbers = [u32::from(self.edition); LAST_KIND + 1];
-        numbers[1..].copy_from_slice(&self.rows);
+    /// As C gets them: the edition, then the rows of each kind, last the scattered trees.
+    pub fn numbers(self) -> [u32; LAST_KIND + 2] {
+        let mut numbers = [u32::from(self.edition); LAST_KIND + 2];
+        numbers[1..=LAST_KIND].copy_from_slice(&self.rows);
+        numbers[LAST_KIND + 1] = self.scattered;
         numbers
     }
 }
@@ -77,6 +82,10 @@ const ABANDONED: u8 = 5;
 const SAVANNA: u8 = 6;
 const SOIL: u8 = 7;
 const LAST_KIND: usize = SOIL as usize;
+
+/// The edition that "has no unit code 1" (02, §12), and that code.
+const WITHOUT_TREES: u16 = 3;
+const TREES: u8 = 1;
 
 pub(crate) type Block = [u8; BLOCK];
 pub type Record = [u8; RECORD];
@@ -146,13 +155,27 @@ pub fn check(bytes: &[u8]) -> Result<Checked<'_>, Refusal> {
     for block in blocks {
         rows[usize::from(block[0] - 1)] += u32::from(block[1]);
     }
-    let edition = edition(&blocks[0]);
-    let counts = Counts { edition, rows };
+    let counts = Counts {
+        edition: edition(&blocks[0]),
+        rows,
+        scattered: scattered(blocks),
+    };
     Ok(Checked {
         blocks,
         counts,
         wood,
     })
+}
+
+/// How many stock records have the unit code of scattered trees.
+fn scattered(blocks: &[Block]) -> u32 {
+    let stock = blocks.iter().filter(|block| block[0] == STOCK);
+    let records = stock.flat_map(|block| used_records(block, usize::from(block[1])));
+    records.filter(|record| unit_code(record) == TREES).count() as u32
+}
+
+pub(crate) fn unit_code(record: &Record) -> u8 {
+    record[4]
 }
 
 /// All whole blocks of any bytes.

@@ -73,7 +73,12 @@ trait Layout<const N: usize> {
     /// Whether the first number is an id, which must be above the one before.
     const HAS_ID: bool = true;
 
-    /// Number 7. Where a field is above its limit, number 6 comes before.
+    /// Number 14. Where a field is above its limit, number 6 comes before.
+    fn is_retired(_: u32, _: &[u32; N]) -> bool {
+        false
+    }
+
+    /// Number 7.
     fn fractions_hold(_: &[u32; N]) -> bool {
         true
     }
@@ -114,6 +119,11 @@ impl Layout<5> for Stock {
         field("amount", 8, 4, AMOUNT),
         field("carbon_fraction", 12, 2, SHARE),
     ];
+
+    /// "Edition 3 has no unit code 1."
+    fn is_retired(edition: u32, row: &[u32; 5]) -> bool {
+        edition == 3 && row[1] == 1
+    }
 }
 
 struct Harvest;
@@ -192,8 +202,10 @@ impl Layout<9> for Soil {
     ]);
 }
 
-/// The first place of each of the numbers 5, 6 and 7.
-pub(crate) type FirstPlaces = [Option<usize>; 3];
+/// The numbers of single rows, in the order in which they are tried.
+pub(crate) const OF_ROWS: [u32; 4] = [5, 6, 14, 7];
+/// The first place of each of them.
+pub(crate) type FirstPlaces = [Option<usize>; OF_ROWS.len()];
 
 /// One kind of rows. All `&[u32]` hold whole rows, one after the other.
 pub struct Kind {
@@ -210,8 +222,8 @@ pub struct Kind {
     pub most_rows: usize,
     /// The rows of a return's records of this kind, into room for just these.
     pub(crate) take: fn(Checked, u8, &mut [u32]),
-    /// Notes where rows that begin at this place are first at fault.
-    pub(crate) note: fn(&[u32], usize, &mut FirstPlaces),
+    /// Notes where rows of an edition that begin at this place are first at fault.
+    pub(crate) note: fn(u32, &[u32], usize, &mut FirstPlaces),
     /// At most a block's rows into its records, which are all zero.
     pub(crate) put: fn(&[u32], &mut [Record]),
 }
@@ -219,7 +231,7 @@ pub struct Kind {
 /// "At most 32 rows of each of the first three kinds, none needed; always one
 /// parameter row." Abandoned land: "kind 5, after the parameter block, up to 32,
 /// in edition 2". Savannas: "Kind 6, edition 2, up to 32 rows". Soils: "Kind 7, edition
-/// 2, 32 rows".
+/// 2, 32 rows". Edition 3 has what edition 2 has.
 pub static KINDS: [Kind; 7] = [
     Kind::of::<15, Conversion>("conversion", 1, 0, 32),
     Kind::of::<5, Stock>("stock", 1, 0, 32),
@@ -237,10 +249,11 @@ pub fn later_kinds() -> impl Iterator<Item = u8> {
 }
 
 /// "an unknown edition" is any other.
-pub const EDITIONS: RangeInclusive<u32> = 1..=2;
+pub const EDITIONS: RangeInclusive<u32> = 1..=3;
 
-/// What C lends for counts: one element for each kind, and the edition.
-pub const COUNTS_ROOM: usize = KINDS.len() + 1;
+/// What C lends for counts: the edition, one element for each kind, and the scattered
+/// trees.
+pub const COUNTS_ROOM: usize = KINDS.len() + 2;
 
 /// Elements that the rows of any return fit.
 pub const ROWS_ROOM: usize = {
@@ -331,7 +344,12 @@ fn put<const N: usize, L: Layout<N>>(rows: &[u32], records: &mut [Record]) {
     }
 }
 
-fn note<const N: usize, L: Layout<N>>(rows: &[u32], place: usize, first: &mut FirstPlaces) {
+fn note<const N: usize, L: Layout<N>>(
+    edition: u32,
+    rows: &[u32],
+    place: usize,
+    first: &mut FirstPlaces,
+) {
     let (rows, _) = rows.as_chunks::<N>();
     let mut least_id = 0;
     for (row, place) in rows.iter().zip(place..) {
@@ -342,7 +360,8 @@ fn note<const N: usize, L: Layout<N>>(rows: &[u32], place: usize, first: &mut Fi
         // A number too wide for its bytes is above its limit too.
         let fields = row.iter().zip(&L::FIELDS);
         let above = fields.fold(false, |any, (&value, field)| any | (value > field.most));
-        let faults = [fallen, above, !L::fractions_hold(row)];
+        let retired = L::is_retired(edition, row);
+        let faults = [fallen, above, retired, !L::fractions_hold(row)];
         if faults.contains(&true) {
             for (first, _) in first.iter_mut().zip(faults).filter(|(_, fault)| *fault) {
                 first.get_or_insert(place);

@@ -42,8 +42,8 @@ fn layouts_hold() {
 #[test]
 fn rooms_are_enough() {
     assert_eq!(ROWS_ROOM, 1_766);
-    assert_eq!(COUNTS_ROOM, 8);
-    assert_eq!([1, 2].map(full_blocks), [10, 19]);
+    assert_eq!(COUNTS_ROOM, 9);
+    assert_eq!([1, 2, 3].map(full_blocks), [10, 19, 19]);
     assert_eq!(RETURN_ROOM, 9_728);
 }
 

@@ -1,7 +1,7 @@
 //! The second program, written from the paper (01) and the requests on abandoned
 //! land, on halves, on thinner grass, on savannas, on table 5-2, on reasons, on
-//! fuelwood, on more cleared, on the national line and on soils (02, §1 to §3 and §5 to
-//! §11) alone: a judge, a reader and a writer of returns, the worksheets, the doubles, the
+//! fuelwood, on more cleared, on the national line, on soils and on scattered trees (02,
+//! §1 to §3 and §5 to §12) alone: a judge, a reader and a writer of returns, the worksheets, the doubles, the
 //! table, the explanations, the heaviest rows and the national line, with makers of
 //! good and damaged inputs to compare all of it with the first program. The table is
 //! read from docs/TABLE52.csv.
@@ -51,6 +51,7 @@ pub mod raised;
 pub mod reader;
 pub mod reasons;
 pub mod request;
+pub mod retired;
 pub mod rng;
 pub mod rounding;
 pub mod row_sweeps;
@@ -68,6 +69,8 @@ pub mod text;
 pub mod thinner;
 pub mod tilled;
 pub mod timing;
+pub mod tree_sweeps;
+pub mod trees;
 pub mod uneven;
 pub mod weights;
 pub mod wood;

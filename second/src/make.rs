@@ -10,6 +10,7 @@ mod good;
 mod harvest;
 mod savannas;
 mod soils;
+mod trees;
 
 pub use bytes::{renumber, repair_check, repair_checks, seal};
 pub use draw::good_ids;
@@ -25,7 +26,7 @@ use std::ops::Range;
 pub const BLOCK: usize = 512;
 pub const CHECK_AT: usize = 508;
 pub const MOST_ROWS: usize = 32;
-/// Of a return, in either edition.
+/// Of a return, in any edition.
 pub const MOST_BLOCKS: usize = full_blocks(*EDITIONS.end());
 /// All that edition 1 has rows for.
 pub const FIRST_FULL: usize = full_blocks(1);
@@ -41,18 +42,28 @@ pub const WITH_IDS: [u8; KINDS.len() - 1] = {
     }
     kinds
 };
-/// How many of them edition 1 has; the later ones are edition 2's alone.
+/// How many of them edition 1 has; the others are those of the later editions.
 pub const FIRST_WITH_IDS: usize = 3;
-/// How many are edition 2's alone.
+/// How many are the later editions' alone.
 pub const LATER: usize = WITH_IDS.len() - FIRST_WITH_IDS;
 /// Numbers of rows of the kinds with ids.
 pub type RowCounts = [usize; WITH_IDS.len()];
+
+/// All editions, and those that have the kinds above 4.
+pub const ALL_EDITIONS: [u16; 3] = [1, 2, 3];
+pub const LATER_EDITIONS: [u16; 2] = [2, 3];
+/// The one that has no scattered trees.
+pub const WITHOUT_TREES: u16 = 3;
 
 /// Positions in a conversion row.
 pub const BEFORE: [usize; 2] = [2, 11];
 pub const AFTER: [usize; 2] = [3, 12];
 /// On-site, off-site and decay: together at most 1,000.
 pub const SUMMED: [usize; 3] = [4, 7, 13];
+
+/// The position of the unit code in a stock row, and what it is for scattered trees.
+pub const UNIT_CODE: usize = 1;
+pub const TREES: u32 = 1;
 
 /// Positions in a savanna row: the live fraction, oxidised and carbon fraction of
 /// the live part, the same two of the dead, N/C, and CH4, CO, N2O and NOx.
@@ -130,8 +141,8 @@ pub fn place_of(kind: u8) -> Option<usize> {
 macro_rules! rows {
     ($($kind:ident: $numbers:literal,)*) => {
         /// A good return has at most 32 rows of each kind with ids, of the kinds above 4
-        /// only in edition 2, and exactly one of parameters; more or fewer are written
-        /// just the same.
+        /// only in a later edition, and exactly one of parameters; more or fewer are
+        /// written just the same.
         #[derive(Clone, Debug)]
         pub struct Rows {
             pub edition: u16,

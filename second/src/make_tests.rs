@@ -29,35 +29,41 @@ fn good_rows_are_accepted_with_their_counts() {
     let mut rng = Rng::new(3);
     for count in 0..=MOST_ROWS {
         for counts in [[count, 0, 0], [0, count, 32], [32, 32, count], [count; 3]] {
-            let bytes = Rows::good(&mut rng, counts).to_bytes();
-            assert_eq!(judge(&bytes), accepted(1, &counts));
+            let rows = Rows::good(&mut rng, counts);
+            assert_eq!(judge(&rows.to_bytes()), accepted(&rows, &counts));
         }
     }
 }
 
 /// With these numbers of rows of the kinds with ids, and one of parameters.
-fn accepted(edition: u16, counts: &[usize]) -> Verdict {
+fn accepted(of: &Rows, counts: &[usize]) -> Verdict {
     let mut rows = [0; KINDS.len()];
     rows[3] = 1;
     for (&kind, &count) in WITH_IDS.iter().zip(counts) {
         rows[usize::from(kind) - 1] = count as u32;
     }
-    Verdict::Accepted(Counts { edition, rows })
+    Verdict::Accepted(Counts {
+        edition: of.edition,
+        rows,
+        scattered: of.trees() as u32,
+    })
 }
 
 #[test]
-fn later_kinds_are_accepted_in_edition_2() {
+fn later_kinds_are_accepted_in_later_editions() {
     let mut rng = Rng::new(5);
     for count in 0..=MOST_ROWS {
         for nth in FIRST_WITH_IDS..WITH_IDS.len() {
             for others in [0, 32, MOST_ROWS - count] {
                 let mut counts = [others; WITH_IDS.len()];
                 counts[nth] = count;
-                let mut rows = Rows::good_in(&mut rng, 2, counts);
-                assert_eq!(judge(&rows.to_bytes()), accepted(2, &counts));
-                rows.edition = 1;
-                let first = judge(&rows.to_bytes()) == accepted(1, &counts);
-                assert_eq!(first, !later(&counts));
+                for edition in LATER_EDITIONS {
+                    let mut rows = Rows::good_in(&mut rng, edition, counts);
+                    assert_eq!(judge(&rows.to_bytes()), accepted(&rows, &counts));
+                    rows.edition = 1;
+                    let first = judge(&rows.to_bytes()) == accepted(&rows, &counts);
+                    assert_eq!(first, !later(&counts));
+                }
             }
         }
     }
@@ -67,12 +73,12 @@ fn later_kinds_are_accepted_in_edition_2() {
 #[test]
 fn full_returns_come() {
     let mut rng = Rng::new(6);
-    let mut full = [0; 2];
-    for _ in 0..1_000 {
+    let mut full = [0; 3];
+    for _ in 0..2_000 {
         let rows = Rows::any_good(&mut rng);
         let blocks = rows.to_bytes().len() / BLOCK;
-        full[0] += u32::from(rows.edition == 1 && blocks == FIRST_FULL);
-        full[1] += u32::from(rows.edition == 2 && blocks == MOST_BLOCKS);
+        let most = [FIRST_FULL, MOST_BLOCKS, MOST_BLOCKS][usize::from(rows.edition) - 1];
+        full[usize::from(rows.edition) - 1] += u32::from(blocks == most);
     }
     assert!(full.iter().all(|&times| times > 30), "{full:?}");
 }
@@ -152,4 +158,43 @@ fn savannas_come_of_all_sizes() {
     assert!(sizes[0] > 1_000 && sizes[23] > 1_000, "{sizes:?}");
     assert!(live.iter().all(|&times| times > 2_000), "{live:?}");
     assert!(all_largest > 50, "{all_largest}");
+}
+
+/// Rows of trees are none, one, some and all, in the editions that have them; the last has
+/// none.
+#[test]
+fn trees_come_in_all_numbers() {
+    let mut rng = Rng::new(9);
+    for edition in ALL_EDITIONS {
+        let mut came = [0; 5];
+        for _ in 0..1_000 {
+            let rows = Rows::good_in(&mut rng, edition, [1, 8, 1]);
+            came[match rows.trees() {
+                0 => 0,
+                1 => 1,
+                2..7 => 2,
+                7 => 3,
+                _ => 4,
+            }] += 1;
+        }
+        if edition == WITHOUT_TREES {
+            assert_eq!(came, [1_000, 0, 0, 0, 0]);
+        } else {
+            assert!(came.iter().all(|&times| times > 8), "{came:?}");
+        }
+    }
+}
+
+/// By hand: rows moved to another edition are the same, but for the trees of the last.
+#[test]
+fn rows_move_to_another_edition() {
+    let mut day = worked_day();
+    day.stock = vec![[1, 1, 680, 1000, 500], [2, 0, 1, 1, 1]];
+    for edition in [1, 2] {
+        let moved = day.clone().moved_to(edition);
+        assert_eq!((moved.edition, moved.trees()), (edition, 1));
+    }
+    let moved = day.moved_to(3);
+    assert_eq!((moved.edition, moved.trees()), (3, 0));
+    assert_eq!(moved.stock, [[1, 0, 680, 1000, 500], [2, 0, 1, 1, 1]]);
 }

@@ -1,24 +1,25 @@
 //! Inputs drawn at random: good returns, each number broken alone, in pairs
 //! and several times, wood that is cleared and used nearly alike, soils that are nearly
-//! even, and random blocks.
+//! even, scattered trees, and random blocks.
 
 use crate::case::Case;
 use crate::damage::{block, block_count, break_number, random_blocks};
 use crate::make::{drawn_counts, repair_checks, seal, Rows, BLOCK};
 use crate::rng::Rng;
 use crate::spoil::{spoil, to_be_spoiled, SPOILED};
-use crate::{clearings, plots};
+use crate::{clearings, plots, trees};
 
 type Weighted = (usize, fn(&mut Rng) -> Case);
 
 /// How often each way is taken, out of the sum of all.
-const WEIGHTS: [Weighted; 9] = [
+const WEIGHTS: [Weighted; 10] = [
     (19, good),
     (36, alone),
     (20, two_numbers),
     (12, one_number_often),
     (8, clearings::case),
     (6, plots::case),
+    (6, trees::case),
     (6, random),
     (5, changed_bytes),
     (3, reordered),
@@ -62,14 +63,23 @@ pub fn broken(rng: &mut Rng, numbers: &[u32]) -> Case {
 }
 
 fn alone(rng: &mut Rng) -> Case {
-    let number = rng.pick(&[1, 2, 2, 3, 3, 4, 4, 4, 5, 5, 6, 6, 7, 7, 7, 12, 13]);
+    let number = rng.pick(&[1, 2, 2, 3, 3, 4, 4, 4, 5, 5, 6, 6, 7, 7, 7, 12, 13, 14]);
     if number == 4 && rng.one_in(3) {
         // Small returns, where a block more or less has room.
         let counts = drawn_counts(rng, |rng| rng.pick(&[0, 1, 5, 12, 13]));
-        let mut bytes = Rows::good_in_either(rng, counts).to_bytes();
+        let mut bytes = Rows::good_in_any(rng, counts).to_bytes();
         let how = break_number(rng, &mut bytes, 4);
         return Case {
             how: format!("small, {how}"),
+            bytes,
+        };
+    }
+    if number == 4 && rng.one_in(6) {
+        // A third block of every kind, of which some have a count above 8.
+        let mut bytes = Rows::good_later(rng, 25).to_bytes();
+        let how = break_number(rng, &mut bytes, 4);
+        return Case {
+            how: format!("full, {how}"),
             bytes,
         };
     }
@@ -77,7 +87,7 @@ fn alone(rng: &mut Rng) -> Case {
 }
 
 /// The numbers that returns are refused by, in the order in which they are tried.
-const NUMBERS: [u32; 9] = [1, 2, 3, 4, 5, 6, 7, 12, 13];
+const NUMBERS: [u32; 10] = [1, 2, 3, 4, 5, 6, 14, 7, 12, 13];
 
 /// Two different numbers at places of their own: the one that is tried first shows, from
 /// the lower place or from the higher.
@@ -92,7 +102,7 @@ fn two_numbers(rng: &mut Rng) -> Case {
 
 /// One number at several places, so that the lowest shows.
 fn one_number_often(rng: &mut Rng) -> Case {
-    let number = rng.from_to(2, 7);
+    let number = rng.pick(&[2, 3, 4, 5, 6, 7, 14]);
     let times = 2 + rng.below(4);
     broken(rng, &vec![number; times])
 }
@@ -174,7 +184,7 @@ mod tests {
 
     #[test]
     fn every_answer_comes_often() {
-        let mut given = [0; 14];
+        let mut given = [0; 15];
         for index in 0..20_000 {
             match judge(&case(&mut Rng::for_input(32, index)).bytes) {
                 Verdict::Accepted(_) => given[0] += 1,

@@ -187,6 +187,21 @@ fn soils_in_a_file() {
     assert_eq!(found, format!("return 1 refused 13 49\n{due}"));
 }
 
+/// Scattered trees add to E as land does, and are refused in edition 3 alone.
+#[test]
+fn trees_in_a_file() {
+    let mut trees = worked_day();
+    trees.stock[0][1] = 1;
+    assert_eq!(text_of(&trees.to_bytes()), ONE);
+    let second = trees.clone().moved_to(2).to_bytes();
+    assert_eq!(text_of(&second), ONE);
+    trees.edition = 3;
+    let found = text_of(&[trees.to_bytes(), second].concat());
+    let due = ONE.replace("refused 0\n", "refused 1\n");
+    assert_eq!(found, format!("return 1 refused 14 12\n{due}"));
+    assert_eq!(text_of(&trees.moved_to(3).to_bytes()), ONE);
+}
+
 /// It is the first header that cuts; the others are the judge's business.
 #[test]
 fn the_first_header_cuts() {

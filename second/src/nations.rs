@@ -2,10 +2,10 @@
 //! run in each way.
 
 use crate::judge::judge;
-use crate::make::{Rows, BLOCK};
+use crate::make::{Rows, ALL_EDITIONS, BLOCK};
 use crate::nation::{MOST_BLOCKS, MOST_RETURNS};
 use crate::rng::Rng;
-use crate::{clearings, figures, mix, plots};
+use crate::{clearings, figures, mix, plots, trees};
 
 /// How a file ends.
 #[derive(Clone, Copy, Debug, PartialEq, Eq)]
@@ -142,11 +142,12 @@ pub fn shuffle(rng: &mut Rng, returns: &mut [Vec<u8>]) {
 /// A return, accepted or refused, that is as long as its own first header says.
 fn any_return(rng: &mut Rng) -> Vec<u8> {
     loop {
-        let bytes = match rng.below(9) {
+        let bytes = match rng.below(10) {
             0..4 => Rows::any_good(rng).to_bytes(),
             4 => figures::case(rng).bytes,
             5 => clearings::case(rng).bytes,
             6 => plots::case(rng).bytes,
+            7 => trees::case(rng).bytes,
             _ => mix::case(rng).bytes,
         };
         if blocks_said(&bytes).is_some_and(|blocks| is_whole(&bytes, blocks)) {
@@ -155,12 +156,15 @@ fn any_return(rng: &mut Rng) -> Vec<u8> {
     }
 }
 
-/// The parameters alone, or with a row more; now and then refused.
+/// The parameters alone, or with a row more, of any edition; now and then refused.
 fn small_return(rng: &mut Rng) -> Vec<u8> {
-    let mut bytes = match rng.below(4) {
-        0 => Rows::good(rng, [0, 1, 0]).to_bytes(),
-        _ => Rows::good(rng, [0, 0, 0]).to_bytes(),
-    };
+    let edition = rng.pick(&ALL_EDITIONS);
+    let stock = usize::from(rng.one_in(4));
+    let mut rows = Rows::good_in(rng, edition, [0, stock, 0]);
+    if stock > 0 && rng.one_in(2) {
+        rows.plant(rng);
+    }
+    let mut bytes = rows.to_bytes();
     if rng.one_in(4) {
         let at = BLOCK - 1 - rng.below(4);
         bytes[at] ^= rng.nonzero_byte();

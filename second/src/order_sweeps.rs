@@ -5,7 +5,8 @@ use crate::case::Case;
 use crate::damage::{block, block_count};
 use crate::kinds::{self, KINDS};
 use crate::make::{full_kinds, last_kind, place_of, repair_checks, seal, RowCounts, Rows};
-use crate::make::{BLOCK, MOST_BLOCKS, WITH_IDS};
+use crate::make::{ALL_EDITIONS, BLOCK, LATER_EDITIONS};
+use crate::make::{MOST_BLOCKS, WITHOUT_TREES, WITH_IDS};
 use crate::rng::Rng;
 
 /// Every kind and one more.
@@ -16,10 +17,11 @@ const ANY_EDITION: usize = *kinds::EDITIONS.end() as usize + 2;
 pub const ORDERS: usize = lists(ANY_KIND, 4);
 /// The editions in one to four blocks.
 pub const EDITIONS: usize = lists(ANY_EDITION, 4);
-/// Numbers of blocks from eight to some more than there may be.
-pub const CROWDS: usize = MOST_BLOCKS - 4;
-/// The orders and the editions of one block and of two, which come first.
-pub const SHORT_ORDERS: usize = 2 * lists(ANY_KIND, 2);
+/// Numbers of blocks from eight to some more than there may be, in each edition.
+const CROWDS: usize = MOST_BLOCKS - 4;
+pub const ALL_CROWDS: usize = ALL_EDITIONS.len() * CROWDS;
+/// The orders, in each edition, and the editions of one block and of two.
+pub const SHORT_ORDERS: usize = ALL_EDITIONS.len() * lists(ANY_KIND, 2);
 pub const SHORT_EDITIONS: usize = lists(ANY_EDITION, 2);
 
 /// How many lists of numbers below `below` there are, of one to so many.
@@ -41,16 +43,35 @@ fn nth_list(mut index: usize, below: usize) -> Vec<u8> {
     (0..length).map(digit).collect()
 }
 
-/// Every order of kinds in each edition, those that it doesn't have included.
+/// Edition 1 for every other index, and a later one for those between.
+pub fn first_or_later(index: usize, rng: &mut Rng) -> u16 {
+    if index.is_multiple_of(2) {
+        1
+    } else {
+        rng.pick(&LATER_EDITIONS)
+    }
+}
+
+/// Every order of kinds in edition 1 and in a later one, those that it doesn't have
+/// included.
 pub fn orders(index: usize, rng: &mut Rng) -> Case {
-    let edition = 1 + (index % 2) as u16;
-    let kinds = nth_list(index / 2, ANY_KIND);
-    let kinds: Vec<u8> = kinds.iter().map(|kind| kind + 1).collect();
-    of_kinds(rng, edition, &kinds)
+    let edition = first_or_later(index, rng);
+    of_kinds(rng, edition, &nth_order(index / 2))
+}
+
+/// Those of one block and of two in each edition.
+pub fn short_orders(index: usize, rng: &mut Rng) -> Case {
+    let edition = ALL_EDITIONS[index % 3];
+    of_kinds(rng, edition, &nth_order(index / 3))
+}
+
+fn nth_order(index: usize) -> Vec<u8> {
+    let kinds = nth_list(index, ANY_KIND);
+    kinds.iter().map(|kind| kind + 1).collect()
 }
 
 /// Every edition in every block of a small return, whose kinds are good in
-/// edition 2 and now and then in edition 1 too.
+/// the later ones and now and then in edition 1 too. It has no scattered trees.
 pub fn editions(index: usize, rng: &mut Rng) -> Case {
     let editions = nth_list(index, ANY_EDITION);
     let mut kinds = vec![4];
@@ -61,7 +82,7 @@ pub fn editions(index: usize, rng: &mut Rng) -> Case {
         }
     }
     kinds.sort_unstable();
-    let mut bytes = of_kinds(rng, 2, &kinds).bytes;
+    let mut bytes = of_kinds(rng, WITHOUT_TREES, &kinds).bytes;
     for (b, &edition) in editions.iter().enumerate() {
         block(&mut bytes, b)[6] = edition;
     }
@@ -72,10 +93,10 @@ pub fn editions(index: usize, rng: &mut Rng) -> Case {
     }
 }
 
-/// Rising kinds in eight blocks and more, in each edition: from eleven on edition
-/// 1 has no place for them, and above the most blocks neither has.
+/// Rising kinds in eight blocks and more, in each edition: from eleven on edition 1 has no
+/// place for them, and above the most blocks none has.
 pub fn crowds(index: usize, rng: &mut Rng) -> Case {
-    let (edition, blocks) = (1 + (index % 2) as u16, 8 + index / 2 % CROWDS);
+    let (edition, blocks) = (ALL_EDITIONS[index % 3], 8 + index / 3 % CROWDS);
     let mut kinds = full_kinds(edition);
     while kinds.len() > blocks {
         let b = rng.below(kinds.len());
@@ -173,7 +194,7 @@ mod tests {
             let kinds = kinds_of(&case.bytes);
             let first = editions[0];
             let good = |(&edition, &kind): (&u8, &u8)| {
-                edition == first && [1, 2].contains(&first) && known(first, kind)
+                edition == first && (1..=3).contains(&first) && known(first, kind)
             };
             let bad = editions.iter().zip(&kinds).position(|block| !good(block));
             let due = bad.map_or(0, |b| 3000 + b as u32);
@@ -183,7 +204,7 @@ mod tests {
 
     #[test]
     fn crowds_are_judged_by_their_form() {
-        for index in 0..2 * CROWDS * 20 {
+        for index in 0..ALL_CROWDS * 20 {
             let case = crowds(index, &mut Rng::for_input(113, index as u64));
             let (edition, kinds) = (case.bytes[6], kinds_of(&case.bytes));
             let number = judge(&case.bytes).answer() / 1000;
@@ -194,7 +215,7 @@ mod tests {
                 _ => 4,
             };
             assert_eq!(number, due, "{}", case.how);
-            assert!(edition == 2 || kinds.len() < 11 || !good);
+            assert!(edition > 1 || kinds.len() < 11 || !good);
         }
     }
 }

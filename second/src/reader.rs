@@ -1,12 +1,12 @@
 //! Reading: the rows of a return into one lent area, kind after kind, with
-//! the edition and their numbers beside them.
+//! the edition, their numbers and that of the scattered trees beside them.
 
 use crate::judge::{check, Checked, Refusal};
 use crate::kinds::{COUNTS_ROOM, KINDS};
 
 /// Reads a return, as C sees it: 0 with the rows at the front of `rows`, and the
-/// edition and the number of each kind at the front of `counts`, or the refusal
-/// with both as they were.
+/// edition, the number of each kind and that of the scattered trees at the front of
+/// `counts`, or the refusal with both as they were.
 pub fn read(bytes: &[u8], rows: &mut [u32], counts: &mut [u32]) -> u32 {
     match check(bytes).and_then(|checked| rooms_suffice(checked, rows.len(), counts.len())) {
         Ok(checked) => {
@@ -24,7 +24,8 @@ pub fn read(bytes: &[u8], rows: &mut [u32], counts: &mut [u32]) -> u32 {
     }
 }
 
-/// Judges a return, as C sees it: 0 with the edition and the number of each kind at the front of `counts`, or the refusal with `counts` as it was.
+/// Judges a return, as C sees it: 0 with the edition, the number of each kind and that of the scattered trees at the front of `counts`, or the refusal
+/// with `counts` as it was.
 pub fn count(bytes: &[u8], counts: &mut [u32]) -> u32 {
     match (check(bytes), counts.get_mut(..COUNTS_ROOM)) {
         (Err(refusal), _) => refusal.answer(),

@@ -14,21 +14,25 @@ use std::cmp::Ordering;
 
 const SUBTOTALS: [&str; 3] = ["on-site", "off-site", "decay"];
 /// The rules on where a return may end: edition, whether the block's kind is
-/// below 4, 4 or above, and the rule in the paper's words.
-const ENDS: [(u8, Ordering, &str); 5] = [
+/// below 4, 4 or above, and the rule in the paper's words. "Edition 3 is otherwise
+/// edition 2."
+const ENDS: [(u8, Ordering, &str); 8] = [
     (1, Ordering::Equal, "kind 4 and not last"),
     (1, Ordering::Less, "last and not kind 4"),
-    (2, Ordering::Equal, "kind 4 before a kind below 5"),
-    (2, Ordering::Less, "a last block below kind 4"),
-    (
-        2,
-        Ordering::Greater,
-        "a kind above 4 with no kind 4 before it",
-    ),
+    (2, Ordering::Equal, BEFORE_LOWER),
+    (2, Ordering::Less, LAST_BELOW),
+    (2, Ordering::Greater, NONE_BEFORE),
+    (3, Ordering::Equal, BEFORE_LOWER),
+    (3, Ordering::Less, LAST_BELOW),
+    (3, Ordering::Greater, NONE_BEFORE),
 ];
+const BEFORE_LOWER: &str = "kind 4 before a kind below 5";
+const LAST_BELOW: &str = "a last block below kind 4";
+const NONE_BEFORE: &str = "a kind above 4 with no kind 4 before it";
+const EDITIONS: [&str; 3] = ["1", "2", "3"];
 
 /// The numbers whose place is a row's, and the kinds whose rows can be at it with each.
-const OF_ROWS: [(usize, &[&str]); 4] = [
+const OF_ROWS: [(usize, &[&str]); 5] = [
     (
         5,
         &[
@@ -43,6 +47,7 @@ const OF_ROWS: [(usize, &[&str]); 4] = [
     (6, &KIND_NAMES),
     (7, &["conversion"]),
     (13, &["soil"]),
+    (14, &["stock"]),
 ];
 /// As the texts name them.
 const KIND_NAMES: [&str; KINDS.len()] = [
@@ -56,13 +61,13 @@ const KIND_NAMES: [&str; KINDS.len()] = [
 ];
 
 /// Acceptance, and the numbers that are explained.
-const NUMBERS: [usize; 10] = [0, 1, 2, 3, 4, 5, 6, 7, 12, 13];
+const NUMBERS: [usize; 11] = [0, 1, 2, 3, 4, 5, 6, 7, 12, 13, 14];
 
 /// Counters for all of it.
 pub struct Reasons {
     /// By [`NUMBERS`].
     numbers: Counters,
-    /// Each in edition 1 and in the later ones.
+    /// Each in each edition.
     faults: Counters,
     /// Blocks at fault with the end, by [`ENDS`].
     ends: Counters,
@@ -90,10 +95,7 @@ impl Reasons {
         for fault in Fault::ALL {
             let named = |edition| format!("fault {}, edition {edition}", fault.word());
             let can_come = fault != Fault::Fourth;
-            coverage.add(
-                if can_come { due } else { Due::Never },
-                ["1", "2"].map(named),
-            );
+            coverage.add(if can_come { due } else { Due::Never }, EDITIONS.map(named));
         }
         let rows = coverage.add(due, [""; 0]);
         for (number, kinds) in OF_ROWS {
@@ -170,11 +172,12 @@ impl Reasons {
                 let words = Fault::ALL.map(Fault::word);
                 let fault = words.iter().position(|&word| value("fault") == Some(word));
                 let fault = fault.expect("one of the words");
-                coverage.count(self.faults, 2 * fault + usize::from(bytes[6] > 1));
+                let edition = usize::from(bytes[6]) - 1;
+                coverage.count(self.faults, EDITIONS.len() * fault + edition);
                 let block = &bytes[BLOCK * place..BLOCK * (place + 1)];
                 match Fault::ALL[fault] {
                     Fault::End => {
-                        let broken = (bytes[6].min(2), block[0].cmp(&4));
+                        let broken = (bytes[6], block[0].cmp(&4));
                         let rule = ENDS.iter().position(|&(e, kind, _)| (e, kind) == broken);
                         coverage.count(self.ends, rule.expect("one of the rules"));
                     }

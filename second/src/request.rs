@@ -5,28 +5,31 @@ use crate::case::Case;
 use crate::damage::block;
 use crate::families::Families;
 use crate::kinds::KINDS;
-use crate::make::{seal, Rows, BLOCK, FIRST_WITH_IDS, LATER, WITH_IDS};
-use crate::order_sweeps::{crowds, editions, orders, CROWDS, SHORT_EDITIONS, SHORT_ORDERS};
+use crate::make::{seal, Rows, BLOCK, FIRST_WITH_IDS, LATER, LATER_EDITIONS, WITH_IDS};
+use crate::order_sweeps::{crowds, editions, short_orders};
+use crate::order_sweeps::{ALL_CROWDS, SHORT_EDITIONS, SHORT_ORDERS};
 use crate::rng::Rng;
 use crate::spoil::{any_limited_of, spoil_id, spoil_limit, ABOVES, BAD_IDS};
-use crate::{clearings, plots};
+use crate::{clearings, plots, trees};
 
 static FAMILIES: Families<Case> = Families(&[
-    (SHORT_ORDERS, orders),
+    (SHORT_ORDERS, short_orders),
     (SHORT_EDITIONS, editions),
-    (2 * CROWDS, crowds),
+    (ALL_CROWDS, crowds),
     (WAYS * TRIES * LATER, later),
     (CLEARINGS, |_, rng| clearings::case(rng)),
     (PLOTS, |_, rng| plots::case(rng)),
+    (GROVES, |_, rng| trees::case(rng)),
 ]);
 
-/// How many are made for the sake of number 12, and of 13.
+/// How many are made for the sake of number 12, of 13, and of 14.
 const CLEARINGS: usize = 60;
 const PLOTS: usize = 90;
+const GROVES: usize = 90;
 
 /// Ways in which rows of a kind above 4 are at fault, and how often each is drawn.
 const WAYS: usize = 6;
-const TRIES: usize = 5;
+const TRIES: usize = 6;
 
 /// How many there are.
 pub fn size() -> usize {
@@ -42,12 +45,13 @@ pub fn case(index: usize, rng: &mut Rng) -> Case {
 /// the count of the third block, or by standing behind a higher one.
 fn later(index: usize, rng: &mut Rng) -> Case {
     let (way, nth) = (index % WAYS, index / WAYS % LATER);
+    let edition = LATER_EDITIONS[index / WAYS / LATER % 2];
     let kind = WITH_IDS[FIRST_WITH_IDS + nth];
     let row = if way == 4 { 24 } else { 1 + rng.below(31) };
     let mut counts = [0, 1, 0].to_vec();
     counts.extend((0..LATER).map(|_| if way == 5 { 3 } else { rng.pick(&[0, 3]) }));
     counts[FIRST_WITH_IDS + nth] = row + 1 + rng.below(32 - row);
-    let mut rows = Rows::good_in(rng, 2, &counts);
+    let mut rows = Rows::good_in(rng, edition, &counts);
     match way {
         0 => {
             let bad = rng.pick(&BAD_IDS);
@@ -80,7 +84,7 @@ fn later(index: usize, rng: &mut Rng) -> Case {
     }
     seal(&mut bytes);
     Case {
-        how: format!("kind {kind} at fault, way {way} at row {row}"),
+        how: format!("kind {kind} at fault, way {way} at row {row}, edition {edition}"),
         bytes,
     }
 }

@@ -5,12 +5,14 @@ use crate::families::Families;
 use crate::kinds::KINDS;
 use crate::lists::RowLists;
 use crate::make::{drawn_counts, fields, limited, place_of, RowCounts, Rows};
-use crate::make::{FIRST_WITH_IDS, LIMITED, MOST_ROWS, WITH_IDS};
+use crate::make::{ALL_EDITIONS, FIRST_WITH_IDS, LATER_EDITIONS, LIMITED, MOST_ROWS, WITH_IDS};
+use crate::order_sweeps::first_or_later;
 use crate::rng::Rng;
 use crate::rowlists::{wrap_sum, UNKNOWN_EDITIONS};
 use crate::soil_sweeps::{written_each, written_pairs, written_sums, written_with_13};
 use crate::soil_sweeps::{EACH, PAIRS, SUMS, WITH_13_WRITING};
 use crate::spoil::{spoil_id, value, BAD_IDS, VALUES};
+use crate::tree_sweeps;
 use crate::wood_sweeps::{written_alone, written_balances, written_with_12};
 use crate::wood_sweeps::{ALONE, BALANCES, WITH_12_WRITING};
 
@@ -33,6 +35,11 @@ static FAMILIES: Families<RowLists> = Families(&[
     (EACH, written_each),
     (PAIRS, written_pairs),
     (WITH_13_WRITING, written_with_13),
+    (tree_sweeps::EACH, tree_sweeps::written_each),
+    (tree_sweeps::CODES, tree_sweeps::written_codes),
+    (tree_sweeps::HOW_MANY, tree_sweeps::written_how_many),
+    (tree_sweeps::PAIRS, tree_sweeps::written_pairs),
+    (tree_sweeps::WITH_14_WRITING, tree_sweeps::written_with_14),
     (WRAPS, wraps),
 ]);
 
@@ -55,7 +62,7 @@ fn counts(index: usize, rng: &mut Rng) -> RowLists {
         counts = drawn_counts(rng, |rng| rng.below(MOST_ROWS + 1));
     }
     counts[place] = count;
-    let rows = Rows::good_in_either(rng, counts);
+    let rows = Rows::good_in_any(rng, counts);
     RowLists::of(format!("row counts {counts:?}"), &rows)
 }
 
@@ -73,10 +80,10 @@ const LENGTHS: usize = {
     all
 };
 
-/// Every length of each kind, in each edition: whole rows, cut in the middle of a
-/// row, too many.
+/// Every length of each kind, in edition 1 and in a later one: whole rows, cut in the
+/// middle of a row, too many.
 fn lengths(index: usize, rng: &mut Rng) -> RowLists {
-    let (edition, mut index) = (1 + (index % 2) as u16, index / 2);
+    let (edition, mut index) = (first_or_later(index, rng), index / 2);
     let mut kind = 0;
     while index >= lengths_of(kind) {
         index -= lengths_of(kind);
@@ -111,7 +118,7 @@ fn values(index: usize, rng: &mut Rng) -> RowLists {
     if let Some(place) = place_of(kind) {
         counts[place] = row + 1 + rng.below(MOST_ROWS - row);
     }
-    let mut rows = Rows::good_in_either(rng, counts);
+    let mut rows = Rows::good_in_any(rng, counts);
     let limit = fields(kind)[field].most;
     let value = value(which, limit, rng);
     rows.row(kind, row)[field] = value;
@@ -131,13 +138,13 @@ fn ids(index: usize, rng: &mut Rng) -> RowLists {
     let kind = WITH_IDS[place];
     let mut counts = some_counts(rng);
     counts[place] = row + 1 + rng.below(MOST_ROWS - row);
-    let mut rows = Rows::good_in_either(rng, counts);
+    let mut rows = Rows::good_in_any(rng, counts);
     spoil_id(&mut rows, kind, row, way);
     RowLists::of(format!("id {way:?} at kind {kind} row {row}"), &rows)
 }
 
-/// Those that there aren't, and 1 and 2.
-const EDITIONS: usize = UNKNOWN_EDITIONS.len() + 2;
+/// Those that there aren't, and those that there are.
+const EDITIONS: usize = UNKNOWN_EDITIONS.len() + ALL_EDITIONS.len();
 const EDITION_TRIES: usize = 40;
 
 /// Every edition, with and without each of the kinds above 4.
@@ -148,7 +155,8 @@ fn editions(index: usize, rng: &mut Rng) -> RowLists {
         let some = 1 + rng.below(MOST_ROWS + 1);
         *count = (turn >> bit) % 2 * some;
     }
-    let mut made = RowLists::of(String::new(), &Rows::good_in(rng, 2, counts));
+    let of = rng.pick(&LATER_EDITIONS);
+    let mut made = RowLists::of(String::new(), &Rows::good_in(rng, of, counts));
     let unknown = UNKNOWN_EDITIONS.get(which).copied();
     made.edition = unknown.unwrap_or((EDITIONS - which) as u32);
     made.how = format!("row counts {counts:?} in edition {}", made.edition);

@@ -1,21 +1,21 @@
 //! A maker of rows for the writer: good ones, lengths that are no whole number
 //! of rows, too many or don't add up, editions that there aren't or that don't
 //! have a kind, wood that is cleared and used nearly alike, soils that are nearly even,
-//! and each rule broken alone and beside others.
+//! scattered trees, and each rule broken alone and beside others.
 
 use crate::kinds::KINDS;
 use crate::lists::{Lists, RowLists};
-use crate::make::{fields, Rows, SOIL_TYPE};
+use crate::make::{fields, Rows, LATER_EDITIONS, SOIL_TYPE};
 use crate::rng::Rng;
 use crate::spoil::{any_field, spoil, to_be_spoiled, value, SPOILED, VALUES};
-use crate::{clearings, plots};
+use crate::{clearings, plots, trees};
 
 /// Random rows with their lengths.
 pub fn case(rng: &mut Rng) -> RowLists {
-    match rng.below(26) {
+    match rng.below(28) {
         0..5 => RowLists::of("good".to_string(), &Rows::any_good(rng)),
         5..12 => {
-            let number = rng.pick(&[5, 6, 7, 7, 10, 10, 12, 13]);
+            let number = rng.pick(&[5, 6, 7, 7, 10, 10, 12, 13, 14]);
             broken(rng, &[number])
         }
         12 => {
@@ -24,24 +24,25 @@ pub fn case(rng: &mut Rng) -> RowLists {
             made
         }
         13..18 => {
-            let first = rng.pick(&[5, 6, 7, 10, 12]);
-            let later = rng.pick(&[5, 6, 7, 12, 13]);
+            let first = rng.pick(&[5, 6, 7, 10, 12, 14]);
+            let later = rng.pick(&[5, 6, 7, 12, 13, 14]);
             broken(rng, &[first, later])
         }
         18 => {
-            let number = rng.pick(&[5, 6, 7]);
+            let number = rng.pick(&[5, 6, 7, 14]);
             broken(rng, &[number; 4])
         }
         19 | 20 => {
-            let numbers = some_of(rng, &[5, 6, 7, 12, 13], 4);
+            let numbers = some_of(rng, &[5, 6, 7, 12, 13, 14], 4);
             let mut made = broken(rng, &numbers);
             break_edition(rng, &mut made);
             made
         }
         21 | 22 => clearings::lists(rng),
         23 | 24 => plots::lists(rng),
+        25 | 26 => trees::lists(rng),
         _ => {
-            let numbers = some_of(rng, &[5, 6, 7, 10, 12, 13], 2);
+            let numbers = some_of(rng, &[5, 6, 7, 10, 12, 13, 14], 2);
             broken(rng, &numbers)
         }
     }
@@ -97,21 +98,22 @@ fn far_above(rng: &mut Rng, rows: &mut Rows) -> String {
     format!(", 6: {value} at kind {kind} row {row} field {field}")
 }
 
-/// Editions that there aren't. Some look like 1 or 2 to a reader of 8 or 16 bits.
+/// Editions that there aren't. Some look like 1, 2 or 3 to a reader of 8 or 16 bits.
 #[rustfmt::skip]
-pub const UNKNOWN_EDITIONS: [u32; 18] = [
-    0, 3, 4, 255, 256, 257, 258, 512, 65_535, 65_536, 65_537, 65_538,
-    1 << 24, 1 << 31, (1 << 31) + 1, (1 << 31) + 2, u32::MAX - 1, u32::MAX,
+pub const UNKNOWN_EDITIONS: [u32; 21] = [
+    0, 4, 5, 255, 256, 257, 258, 259, 512, 65_535, 65_536, 65_537, 65_538, 65_539,
+    1 << 24, 1 << 31, (1 << 31) + 1, (1 << 31) + 2, (1 << 31) + 3, u32::MAX - 1, u32::MAX,
 ];
 
-/// Another edition: one that there isn't, or 1, which has no kinds above 4.
+/// Another edition: one that there isn't, 1, which has no kinds above 4, or 3, which has
+/// no scattered trees.
 fn break_edition(rng: &mut Rng, made: &mut RowLists) {
-    let any = rng.from_to(3, u32::MAX);
+    let any = rng.from_to(4, u32::MAX);
     made.edition = match rng.below(4) {
         0 => any,
         1 => rng.pick(&UNKNOWN_EDITIONS),
-        _ if made.edition == 2 => 1,
-        _ => 2,
+        _ if made.edition == 1 => rng.pick(&LATER_EDITIONS).into(),
+        _ => rng.pick(&[1, 1, 5 - made.edition]),
     };
     made.how += &format!(", edition {}", made.edition);
 }

@@ -10,12 +10,12 @@ fn answer(made: &RowLists) -> u32 {
 
 #[test]
 fn every_index_makes_lists() {
-    let mut given = [0; 14];
+    let mut given = [0; 15];
     for index in 0..row_sweeps::size() {
         let made = row_sweeps::case(index, &mut Rng::for_input(41, index as u64));
         given[(answer(&made) / 1000) as usize] += 1;
     }
-    for number in [0, 5, 6, 7, 10, 12, 13] {
+    for number in [0, 5, 6, 7, 10, 12, 13, 14] {
         assert!(given[number] > 20, "{given:?}");
     }
     assert_eq!(given[8], 0, "8 is never given again");
@@ -24,7 +24,7 @@ fn every_index_makes_lists() {
 
 #[test]
 fn every_answer_comes_often() {
-    let mut given = [0; 14];
+    let mut given = [0; 15];
     let mut places = [0; KINDS.len() + 1];
     // 20,000 for the first six kinds, and for each kind more as many more.
     for index in 0..20_000 * KINDS.len() as u64 / 6 {
@@ -34,7 +34,7 @@ fn every_answer_comes_often() {
             places[(answer % 1000) as usize] += 1;
         }
     }
-    for number in [0, 5, 6, 7, 10, 12, 13] {
+    for number in [0, 5, 6, 7, 10, 12, 13, 14] {
         assert!(given[number] > 600, "{given:?}");
     }
     assert_eq!(given[8], 0, "8 is never given again");
@@ -44,7 +44,7 @@ fn every_answer_comes_often() {
 #[test]
 fn numbers_broken_alone_are_given() {
     let mut rng = Rng::new(43);
-    for number in [5, 6, 7, 10, 12, 13] {
+    for number in [5, 6, 7, 10, 12, 13, 14] {
         for _ in 0..1_000 {
             let made = broken(&mut rng, &[number]);
             assert_eq!(answer(&made) / 1000, number, "{}", made.how);
@@ -52,7 +52,7 @@ fn numbers_broken_alone_are_given() {
     }
 }
 
-/// By hand: the order 10, 5, 6, 7, 12, and places counted in whole blocks.
+/// By hand: the order 10, 5, 6, 14, 7, 12, and places counted in whole blocks.
 #[test]
 fn order_and_places() {
     let mut rows = Rows {
@@ -74,6 +74,20 @@ fn order_and_places() {
     rows.harvest[0][1..].fill(0);
     assert_eq!(judged(&rows), 12_000);
     rows.conversion[12][4] = 999;
+    assert_eq!(judged(&rows), 7012);
+    // Trees, of which edition 3 has none.
+    rows.edition = 2;
+    assert_eq!(judged(&rows), 7012);
+    rows.edition = 3;
+    assert_eq!(judged(&rows), 14_025);
+    rows.stock[0][1] = 1;
+    assert_eq!(judged(&rows), 14_024);
+    rows.stock[0][1] = 257;
+    assert_eq!(judged(&rows), 6024);
+    rows.stock[0][1] = 2;
+    assert_eq!(judged(&rows), 6024);
+    rows.stock[0][1] = 0;
+    rows.edition = 1;
     assert_eq!(judged(&rows), 7012);
     rows.parameters[0][5] = 65_536;
     assert_eq!(judged(&rows), 6048);
@@ -179,7 +193,11 @@ fn editions() {
             (&[(1, 1), (4, 5), one], 10_001, 10_001),
         ] {
             assert_eq!(answer(1, of), first, "{of:?}");
-            assert_eq!(answer(2, of), second, "{of:?}");
+            assert_eq!(
+                [2, 3].map(|edition| answer(edition, of)),
+                [second; 2],
+                "{of:?}"
+            );
             for edition in UNKNOWN_EDITIONS {
                 assert_eq!(answer(edition, of), 10_000, "{of:?}");
             }
@@ -187,9 +205,9 @@ fn editions() {
         for higher in later_kinds().filter(|&higher| higher > kind) {
             let numbers = KINDS[usize::from(higher) - 1].numbers;
             let both = [(4, 6), one, (higher, numbers)];
-            assert_eq!([1, 2].map(|edition| answer(edition, &both)), [own, 0]);
+            assert_eq!([1, 2, 3].map(|edition| answer(edition, &both)), [own, 0, 0]);
             let worse = [(4, 6), (kind, 1), (higher, numbers - 1)];
-            assert_eq!([1, 2].map(|edition| answer(edition, &worse)), [own; 2]);
+            assert_eq!([1, 2, 3].map(|edition| answer(edition, &worse)), [own; 3]);
         }
     }
 }
@@ -244,7 +262,7 @@ fn places_of_later_kinds() {
         let mut lists = Rows::good_in(&mut Rng::new(47), 2, counts).lists();
         let more = vec![99; fields.len()];
         lists[usize::from(kind) - 1].extend(more);
-        for edition in [1, 2] {
+        for edition in [1, 2, 3] {
             let made = RowLists::joined(String::new(), edition, &lists);
             assert_eq!(answer(&made), 10_000 + u32::from(kind));
         }

@@ -41,7 +41,7 @@ fn lengths(counts: [u32; KINDS.len()]) -> [u32; KINDS.len()] {
 /// "An accepted return, read and written again, is the same bytes."
 #[test]
 fn read_then_written_is_the_same() {
-    let mut accepted = [0; 2];
+    let mut accepted = [0; 3];
     for index in 0..20_000 {
         let case = inputs::with_figures(index, &mut Rng::for_input(91, index as u64));
         let Ok(checked) = check(&case.bytes) else {
@@ -53,7 +53,11 @@ fn read_then_written_is_the_same() {
         let mut memory = Memory::new(lengths.iter().sum::<u32>() as usize, COUNTS_ROOM);
         assert_eq!(memory.read(&case.bytes), 0);
         assert_eq!(memory.counts[0], u32::from(edition));
-        assert_eq!(memory.counts[1..], checked.counts.rows);
+        assert_eq!(memory.counts[1..=KINDS.len()], checked.counts.rows);
+        let trees = crate::lists::rows_of(&case.bytes);
+        let trees = crate::lists::rows_in::<5>(&trees, 2).iter();
+        let trees = trees.filter(|row| row[1] == 1).count();
+        assert_eq!(memory.counts[KINDS.len() + 1], trees as u32);
         let mut room = vec![0xAA; case.bytes.len()];
         let mut size = [0];
         let Memory { rows, counts } = &memory;
@@ -73,7 +77,7 @@ fn written_then_read_is_the_same() {
         let count = turn / 4;
         let counts = [[count, 0, 0], [0, count, 5], [31, 32, count], [count; 3]][turn % 4];
         written_and_read(&Rows::good(&mut rng, counts));
-        // The same in edition 2, without the kinds above 4, with one of them and with all.
+        // The same in a later edition, without the kinds above 4, with one of them and with all.
         for alone in 0..LATER + 2 {
             let mut all = counts.to_vec();
             all.extend((0..LATER).map(|nth| match alone {
@@ -82,16 +86,17 @@ fn written_then_read_is_the_same() {
                 _ if nth == alone - 2 => count,
                 _ => 0,
             }));
-            written_and_read(&Rows::good_in(&mut rng, 2, &all));
+            written_and_read(&Rows::good_in_later(&mut rng, &all));
         }
     }
 }
 
 fn written_and_read(rows: &Rows) {
     let mut counts = [u32::from(rows.edition); COUNTS_ROOM];
-    for (kind, count) in (1..).zip(&mut counts[1..]) {
+    for (kind, count) in (1..).zip(&mut counts[1..=KINDS.len()]) {
         *count = rows.len(kind) as u32;
     }
+    counts[KINDS.len() + 1] = rows.trees() as u32;
     let lists = rows.lists();
     let (area, lengths) = (lists.concat(), lists.map(|list| list.len() as u32));
     let mut room = vec![0xAA; RETURN_ROOM + 10];

@@ -1,6 +1,6 @@
 //! Worksheets 5-1, 5-2 and 5-3 of the paper (01), 5-4 (02, §1), 4-3 (02, §5, in
 //! `savanna`) and 5-5 (02, §11, in `soil`), in whole numbers, with the count of thinner
-//! periods (02, §3).
+//! periods (02, §3) and that of scattered trees (02, §12).
 //!
 //! The largest values at the limits say how wide each figure must be:
 //! E 3.2 x 10^15, K 3.84 x 10^12, L 3.2 x 10^14, O 3.84 x 10^17, 11 P
@@ -44,6 +44,7 @@ pub struct Worksheets {
     pub savanna_nox: u64,
     pub soil: i64,
     pub soil_change: i64,
+    pub scattered: u64,
 }
 
 /// The worksheets of a return, or its refusal.
@@ -104,6 +105,8 @@ pub(crate) struct Sums {
     savannas: Savannas,
     /// Soil carbon now less that of twenty years ago.
     soil: i64,
+    /// Stock rows of scattered trees.
+    scattered: u64,
     /// N, CH4, CO, N/C, N2O and NOx.
     parameters: [u64; 6],
 }
@@ -130,6 +133,7 @@ impl Sums {
             thinner,
             savannas: Savannas::of(checked.records(6)),
             soil: soil::gained(checked.records(7)),
+            scattered: checked.counts.scattered.into(),
             parameters: [4, 6, 8, 10, 12, 14].map(|at| u64::from(two(parameters, at))),
         }
     }
@@ -237,6 +241,7 @@ impl Worksheets {
             savanna_nox,
             soil: sums.soil,
             soil_change,
+            scattered: sums.scattered,
         }
     }
 
@@ -283,6 +288,7 @@ impl Worksheets {
             ("savanna_nox ", Above(self.savanna_nox)),
             ("soil ", Signed(self.soil)),
             ("soil_change ", Signed(self.soil_change)),
+            ("scattered ", Above(self.scattered)),
         ]
     }
 

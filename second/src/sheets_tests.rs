@@ -37,6 +37,7 @@ savanna_n2o 0
 savanna_nox 0
 soil 0
 soil_change 0
+scattered 0
 ";
 
 fn zero_parameters() -> Rows {
@@ -326,6 +327,37 @@ fn long_texts_have_room() {
 
 /// The worked day's text is as long as `plain.c` writes.
 #[test]
-fn the_worked_day_is_342_bytes() {
-    assert_eq!(WORKED_TEXT.len(), 342);
+fn the_worked_day_is_354_bytes() {
+    assert_eq!(WORKED_TEXT.len(), 354);
+}
+
+/// "Editions 1 and 2 that use it are read, worked out and written as ever, with the same
+/// figures [..], and the answer says how many such rows there were" (02, §12): the trees
+/// change no figure but their number, and neither does the edition.
+#[test]
+fn scattered_trees_are_counted() {
+    let mut rows = worked_day();
+    rows.stock = vec![
+        [1, 0, 680, 1000, 500],
+        [2, 0, 20, 30, 40],
+        [3, 0, 0, 0, 0],
+        [4, 0, 10_000, 10_000_000, 1_000],
+    ];
+    let land = figures_of(&rows);
+    assert_eq!(land.scattered, 0);
+    for edition in [1, 2] {
+        rows.edition = edition;
+        for codes in 0..16 {
+            let trees = |at: usize| u32::from(codes >> at & 1 == 1);
+            (0..4).for_each(|at| rows.stock[at][1] = trees(at));
+            let scattered = (0..4).map(|at| u64::from(trees(at))).sum();
+            assert_eq!(figures_of(&rows), Worksheets { scattered, ..land });
+        }
+    }
+    let text = text_of(&rows.to_bytes());
+    assert!(text.ends_with("soil_change 0\nscattered 4\n"), "{text}");
+    rows.edition = 3;
+    assert_eq!(text_of(&rows.to_bytes()), "refused 14 12\n");
+    let third = figures_of(&rows.moved_to(3));
+    assert_eq!(third, land);
 }

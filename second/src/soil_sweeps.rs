@@ -23,8 +23,8 @@ pub const PAIRS: usize = 2 * MOST_ROWS * (MOST_ROWS - 1) / 2;
 /// How often each other number is broken beside 13.
 const TRIES: usize = 40;
 /// Those that come before it when a return is judged, and when rows are written.
-const BEFORE_13: [u32; 8] = [1, 2, 3, 4, 5, 6, 7, 12];
-const BEFORE_13_WRITING: [u32; 5] = [10, 5, 6, 7, 12];
+const BEFORE_13: [u32; 9] = [1, 2, 3, 4, 5, 6, 14, 7, 12];
+const BEFORE_13_WRITING: [u32; 6] = [10, 5, 6, 14, 7, 12];
 pub const WITH_13: usize = TRIES * BEFORE_13.len();
 pub const WITH_13_WRITING: usize = TRIES * BEFORE_13_WRITING.len();
 
@@ -80,7 +80,7 @@ fn lists_of((how, rows): Made) -> RowLists {
 fn drawn(rng: &mut Rng, soils: usize, style: usize) -> Rows {
     let mut counts = WITH_IDS.map(|_| rng.below(3));
     counts[5] = soils;
-    let mut rows = Rows::good_in(rng, 2, counts);
+    let mut rows = Rows::good_in_later(rng, counts);
     let one = rng.pick(&[0, 1, 300, 65_535]);
     let step = rng.pick(&[1, 256, 2_000]);
     for (nth, row) in (0..).zip(&mut rows.soil) {

@@ -1,8 +1,10 @@
 //! Rows that are bad in one chosen way: numbers 5 to 7 of the paper, 12 of the request
-//! on fuelwood (02, §8), and 13 of that on soils (02, §11).
+//! on fuelwood (02, §8), 13 of that on soils (02, §11) and 14 of that on scattered trees
+//! (02, §12).
 
 use crate::kinds::Field;
-use crate::make::{fields, unbalance, Rows, FIRST_WITH_IDS, SUMMED, WITH_IDS};
+use crate::make::{fields, unbalance, Rows, FIRST_WITH_IDS, SUMMED};
+use crate::make::{WITHOUT_TREES, WITH_IDS};
 use crate::rng::Rng;
 
 /// How an id fails to be above the one before it.
@@ -195,9 +197,12 @@ pub fn any_limited_of(rng: &mut Rng, kind: u8) -> usize {
 }
 
 /// Good rows in which each of these numbers can be broken: two or more of each kind with
-/// ids that their edition has, and soils where they are wanted.
+/// ids that their edition has, soils where they are wanted, and the edition without trees
+/// where these are to be at fault.
 pub fn to_be_spoiled(rng: &mut Rng, numbers: &[u32]) -> Rows {
-    if numbers.contains(&13) {
+    if numbers.contains(&14) {
+        Rows::good_from_in(rng, WITHOUT_TREES, 2)
+    } else if numbers.contains(&13) {
         Rows::good_later(rng, 2)
     } else {
         Rows::good_from(rng, 2)
@@ -206,9 +211,9 @@ pub fn to_be_spoiled(rng: &mut Rng, numbers: &[u32]) -> Rows {
 
 /// The order in which numbers are broken in rows, so that none undoes another: 12 and 13
 /// are brought about in rows that are good.
-pub const SPOILED: [u32; 5] = [13, 12, 7, 6, 5];
+pub const SPOILED: [u32; 6] = [13, 12, 7, 14, 6, 5];
 
-/// Breaks one of the numbers 5 to 7 at a random place, or 12 or 13, in rows that are
+/// Breaks one of the numbers 5 to 7 at a random place, or 12, 13 or 14, in rows that are
 /// [`to_be_spoiled`].
 pub fn spoil(rng: &mut Rng, rows: &mut Rows, number: u32) -> String {
     match number {
@@ -237,6 +242,7 @@ pub fn spoil(rng: &mut Rng, rows: &mut Rows, number: u32) -> String {
         }
         12 => format!("12: by {}", spoil_clearing(rng, rows)),
         13 => format!("13: {}", unbalance(rng, &mut rows.soil)),
+        14 => format!("14: {}", rows.plant(rng)),
         _ => unreachable!("number {number} is not broken in rows"),
     }
 }

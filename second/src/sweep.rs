@@ -4,13 +4,14 @@
 use crate::case::Case;
 use crate::damage::{block, block_count};
 use crate::families::Families;
-use crate::make::{drawn_counts, fields, later, limited, place_of, repair_checks, seal};
+use crate::make::{drawn_counts, fields, limited, place_of, repair_checks, seal};
 use crate::make::{zero_areas, RowCounts, Rows, BLOCK, CHECK_AT, FIRST_WITH_IDS};
 use crate::make::{LIMITED, MOST_BLOCKS, MOST_ROWS, SUMMED, WITH_IDS};
-use crate::order_sweeps::{crowds, editions, orders, CROWDS, EDITIONS, ORDERS};
+use crate::order_sweeps::{crowds, editions, orders, ALL_CROWDS, EDITIONS, ORDERS};
 use crate::rng::Rng;
 use crate::soil_sweeps::{each, pairs, sums, with_13, EACH, PAIRS, SUMS, WITH_13};
 use crate::spoil::{spoil_id, spoil_limit, ABOVES, BAD_IDS};
+use crate::tree_sweeps;
 use crate::wood_sweeps::{alone, balances, with_12, ALONE, BALANCES, WITH_12};
 
 /// Some more than the most blocks have.
@@ -37,7 +38,7 @@ static FAMILIES: Families<Case> = Families(&[
     ((MOST_ROWS - 1) * WITH_IDS.len() * BAD_IDS.len(), ids),
     (2 * ORDERS, orders),
     (EDITIONS, editions),
-    (2 * CROWDS * CROWD_TRIES, crowds),
+    (ALL_CROWDS * CROWD_TRIES, crowds),
     (BALANCES, balances),
     (ALONE, alone),
     (WITH_12, with_12),
@@ -45,6 +46,11 @@ static FAMILIES: Families<Case> = Families(&[
     (EACH, each),
     (PAIRS, pairs),
     (WITH_13, with_13),
+    (tree_sweeps::EACH, tree_sweeps::each),
+    (tree_sweeps::CODES, tree_sweeps::codes),
+    (tree_sweeps::HOW_MANY, tree_sweeps::how_many),
+    (tree_sweeps::PAIRS, tree_sweeps::pairs),
+    (tree_sweeps::WITH_14, tree_sweeps::with_14),
 ]);
 
 /// How many inputs the sweeps have together.
@@ -57,16 +63,16 @@ pub fn case(index: usize, rng: &mut Rng) -> Case {
     FAMILIES.case(index, rng)
 }
 
-/// All blocks of edition 1, with none, some or all of the kinds of edition 2.
+/// All blocks of edition 1, with none, some or all of the kinds of the later editions.
 fn full(rng: &mut Rng) -> Vec<u8> {
     let mut counts = [MOST_ROWS; WITH_IDS.len()];
-    let second = &mut counts[FIRST_WITH_IDS..];
+    let later = &mut counts[FIRST_WITH_IDS..];
     match rng.below(5) {
-        0 => second.fill(0),
-        1 | 2 => second.fill_with(|| rng.pick(&[0, MOST_ROWS])),
+        0 => later.fill(0),
+        1 | 2 => later.fill_with(|| rng.pick(&[0, MOST_ROWS])),
         _ => {}
     }
-    Rows::good_in(rng, 1 + u16::from(later(&counts)), counts).to_bytes()
+    Rows::good_in_any(rng, counts).to_bytes()
 }
 
 /// Every length from 0 to some more than the most blocks.
@@ -89,7 +95,7 @@ fn lengths(index: usize, rng: &mut Rng) -> Case {
             let blocks = (length / BLOCK).min(MOST_BLOCKS);
             let rows = blocks.saturating_sub(1) * 12;
             let counts = std::array::from_fn(|nth| rows.saturating_sub(36 * nth).min(32));
-            let mut bytes = Rows::good_in_either(rng, counts).to_bytes();
+            let mut bytes = Rows::good_in_any(rng, counts).to_bytes();
             let kept = bytes.len().min(length);
             bytes.resize(length, 0);
             rng.fill(&mut bytes[kept..]);
@@ -117,7 +123,7 @@ fn formed(rng: &mut Rng, form: usize) -> (Vec<u8>, usize) {
     if form < FORMS - 1 {
         counts[form / 12] = 1 + form % 12;
     }
-    let bytes = Rows::good_in_either(rng, counts).to_bytes();
+    let bytes = Rows::good_in_any(rng, counts).to_bytes();
     let kind = WITH_IDS.get(form / 12).copied().unwrap_or(4);
     let place = (0..block_count(&bytes)).find(|&b| bytes[BLOCK * b] == kind);
     (bytes, place.expect("a block of this kind"))
@@ -194,7 +200,7 @@ fn counts(index: usize, rng: &mut Rng) -> Case {
         counts = any_counts(rng);
     }
     counts[place] = count;
-    let bytes = Rows::good_in_either(rng, counts).to_bytes();
+    let bytes = Rows::good_in_any(rng, counts).to_bytes();
     Case {
         how: format!("row counts {counts:?}"),
         bytes,
@@ -212,7 +218,7 @@ fn limits(index: usize, rng: &mut Rng) -> Case {
     if let Some(place) = place_of(kind) {
         counts[place] = MOST_ROWS;
     }
-    let mut rows = Rows::good_in_either(rng, counts);
+    let mut rows = Rows::good_in_any(rng, counts);
     if way < ABOVES.len() && fields(kind)[field].can_exceed() {
         spoil_limit(rng, &mut rows, (kind, row, field), ABOVES[way]);
     } else {
@@ -244,7 +250,7 @@ fn ids(index: usize, rng: &mut Rng) -> Case {
     let kind = WITH_IDS[place];
     let mut counts = few_counts(rng);
     counts[place] = row + 1 + rng.below(MOST_ROWS - row);
-    let mut rows = Rows::good_in_either(rng, counts);
+    let mut rows = Rows::good_in_any(rng, counts);
     spoil_id(&mut rows, kind, row, way);
     let bytes = rows.to_bytes();
     Case {
@@ -270,7 +276,10 @@ mod tests {
         for index in 0..MOST_ROWS * LIMITED * WAYS {
             let verdict = judge(&limits(index, &mut Rng::for_input(2, index as u64)).bytes);
             let (kind, field) = limited(index / WAYS / MOST_ROWS);
-            if index % WAYS == ABOVES.len() || !fields(kind)[field].can_exceed() {
+            // The last unit code is one that edition 3 doesn't have.
+            if let (2, 1, Verdict::Refused(Refusal { number: 14, .. })) = (kind, field, verdict) {
+                assert_eq!(index % WAYS, ABOVES.len());
+            } else if index % WAYS == ABOVES.len() || !fields(kind)[field].can_exceed() {
                 assert!(
                     matches!(verdict, Verdict::Accepted(_)),
                     "{index}: {verdict:?}"

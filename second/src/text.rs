@@ -4,7 +4,7 @@
 use crate::judge::Refusal;
 
 /// The figures of `sheets`, a line each.
-pub const FIGURES: usize = 27;
+pub const FIGURES: usize = 28;
 /// What is always enough for C: 50 bytes for each line.
 pub const LINES_ROOM: usize = 50 * FIGURES;
 /// A line has at most 15 + 24 + 1 bytes.

@@ -62,7 +62,7 @@ pub fn case(rng: &mut Rng) -> Case {
     if rng.one_in(2) {
         counts[FIRST_WITH_IDS..].fill(0);
     }
-    let mut rows = Rows::good_in_either(rng, counts);
+    let mut rows = Rows::good_in_any(rng, counts);
     let first = rng.below(3);
     let codes = 1 + rng.below(3);
     let mut how = String::from("rows by weight");

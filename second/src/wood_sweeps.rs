@@ -3,8 +3,9 @@
 
 use crate::case::Case;
 use crate::lists::RowLists;
-use crate::make::{Rows, AFTER, BEFORE, MOST_ROWS, SUMMED, WITH_IDS};
+use crate::make::{Rows, AFTER, ALL_EDITIONS, BEFORE, MOST_ROWS, SUMMED, WITH_IDS};
 use crate::mix;
+use crate::order_sweeps::first_or_later;
 use crate::rng::Rng;
 use crate::rowlists;
 
@@ -12,7 +13,7 @@ use crate::rowlists;
 const MORE: [i64; 11] = [-101, -100, -99, -2, -1, 0, 1, 2, 99, 100, 101];
 /// Conversion rows and harvest rows: one, some, and the borders of their blocks.
 const COUNTS: [usize; 7] = [1, 2, 12, 13, 24, 25, MOST_ROWS];
-/// Every balance of every two counts, in each edition.
+/// Every balance of every two counts, in edition 1 and in a later one.
 pub const BALANCES: usize = 2 * MORE.len() * COUNTS.len() * COUNTS.len();
 /// Every conversion row and every harvest row, with as much cleared as used and with
 /// one more.
@@ -20,8 +21,8 @@ pub const ALONE: usize = 2 * 2 * MOST_ROWS;
 /// How often each other number is broken beside 12.
 const TRIES: usize = 40;
 /// Those that come before it when a return is judged, and when rows are written.
-const BEFORE_12: [u32; 7] = [1, 2, 3, 4, 5, 6, 7];
-const BEFORE_12_WRITING: [u32; 4] = [10, 5, 6, 7];
+const BEFORE_12: [u32; 8] = [1, 2, 3, 4, 5, 6, 14, 7];
+const BEFORE_12_WRITING: [u32; 5] = [10, 5, 6, 14, 7];
 pub const WITH_12: usize = TRIES * BEFORE_12.len();
 pub const WITH_12_WRITING: usize = TRIES * BEFORE_12_WRITING.len();
 
@@ -65,7 +66,7 @@ fn lists_of((how, rows): Made) -> RowLists {
 }
 
 fn balanced(index: usize, rng: &mut Rng) -> Made {
-    let (edition, index) = (1 + (index % 2) as u16, index / 2);
+    let (edition, index) = (first_or_later(index, rng), index / 2);
     let (more, index) = (MORE[index % MORE.len()], index / MORE.len());
     let [conversion, harvest] = [index, index / COUNTS.len()].map(|i| COUNTS[i % COUNTS.len()]);
     let mut rows = drawn(rng, edition, conversion, harvest);
@@ -85,7 +86,7 @@ fn rows_alone(index: usize, rng: &mut Rng) -> Made {
     } else {
         [other, row]
     };
-    let edition = rng.pick(&[1, 2]);
+    let edition = rng.pick(&ALL_EDITIONS);
     let mut rows = drawn(rng, edition, MOST_ROWS, MOST_ROWS);
     let hundreds = rng.from_to(1, 9_999);
     for row in &mut rows.conversion {

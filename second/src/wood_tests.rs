@@ -120,7 +120,7 @@ fn writing_tries_it_after_7() {
     assert_eq!(written(&made, 0, 0), 7000);
     made.rows[2] = u32::MAX;
     assert_eq!(written(&made, 0, 0), 6000);
-    made.edition = 3;
+    made.edition = 4;
     assert_eq!(written(&made, 0, 0), 10_000);
     // 300 thousandths are 54,000,000, and 950 F + 300,000 of K a hundredth of that.
     let one_less = RowLists::of(String::new(), &day(252, 300));

@@ -2,7 +2,7 @@
 
 use crate::areas::Areas;
 use crate::judge::{Record, Refusal};
-use crate::kinds::{FirstPlaces, Kind, EDITIONS, KINDS};
+use crate::kinds::{FirstPlaces, Kind, EDITIONS, KINDS, OF_ROWS};
 use crate::wood::Wood;
 
 const BLOCK: usize = 512;
@@ -34,9 +34,9 @@ pub fn write(
 /// How many rows of each kind there are.
 type Counts = [usize; KINDS.len()];
 
-/// "Writing: 10, then 5 to 9", without 8 (02, §3), with 12 "straight after 7" (02, §8)
-/// and 13 "straight after 12" (02, §11). The rows of each kind, and the blocks they
-/// take.
+/// "Writing: 10, then 5 to 9", without 8 (02, §3), with 14 "straight after 6" (02, §12),
+/// 12 "straight after 7" (02, §8) and 13 "straight after 12" (02, §11). The rows of each
+/// kind, and the blocks they take.
 fn checked(
     edition: u32,
     rows: &[u32],
@@ -44,7 +44,7 @@ fn checked(
     (room, size): (usize, usize),
 ) -> Result<(Counts, usize), Refusal> {
     let counts = counts_of(edition, rows, lengths)?;
-    rows_hold(rows, &counts)?;
+    rows_hold(edition, rows, &counts)?;
     if !wood_of(rows, &counts).holds() {
         return Err(Refusal {
             number: 12,
@@ -107,16 +107,18 @@ fn parts<'a>(
     })
 }
 
-/// Numbers 5 to 7: the faults of single rows don't lean on each other, so one
+/// Numbers 5, 6, 14 and 7: the faults of single rows don't lean on each other, so one
 /// pass notes the first place of each. All blocks of a kind but its last are
 /// full, so the places of its rows follow each other.
-fn rows_hold(rows: &[u32], counts: &Counts) -> Result<(), Refusal> {
+fn rows_hold(edition: u32, rows: &[u32], counts: &Counts) -> Result<(), Refusal> {
     let (mut first, mut first_block) = (FirstPlaces::default(), 0);
     for (_, kind, count, rows) in parts(rows, counts) {
-        (kind.note)(rows, RECORDS_PER_BLOCK * first_block, &mut first);
+        let place = RECORDS_PER_BLOCK * first_block;
+        (kind.note)(edition, rows, place, &mut first);
         first_block += count.div_ceil(RECORDS_PER_BLOCK);
     }
-    match (5..).zip(first).find_map(|(n, place)| Some((n, place?))) {
+    let mut tried = OF_ROWS.into_iter().zip(first);
+    match tried.find_map(|(number, place)| Some((number, place?))) {
         None => Ok(()),
         Some((number, place)) => Err(Refusal {
             number,

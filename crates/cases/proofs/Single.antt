@@ -1,5 +1,5 @@
 -- Single cases of the table, as the promises take them to shut a wrong answer out. Assumes nothing.
---     lone-answered, spent-answered, many-answered    cases (b), (d) and (f); land-answered, the day with a row each of grass, land and savanna and two of soil
+--     lone-answered, spent-answered, many-answered    cases (b), (d) and (f); land-answered, the day with a row each of grass, scattered trees, land and savanna and two of soil
 --     each-differs              every figure of that day is another than that of (b)
 --     first-row, first-block    what the first row and the first block of (f) alone would give
 --     grown-answered, none-cleared    case (c), and that neither it nor (b) has a conversion row
@@ -36,7 +36,7 @@ nth i = getD table i (caseOf (refused [] 0 0))
 abbrev sheetsAt : ℕ → List Complete → Outcome
 sheetsAt i l = getD l i (record { sheets = refusal 0 0; doubles = [] }) .sheets
 
--- where the worked day with a row each of grass, abandoned land and savanna and two of soil stands
+-- where the worked day with a row each of grass, scattered trees, abandoned land and savanna and two of soil stands
 abbrev pub landCase : ℕ
 landCase = 12
 

@@ -1,4 +1,4 @@
--- "Proved as a single table, under one claim about all of it": 01's cases (a) to (j), seven of edition 2, four of halves, one of a row thinner in both periods, one of the largest savannas, two of wood, three of mineral soils and two of number 13, each a whole return with its complete answer, every figure of it.
+-- "Proved as a single table, under one claim about all of it": 01's cases (a) to (j), seven of edition 2, four of halves, one of a row thinner in both periods, one of the largest savannas, two of wood, three of mineral soils, two of number 13 and nine of scattered trees and number 14, each a whole return with its complete answer, every figure of it.
 -- Where the case is about rows, the return is made of them by the definition of writing; where it is about bytes, the bytes stand here. An accepted return of rows is answered from the rows (FromRows), any other from its bytes.
 use Prim.Native.Nat.{ℕ, zero, suc}
 use mathlib.Core.Path.{_≡_, refl, ap, ap₂, _∙_}
@@ -23,7 +23,7 @@ use Rattle.rows.specs.Writing.{written}
 use Rattle.wide.specs.Numbers.{value, wordsOf}
 use Rattle.wide.specs.Rounding.{evenOf, settled}
 use Rattle.totals.specs.Abandoned.{abandonedPart}
-use Rattle.form.specs.Sums.{sumOf, harvestPart, clearedPart}
+use Rattle.form.specs.Sums.{sumOf, scatteredPart, harvestPart, clearedPart}
 use Rattle.totals.specs.Columns.{stockPart, onsitePart, offsitePart, decayPart, thinnerPart}
 use Rattle.totals.specs.Masses.{dryMatter, carbon, periods}
 use Rattle.totals.specs.Sums.{totalsOf}
@@ -40,7 +40,7 @@ use Rattle.ledger.specs.Ledger.{entered}
 use Rattle.ledger.specs.Derived.{stocksOf, conversionOf}
 use Rattle.ledger.specs.declared.Stocks.{Stocks}
 use Rattle.ledger.specs.declared.Conversion.{Conversion}
-use Rattle.worksheets.specs.Sheets.{standard, parameterNumbers, abandonedOf, figuresOf}
+use Rattle.worksheets.specs.Sheets.{standard, parameterNumbers, abandonedOf, stockRows, figuresOf}
 use Rattle.worksheets.specs.declared.sheets.Abandoned.{Abandoned}
 use Rattle.worksheets.specs.Answers.{Outcome, worked, refusal, outcomeOf}
 use Rattle.doubles.specs.Subtotals.{onsiteDouble, offsiteDouble, decayDouble, addRows, subtotalsOf, answerOf}
@@ -75,11 +75,11 @@ abbrev pub caseOf : Entry → Case
 caseOf (of-rows edition l a) = record { bytes = written edition l; answer = a }
 caseOf (of-bytes s a) = record { bytes = s; answer = a }
 
-abbrev figured : Stocks → Conversion × Periods → Gases → Abandoned → Savannas → Soils → List ℕ → Complete
-figured a b c l v s d = record { sheets = worked (record { stocks = a; conversion = b .0; thinner = b .1; gases = c; abandoned = l; savannas = v; soils = s }); doubles = d }
+abbrev figured : Stocks → Conversion × Periods → Gases → Abandoned → Savannas → Soils → ℕ → List ℕ → Complete
+figured a b c l v s t d = record { sheets = worked (record { stocks = a; conversion = b .0; thinner = b .1; gases = c; abandoned = l; savannas = v; soils = s; scattered = stockRows t }); doubles = d }
 
-abbrev pub worked-all : ℕ → Lists → Stocks → Conversion × Periods → Gases → Abandoned → Savannas → Soils → List ℕ → Entry
-worked-all edition rows a b c l v s d = of-rows edition rows (figured a b c l v s d)
+abbrev pub worked-all : ℕ → Lists → Stocks → Conversion × Periods → Gases → Abandoned → Savannas → Soils → ℕ → List ℕ → Entry
+worked-all edition rows a b c l v s t d = of-rows edition rows (figured a b c l v s t d)
 
 -- the lines of 01, in their order, and the thinner periods with 5-2
 abbrev pub sheet51 : ℕ → ℕ → ℕ → ℤ → ℤ → ℤ → ℤ → ℤ → Stocks
@@ -102,7 +102,7 @@ sheet43 b h c n x = record { carbon = carbon b; gases = sheet53 h c n x }
 abbrev pub sheet55 : ℤ → ℤ → Soils
 sheet55 g c = record { soil = soilGain g; change = soilChange c }
 
--- with neither
+-- with neither, and no scattered trees
 abbrev none43 : Savannas
 none43 = sheet43 0 0 0 0 0
 
@@ -110,7 +110,7 @@ abbrev none55 : Soils
 none55 = sheet55 (pos 0) (pos 0)
 
 abbrev pub worked-out : ℕ → Lists → Stocks → Conversion × Periods → Gases → Abandoned → List ℕ → Entry
-worked-out edition rows a b c l d = worked-all edition rows a b c l none43 none55 d
+worked-out edition rows a b c l d = worked-all edition rows a b c l none43 none55 0 d
 
 abbrev pub refused : List ℕ → ℕ → ℕ → Entry
 refused s n p = of-bytes s (record { sheets = refusal n p; doubles = [] })
@@ -197,9 +197,13 @@ felled = 1 ∷ 0 ∷ 1 ∷ 4000 ∷ 5000 ∷ 600 ∷ 100 ∷ 100 ∷ 100 ∷ 2 �
 abbrev lost : ℕ → List ℕ
 lost area = 1 ∷ 0 ∷ 0 ∷ 0 ∷ area ∷ 1 ∷ 100 ∷ 100 ∷ 10 ∷ 2 ∷ 1 ∷ 0 ∷ area ∷ 0 ∷ 0 ∷ 100 ∷ 100 ∷ 100 ∷ []
 
--- the worked day's rows with a row of grass behind its conversion row, and a row of abandoned land, one of savanna and those of the felled forest behind all
+-- 300,000 scattered trees growing 0.01 kt a thousand, 0.45 of it carbon
+abbrev trees : ℕ → List ℕ
+trees i = i ∷ 1 ∷ 100 ∷ 300 ∷ 450 ∷ []
+
+-- the worked day's rows with a row of grass behind its conversion row and one of scattered trees behind its stock row, and a row of abandoned land, one of savanna and those of the felled forest behind all
 abbrev with-land : Lists
-with-land = cut (30 ∷ 5 ∷ 5 ∷ 6 ∷ 7 ∷ 14 ∷ 18 ∷ []) (take 15 dayArea ++ (grass ++ (drop 15 dayArea ++ (land ++ (burning ++ felled)))))
+with-land = cut (30 ∷ 10 ∷ 5 ∷ 6 ∷ 7 ∷ 14 ∷ 18 ∷ []) (take 15 dayArea ++ (grass ++ (take 5 (drop 15 dayArea) ++ (trees 2 ++ (drop 20 dayArea ++ (land ++ (burning ++ felled)))))))
 
 -- edition 2 blocks of these kinds, of n in all, the first being number b, each with one row of zeros
 unfoldable pub blocksFrom : ℕ → ℕ → List ℕ → List ℕ
@@ -224,7 +228,7 @@ table01 =
     none54
     (4809131602776948736 ∷ 4804628003149578240 ∷ 4810524802404319232 ∷ [])
     -- (b) "the lone parameter block of zero values, check 18: all figures 0"
-    ∷ of-bytes (lone 18) (figured none51 none52 none53 none54 none43 none55 zeros)
+    ∷ of-bytes (lone 18) (figured none51 none52 none53 none54 none43 none55 0 zeros)
     -- (c) "P = 1,500,000 gives Q = 6": a stock row of 15 x 100 x 10
     ∷ worked-out 1 (grown (1 ∷ 0 ∷ 100 ∷ 15 ∷ 10 ∷ [])) (sheet51 15000 0 0 (pos 0) (pos 0) (pos 1500000) (pos 6) (negsuc 5)) none52 none53 none54 zeros
     -- (d) "P = -1,500,000 gives -6": wood used, 40, above the wood cleared, 10 x 10 x 10, at N 500
@@ -252,15 +256,17 @@ table01 =
 -- and of edition 2
 abbrev table-1 : List Entry
 table-1 =
-    -- the day in edition 2 with a row of grass, which is thinner in its one period, one of abandoned land, 34 + 27 kt C by 11/3, one of savanna and two of soil: (a)'s figures, and
+    -- the day in edition 2 with a row of grass, which is thinner in its one period, one of scattered trees, one of abandoned land, 34 + 27 kt C by 11/3, one of savanna and two of soil: (a)'s figures, with 1.35 kt C
+    -- more of growth, and
     -- 29,750,000 x (162,000,000 + 220,000,000), which is 60.6, 1,591.03, 0.75 and 27.1 t; and a balanced change of land use, 34.08 t/ha lost on 1 Mha in twenty years
     worked-all 2 with-land
-    (sheet51 340000000 775000 36000000 (pos 41500000) (pos 20750000000) (pos 13250000000) (pos 48583) (negsuc 48582))
+    (sheet51 353500000 775000 36000000 (pos 41500000) (pos 20750000000) (pos 14600000000) (pos 53533) (negsuc 53532))
     (sheet52 32400000000000 16200000000000 48600000000000 40500000000000 326700 1)
     (sheet53 518 4536 4 129)
     (sheet54 610000000 223667)
     (sheet43 11364500000000000 61 1591 1 27)
     (sheet55 (negsuc 340799999999) (negsuc 1703999))
+    1
     (4809131602776948736 ∷ 4804628003149578240 ∷ 4810524802404319232 ∷ [])
     -- the same rows in edition 1: "3 for .. a kind above 4 in edition 1", at the block of abandoned land
     ∷ refused (written 1 with-land) 3 4
@@ -296,6 +302,7 @@ table-5 =
     worked-all 2 ([] ∷ [] ∷ [] ∷ defaults ∷ [] ∷ largestFires 1 32 ∷ [] ∷ []) none51 none52 none53 none54
     (sheet43 320000000000000000000000 426666666667 746666666667 502857142857 1051428571429)
     none55
+    0
     zeros
     ∷ []
 
@@ -311,7 +318,7 @@ abbrev soil-rows : List ℕ → Lists
 soil-rows rows = [] ∷ [] ∷ [] ∷ defaults ∷ [] ∷ [] ∷ rows ∷ []
 
 abbrev soiled : List ℕ → ℤ → ℤ → Entry
-soiled rows g c = worked-all 2 (soil-rows rows) none51 none52 none53 none54 none43 (sheet55 g c) zeros
+soiled rows g c = worked-all 2 (soil-rows rows) none51 none52 none53 none54 none43 (sheet55 g c) 0 zeros
 
 -- below zero too a half of a year's change goes to even: from -2.5 to -2, from -1.5 to -2, and from -0.5 to 0, which has no sign
 abbrev table-11 : List Entry
@@ -319,6 +326,13 @@ table-11 =
     soiled (lost 5) (negsuc 499999) (negsuc 1)
     ∷ soiled (lost 3) (negsuc 299999) (negsuc 1)
     ∷ soiled (lost 1) (negsuc 99999) (pos 0)
+    ∷ []
+
+-- of three stock rows, two are of scattered trees; their carbon counts as that of land does
+abbrev table-12 : List Entry
+table-12 =
+    worked-all 1 (grown (trees 1 ++ ((2 ∷ 0 ∷ 100 ∷ 15 ∷ 10 ∷ []) ++ trees 3)))
+    (sheet51 27015000 0 0 (pos 0) (pos 0) (pos 2701500000) (pos 9906) (negsuc 9905)) none52 none53 none54 none43 none55 2 zeros
     ∷ []
 
 -- one patch of a soil type, by its id and its areas now and twenty years ago
@@ -333,8 +347,35 @@ table-13 =
     ∷ refused (written 2 (soil-rows (patch 1 8 4 5 ++ (patch 2 3 1 1 ++ patch 3 3 1 2)))) 13 13
     ∷ []
 
+-- a stock row by its id and its unit code: 15 of 0.01 kha, or 15,000 trees, as in (c)
+abbrev stock-of : ℕ → ℕ → List ℕ
+stock-of i code = i ∷ code ∷ 100 ∷ 15 ∷ 10 ∷ []
+
+-- such a row worked out, in an edition: code 1 is one row of scattered trees, and code 0 none
+abbrev growing : ℕ → ℕ → Entry
+growing edition code =
+    worked-all edition (grown (stock-of 1 code)) (sheet51 15000 0 0 (pos 0) (pos 0) (pos 1500000) (pos 6) (negsuc 5)) none52 none53 none54 none43 none55 code zeros
+
+-- "Edition 3 has no unit code 1"
+abbrev table-14 : List Entry
+table-14 =
+    -- scattered trees are worked out in editions 1 and 2, and land in edition 3
+    growing 1 1
+    ∷ growing 2 1
+    ∷ growing 3 0
+    -- scattered trees in edition 3, behind a row of land: "place of the record"
+    ∷ refused (written 3 (grown (stock-of 1 0 ++ stock-of 2 1))) 14 1
+    -- "code 2 or above stays 6"
+    ∷ refused (written 3 (grown (stock-of 1 2))) 6 0
+    -- 6 is tried over all rows first, though 14's place is lower; and 14 before 7
+    ∷ refused (written 3 (grown (stock-of 1 1 ++ stock-of 2 2))) 6 1
+    ∷ refused (written 3 (wood 1 10 500 300 201 ∷ stock-of 1 1 ∷ used 31 ∷ defaults ∷ [] ∷ [] ∷ [] ∷ [])) 14 12
+    -- "3 lets edition 3 in", and not a fourth
+    ∷ refused (written 4 (grown (stock-of 1 0))) 3 0
+    ∷ []
+
 abbrev entries : List Entry
-entries = table01 ++ (table-1 ++ (table-2 ++ (table-3 ++ (table-5 ++ (table-8 ++ (table-11 ++ table-13))))))
+entries = table01 ++ (table-1 ++ (table-2 ++ (table-3 ++ (table-5 ++ (table-8 ++ (table-11 ++ (table-12 ++ (table-13 ++ table-14))))))))
 
 abbrev pub table : List Case
 table = map caseOf entries
@@ -373,7 +414,7 @@ in-turn (e ∷ es) p =
     (in-turn es (ap (λ (l : List (Ruling × Complete)). drop 1 l) p))
 
 all-worked : map worksOut entries ≡ map wanted entries
-unfolding toBits ofInt mul add onsiteDouble offsiteDouble decayDouble addRows largest largestFires blocksFrom computed cut filedList behind filedFrom littleEndian recordFrom inTurn headOf sealed weighed recordOn usedFrom bodyOf blockOf bytesOf rowsBelow rowFrom number evenOf settled sumOf stockPart harvestPart clearedPart onsitePart offsitePart decayPart countedDifference thinnerPart stocksOf conversionOf gasesOf abandonedOf abandonedPart savannasOf rowsFrom flatten total badList badLengths notAllowed listRules carbonShare carbonPart value wordsOf totalsOf entered releasedOf burnedBy soilCarbon stockNow stockThen allStocks soilsOf
+unfolding toBits ofInt mul add onsiteDouble offsiteDouble decayDouble addRows largest largestFires blocksFrom computed cut filedList behind filedFrom littleEndian recordFrom inTurn headOf sealed weighed recordOn usedFrom bodyOf blockOf bytesOf rowsBelow rowFrom number evenOf settled sumOf scatteredPart stockPart harvestPart clearedPart onsitePart offsitePart decayPart countedDifference thinnerPart stocksOf conversionOf gasesOf abandonedOf abandonedPart savannasOf rowsFrom flatten total badList badLengths notAllowed listRules carbonShare carbonPart value wordsOf totalsOf entered releasedOf burnedBy soilCarbon stockNow stockThen allStocks soilsOf
 all-worked = refl
 
 -- every return of the table has the answer beside it, as the checker computes them

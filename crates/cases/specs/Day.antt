@@ -10,7 +10,7 @@ use Rattle.form.specs.Layout.{kinds, rowFrom, aboveLimit}
 use Rattle.form.specs.Edition.{lastKind}
 use Rattle.form.specs.Block.{weighed}
 use Rattle.form.specs.Records.{countedDifference, badId, brokenBy, rowsBelow}
-use Rattle.form.specs.Sums.{sumOf, harvestPart, clearedPart, soilUneven}
+use Rattle.form.specs.Sums.{sumOf, scatteredPart, harvestPart, clearedPart, soilUneven}
 use Rattle.form.specs.Verdict.{countBelow, countsOf, verdictOf}
 use Rattle.form.specs.declared.Counts.{Counts}
 use Rattle.form.specs.declared.Ruling.the-variants.{Clean}
@@ -56,7 +56,7 @@ short-bytes = refl
 
 -- its edition and its row counts
 abbrev pub dayCounts : Counts
-dayCounts = record { edition = 1; conversion = 1; stock = 1; harvest = 1; parameters = 1; abandoned = 0; savanna = 0; soils = 0 }
+dayCounts = record { edition = 1; conversion = 1; stock = 1; harvest = 1; parameters = 1; abandoned = 0; savanna = 0; soils = 0; scattered = 0 }
 
 -- judged by the round trip, and so but once: its bytes are what is written of its rows, which no rule refuses
 day-clean : ruling (listRules 1 dayLengths dayArea) ≡ Clean
@@ -68,7 +68,7 @@ unfolding answered
 day-is = refl
 
 day-counts : countsOf day ≡ dayCounts
-unfolding number countBelow
+unfolding number countBelow rowFrom rowsBelow sumOf scatteredPart
 day-counts = refl
 
 pub day-judged : verdictOf day ≡ Accepted dayCounts
@@ -80,10 +80,10 @@ fits : first (outgrown day 32) (suc kinds) ≡ Nowhere
 unfolding first kinds rowsBelow rowFrom number flatten inTurn
 fits = refl
 
-pub day-read : readAnswer day (replicate 32 9) ≡ Accepted (record { edition = 1; conversion = 1; stock = 1; harvest = 1; parameters = 1; abandoned = 0; savanna = 0; soils = 0 })
+pub day-read : readAnswer day (replicate 32 9) ≡ Accepted (record { edition = 1; conversion = 1; stock = 1; harvest = 1; parameters = 1; abandoned = 0; savanna = 0; soils = 0; scattered = 0 })
 day-read = sym (all-read day (replicate 32 9) dayCounts day-judged fits)
 
-pub day-rows : roomAfter day (replicate 32 9) (Accepted (record { edition = 1; conversion = 1; stock = 1; harvest = 1; parameters = 1; abandoned = 0; savanna = 0; soils = 0 })) ≡ dayArea ++ (9 ∷ [])
+pub day-rows : roomAfter day (replicate 32 9) (Accepted (record { edition = 1; conversion = 1; stock = 1; harvest = 1; parameters = 1; abandoned = 0; savanna = 0; soils = 0; scattered = 0 })) ≡ dayArea ++ (9 ∷ [])
 unfolding kinds rowsBelow rowFrom number flatten inTurn
 day-rows = refl
 

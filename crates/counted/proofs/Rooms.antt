@@ -8,7 +8,6 @@ use lib.Seq.{sets, drop-cons}
 use native.Mathlib.Numerals.{add-one}
 use Rattle.filing.proofs.Stores.{sets-front}
 use Rattle.form.specs.Ruling.{tooShort, onFront, ruling}
-use Rattle.form.specs.Layout.{kinds}
 use Rattle.form.specs.Verdict.{rules, verdictOf}
 use Rattle.form.specs.declared.Counts.{Counts}
 use Rattle.form.specs.declared.Ruling.{Ruling}
@@ -17,7 +16,7 @@ use Rattle.form.specs.declared.Verdict.the-variants.{Accepted, Refused}
 use Rattle.form.proofs.Order.{ruled-before, kept-before, too-short, long-enough}
 use Rattle.form.proofs.Meaning.{refused-ruling}
 use Rattle.standing.proofs.Accepted.{accepted-ruling, formed, formed-counts}
-use Rattle.counted.specs.Counts.{held, judgeCall, countsAfter}
+use Rattle.counted.specs.Counts.{held, countsRoom, judgeCall, countsAfter}
 
 -- numbers handed over one by one: the first k stand at the front
 pub record Handing (vs d₀ d : List ℕ) (k : ℕ) : Type 0 where
@@ -42,14 +41,14 @@ module _ (s room : List ℕ) where
   Out r l = (r ≡ judgeCall s room) × (l ≡ countsAfter s room (judgeCall s room))
 
   pub refused-out : (n p : ℕ) → verdictOf s ≡ Refused n p → Out (Broken n p) room
-  refused-out n p e = rw (ruled-before (rules s) (tooShort (suc kinds) room ∷ []) (refused-ruling s n p e)) (refl, refl)
+  refused-out n p e = rw (ruled-before (rules s) (tooShort countsRoom room ∷ []) (refused-ruling s n p e)) (refl, refl)
 
   -- of an accepted return, the room is left
-  left : {c : Counts} → verdictOf s ≡ Accepted c → judgeCall s room ≡ ruling (tooShort (suc kinds) room ∷ [])
+  left : {c : Counts} → verdictOf s ≡ Accepted c → judgeCall s room ≡ ruling (tooShort countsRoom room ∷ [])
   left e = kept-before (rules s) _ (accepted-ruling s _ e)
 
-  pub short-out : (c : Counts) → verdictOf s ≡ Accepted c → length room < suc kinds → Out (Broken 9 0) room
-  short-out c e l = rw (left e ∙ too-short (suc kinds) room l) (refl, refl)
+  pub short-out : (c : Counts) → verdictOf s ≡ Accepted c → length room < countsRoom → Out (Broken 9 0) room
+  short-out c e l = rw (left e ∙ too-short countsRoom room l) (refl, refl)
 
-  pub done-out : (c : Counts) (l : List ℕ) → verdictOf s ≡ Accepted c → suc kinds ≤ length room → l ≡ onFront (held c) room → Out Clean l
-  done-out c l e h q = rw (left e ∙ long-enough (suc kinds) room h) (refl, q ∙ ap (λ (x : Counts). onFront (held x) room) (formed-counts s c (formed s c e)))
+  pub done-out : (c : Counts) (l : List ℕ) → verdictOf s ≡ Accepted c → countsRoom ≤ length room → l ≡ onFront (held c) room → Out Clean l
+  done-out c l e h q = rw (left e ∙ long-enough countsRoom room h) (refl, q ∙ ap (λ (x : Counts). onFront (held x) room) (formed-counts s c (formed s c e)))

@@ -1,32 +1,39 @@
-// The judge's answer for programs in C: the edition, then a count for each kind, in lent room.
+// The judge's answer for programs in C: the edition, then a count for each kind, last how many stock rows are of scattered trees, in lent room.
 ghost use mathlib.Core.Path.{_≡_};
-ghost use Prim.Native.Nat.{_<_};
+ghost use Prim.Native.Nat.{_≤_};
 ghost use lib.ListN.{length, getD};
-ghost use Rattle.form.specs.Layout.{kinds};
 ghost use Rattle.form.specs.Ruling.{onFront};
-ghost use Rattle.counted.specs.Counts.{held, judgeCall, countsJudged};
+ghost use Rattle.counted.specs.Counts.{held, countsRoom, judgeCall, countsJudged};
 use form::Counts;
 use form::KINDS;
 use form::Ruling;
 use form::Verdict;
 use form::count_of;
 
-// The edition, then one count for each kind, by their places.
+// The last place, and how many places there are.
+const LAST: usize = KINDS + 1;
+
+pub const COUNTS_ROOM: usize = LAST + 1;
+
+// The edition, then one count for each kind, by their places, and behind the kinds the rows of scattered trees.
 fn held_at(c: Counts, k: usize) -> u32
     ensures { λ r. ⌜ r ≡ getD (held c) k 0 ⌝ }
 {
     if k == 0 {
         return c.edition;
     }
+    if k == LAST {
+        return c.scattered;
+    }
     count_of(c, k)
 }
 
 pub fn put_counts(c: Counts, room: &mut [u32])
-    requires { ⌜ kinds < length (now room) ⌝ }
+    requires { ⌜ countsRoom ≤ length (now room) ⌝ }
     ensures { λ _. ⌜ now (room .exit) ≡ onFront (held c) (now (room .entry)) ⌝ }
 {
     let mut k: usize = 0;
-    while k <= KINDS {
+    while k < COUNTS_ROOM {
         room[k] = held_at(c, k);
         k += 1;
     }
@@ -40,7 +47,7 @@ pub fn tell(bytes: &[u8], counts: &mut [u32]) -> Ruling
     match judge::judge(bytes) {
         Verdict::Refused { number, place } => Ruling::Broken { number, place },
         Verdict::Accepted(c) => {
-            if counts.len() <= KINDS {
+            if counts.len() < COUNTS_ROOM {
                 return Ruling::Broken {
                     number: 9,
                     place: 0,

@@ -6,13 +6,15 @@
 --     values-stand      its values are what is said of the bytes; fourth-never, one fault that is never named
 --     wood-place, wood-above, wood-text    where 12 is given: its place, which of the two masses is above the other, and the whole text
 --     soil-place, soil-text                where 13 is given: which row stands there, and the whole text
+--     trees-place, trees-text              where 14 is given: the same
 use Prim.Native.Nat.{ℕ, _*_, _<_, _≤_}
 use mathlib.Core.Path.{_≡_, refl, ap, subst, _∙_}
 use mathlib.Core.List.{List, _++_}
 use native.Mathlib.Omega.{arith}
 use lib.ListN.{length}
 use Rattle.form.specs.Ruling.{ruling}
-use Rattle.form.specs.Records.{filed}
+use Rattle.form.specs.Block.{edition}
+use Rattle.form.specs.Records.{filed, unitCode}
 use Rattle.form.specs.Sums.{columnK, columnL, soilType, sumNow, sumThen}
 use Rattle.form.specs.Verdict.{rules, rows, verdictBy, verdictOf}
 use Rattle.form.specs.declared.Counts.{Counts}
@@ -27,14 +29,14 @@ use Rattle.phrases.specs.Lines.{refusedLine, linesText}
 use Rattle.phrases.proofs.Room.{refused-length}
 use Rattle.areas.specs.Place.{FirstOfLowest}
 use Rattle.reasons.specs.Reasons.{rowNamed, reasonOf}
-use Rattle.reasons.specs.Explains.{Explains, wood-12, soils-13}
+use Rattle.reasons.specs.Explains.{Explains, wood-12, soils-13, trees-14}
 use Rattle.reasons.specs.declared.Row.{Row}
 use Rattle.reasons.specs.declared.Reason.{Reason}
 use Rattle.reasons.proofs.Explains.{reason-told, explains, no-fourth}
 use Rattle.faults.specs.declared.Fault.the-variants.{Fourth}
 use Rattle.reasons.specs.declared.Header.{Header}
-use Rattle.reasons.specs.declared.Reason.the-variants.{BadBlock, ClearedAbove, SoilUneven}
-use Rattle.naming.specs.RowLines.{namedLines, soilLines}
+use Rattle.reasons.specs.declared.Reason.the-variants.{BadBlock, ClearedAbove, SoilUneven, ScatteredTrees}
+use Rattle.naming.specs.RowLines.{namedLines, soilLines, treesLines}
 use Rattle.wording.specs.Wording.{woodLines, valueLines}
 use Rattle.explained.specs.Explained.{explainedBy, explanationOf, rulingOf, refusedText, explainedText, explained}
 use Rattle.explained.specs.declared.Explanation.the-variants.{Accepted, Refused}
@@ -87,6 +89,19 @@ module _ (s : List ℕ) where
         explained s ≡ refusedLine 13 p ++ linesText (namedLines (rowNamed s p) ++ soilLines t (sumNow (rows 7 s) t) (sumThen (rows 7 s) t))
     unfolding reasonOf
     soil-text = refused-text e
+
+  -- ---- number 14
+  clash-trees : {w : Row} {c e : ℕ} → Explains s (ScatteredTrees w c e) → (w .kind ≡ 2) × (c ≡ 1) × (e ≡ 3)
+  clash-trees (trees-14 w r k c e) = (k, c, e)
+
+  module _ {p : ℕ} (e : verdictOf s ≡ verdict.Refused 14 p) where
+    pub trees-place : (filed s .kind p ≡ 2) × (unitCode (filed s .row p) ≡ 1) × (edition s 0 ≡ 3)
+    unfolding reasonOf
+    trees-place = clash-trees (explains s e)
+
+    pub trees-text : explained s ≡ refusedLine 14 p ++ linesText (namedLines (rowNamed s p) ++ treesLines (unitCode (filed s .row p)) (edition s 0))
+    unfolding reasonOf
+    trees-text = refused-text e
 
   -- ---- whatever is explained
   by-ruling : (u : Ruling) → ruling (rules s) ≡ u → rulingOf (explainedBy s u) ≡ u

@@ -70,15 +70,17 @@ unfolding lastKind kinds
 last-kinds zero = lit≤ tt
 last-kinds (suc zero) = lit≤ tt
 last-kinds (suc (suc zero)) = lit≤ tt
-last-kinds (suc (suc (suc e))) = lit≤ tt
+last-kinds (suc (suc (suc zero))) = lit≤ tt
+last-kinds (suc (suc (suc (suc e)))) = lit≤ tt
 
 -- another number is no edition
-pub no-edition : (e : ℕ) → (e ≡ 1 → ⊥) → (e ≡ 2 → ⊥) → lastKind e ≡ 0
+pub no-edition : (e : ℕ) → (e ≡ 1 → ⊥) → (e ≡ 2 → ⊥) → (e ≡ 3 → ⊥) → lastKind e ≡ 0
 unfolding lastKind
-no-edition zero h k = refl
-no-edition (suc zero) h k = absurd (h refl)
-no-edition (suc (suc zero)) h k = absurd (k refl)
-no-edition (suc (suc (suc e))) h k = refl
+no-edition zero h k l = refl
+no-edition (suc zero) h k l = absurd (h refl)
+no-edition (suc (suc zero)) h k l = absurd (k refl)
+no-edition (suc (suc (suc zero))) h k l = absurd (l refl)
+no-edition (suc (suc (suc (suc e)))) h k l = refl
 
 -- so an edition fits its two bytes
 pub small-edition : (e : ℕ) → 0 < lastKind e → e < 65536
@@ -86,4 +88,5 @@ unfolding lastKind
 small-edition zero h = lit< tt
 small-edition (suc zero) h = lit< tt
 small-edition (suc (suc zero)) h = lit< tt
-small-edition (suc (suc (suc e))) h = absurd (omega arith)
+small-edition (suc (suc (suc zero))) h = lit< tt
+small-edition (suc (suc (suc (suc e)))) h = absurd (omega arith)

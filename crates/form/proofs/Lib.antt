@@ -9,6 +9,8 @@ pub mod Tables
 pub mod Counting
 pub mod Places
 pub mod Numbered
+pub mod SecondEdition
 pub mod Lengths
 pub mod Meaning
 pub mod Periods
+pub mod Scattered

@@ -1,5 +1,5 @@
 -- Laws of little-endian numbers and of bytes that are zero. Assumes nothing.
---     number-2, number-4    a number in two or four bytes, as the code adds it up
+--     number-1, number-2, number-4    a number in one, two or four bytes, as the code adds it up
 --     stray-bits            some byte is not zero just where the bytes, or-ed together, are not zero
 use Prim.Native.Nat.{ℕ, zero, suc, _+_, _*_, _<_, _≤_}
 use mathlib.Core.Path.{_≡_, refl, ap, _∙_}
@@ -14,6 +14,10 @@ use mir.Val.{Fits}
 use mir.Syntax.{w8}
 use Rattle.form.specs.First.{any}
 use Rattle.form.specs.Bytes.{byteAt, number, strayIn}
+
+pub number-1 : (s : List ℕ) (at : ℕ) → number 1 s at ≡ byteAt s at
+unfolding number
+number-1 s at = omega arith
 
 pub number-2 : (s : List ℕ) (at : ℕ) → number 2 s at ≡ byteAt s at + 256 * byteAt s (at + 1)
 unfolding number

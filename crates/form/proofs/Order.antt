@@ -1,6 +1,7 @@
 -- Laws of `ruling`. Assumes nothing.
 --     ruled, kept       by which the code's proof goes from rule to rule; stopped, passed, the same behind rules that are kept
 --     ruling-append     one list of rules tried after another; ruled-before, kept-before, by what the first list says
+--     append-same       rules behind two lists that agree; both-rule, two lists whose first rules agree
 --     one-broken, one-kept    a rule of one place; too-short, long-enough, the last rule, the room itself
 --     ruling-least      what it refuses is broken there, at no lower place, and no earlier rule is broken anywhere; least-ruling, the other way
 --     ruling-clean      where it is clean, no rule is broken anywhere; clean-ruling, the other way
@@ -54,6 +55,20 @@ ruling-append [] qs = refl
 ruling-append (r ∷ rs) qs =
     ap (λ (v : Ruling). refuse (r .number) (first (r .broken) (r .places)) v) (ruling-append rs qs)
     ∙ or-refuse (r .number) (first (r .broken) (r .places)) (ruling rs) (ruling qs)
+
+-- rules behind two lists that agree
+pub append-same : (rs qs ts : List Rule) → ruling rs ≡ ruling qs → ruling (rs ++ ts) ≡ ruling (qs ++ ts)
+append-same rs qs ts e = ruling-append rs ts ∙ ap (λ (u : Ruling). orRule u (ruling ts)) e ∙ sym (ruling-append qs ts)
+
+-- two lists of rules whose first rules agree, and whose others agree where the first is kept
+pub both-rule : (n m : ℕ) (p q : ℕ → Bool) (rs qs : List Rule) → first p m ≡ first q m → (first q m ≡ Nowhere → ruling rs ≡ ruling qs)
+    → ruling (rule n m p ∷ rs) ≡ ruling (rule n m q ∷ qs)
+unfolding ruling
+both-rule n m p q rs qs e h = ap (λ (t : Spot). refuse n t (ruling rs)) e ∙ go (first q m) refl
+  where
+    go : (t : Spot) → first q m ≡ t → refuse n t (ruling rs) ≡ refuse n t (ruling qs)
+    go (At i) f = refl
+    go Nowhere f = h f
 
 -- where both are clean
 pub or-clean : (u v : Ruling) → orRule u v ≡ Clean → u ≡ Clean

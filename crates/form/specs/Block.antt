@@ -1,4 +1,4 @@
--- "A return is 1 to .. blocks of 512 bytes", 19 in either edition: the header, the check, and rules 1 to 4, each the test that a place breaks it.
+-- "A return is 1 to .. blocks of 512 bytes", 19 in every edition: the header, the check, and rules 1 to 4, each the test that a place breaks it.
 use Prim.Native.Nat.{ℕ, zero, suc, _+_, _-_, _*_, _/_, _%_}
 use mathlib.Core.Bool.{Bool, cond, not, _&&_, _||_}
 use mathlib.Core.List.{List, [], _∷_}
@@ -62,8 +62,8 @@ badLength s = eqb (length s) 0 || ltb longest (length s) || not (eqb (length s %
 unfoldable pub badCheck : List ℕ → ℕ → Bool
 badCheck s b = not (eqb (checkSaid s b) (checkDue s b))
 
--- 3: "kind not 1 to" the edition's last, 4 in edition 1 and 7 in edition 2, "wrong block number, wrong number of blocks"; "an edition other than 1 or 2, an edition
--- unlike block 0's, or a kind above 4 in edition 1"
+-- 3: "kind not 1 to" the edition's last, 4 in edition 1 and 7 in editions 2 and 3, "wrong block number, wrong number of blocks"; "an edition other than 1 or 2", but
+-- "3 lets edition 3 in", "an edition unlike block 0's, or a kind above 4 in edition 1"
 unfoldable pub badHeader : List ℕ → ℕ → Bool
 badHeader s b =
     ltb (kindOf s b) 1

@@ -11,7 +11,8 @@ pub mod Sums
 pub mod Verdict
 pub mod Standing
 pub mod Computed
--- What an edition 1 return was read by before there was another.
+-- What an edition 1 return was read by before there was another, and those of editions 1 and 2 before there was a third.
 pub mod FirstEdition
+pub mod SecondEdition
 -- No part of what a return is: what steps of the code answer.
 pub mod Steps

@@ -1,4 +1,4 @@
--- Rules 5 to 7, stated once over records at places. A rule of one row is an entry of a list. "A record's place is 12 times its block plus its position."
+-- Rules 5, 6, 14 and 7, stated once over records at places. A rule of one row is an entry of a list. "A record's place is 12 times its block plus its position."
 use Prim.Native.Nat.{ℕ, zero, suc, _+_, _-_, _*_, _/_, _%_}
 use mathlib.Core.Bool.{Bool, false, cond, not, _&&_, _||_}
 use mathlib.Core.List.{List, [], _∷_, _++_}
@@ -27,6 +27,13 @@ filed s = record {
 -- the rows of every kind have an id but the parameters
 abbrev pub hasId : ℕ → Bool
 hasId k = ltb 0 k && (leb k kinds && not (eqb k parametersKind))
+
+-- the unit code of a stock row: "0 land, 1 scattered trees"
+abbrev pub unitCode : List ℕ → ℕ
+unitCode r = getD r 1 0
+
+abbrev pub isScattered : List ℕ → Bool
+isScattered r = eqb (unitCode r) 1
 
 -- the numbers of a row by their names: of every row with an id, and of a conversion row
 abbrev pub idOf : List ℕ → ℕ
@@ -105,6 +112,10 @@ rowRule n t = record { number = n; breaks = t }
 abbrev pub fieldAbove : RowTest
 fieldAbove edition kind r = aboveLimit (layout kind) r
 
+-- 14: "for code 1 in edition 3", of a stock row: "Edition 3 has no unit code 1". Code 2 or above is above its limit, and "stays 6"
+abbrev pub scatteredTrees : RowTest
+scatteredTrees edition kind r = eqb edition 3 && (eqb kind 2 && isScattered r)
+
 -- 7: "on-site + off-site + decay above 1,000", of a conversion row
 abbrev pub overspent : List ℕ → Bool
 overspent r = ltb 1000 (onsite r + offsite r + decay r)
@@ -112,10 +123,11 @@ overspent r = ltb 1000 (onsite r + offsite r + decay r)
 abbrev pub fractionsAbove : RowTest
 fractionsAbove edition kind r = eqb kind 1 && overspent r
 
--- the rules of one row, in the paper's order. A new rule is a new line.
+-- the rules of one row, in the paper's order: 14 "straight after 6". A new rule is a new line.
 abbrev pub rowRules : List RowRule
 rowRules =
     rowRule 6 fieldAbove
+    ∷ rowRule 14 scatteredTrees
     ∷ rowRule 7 fractionsAbove
     ∷ []
 

@@ -6,12 +6,20 @@ use lib.ListN.{length, getD}
 use lib.Dec.{ltb, eqb}
 use Rattle.form.specs.First.{any}
 use Rattle.form.specs.Ruling.{Rule, rule}
-use Rattle.form.specs.Records.{Filed, filedRows, recordRules, areaOf, difference, offsite}
+use Rattle.form.specs.Records.{Filed, filedRows, recordRules, isScattered, areaOf, difference, offsite}
 
 -- a figure of each row, added up over the rows
 unfoldable pub sumOf : (List ℕ → ℕ) → List (List ℕ) → ℕ
 sumOf f [] = 0
 sumOf f (r ∷ rs) = f r + sumOf f rs
+
+-- 1 for a row of scattered trees, and 0 for one of land
+unfoldable pub scatteredPart : List ℕ → ℕ
+scatteredPart r = cond (isScattered r) 1 0
+
+-- "how many such rows there were": of the stock rows, those of scattered trees
+abbrev pub scatteredIn : List (List ℕ) → ℕ
+scatteredIn stock = sumOf scatteredPart stock
 
 -- the numbers of a harvest row: id, F commercial harvest, G tonnes per m3, I fuelwood, J other use
 abbrev pub commercial : List ℕ → ℕ

@@ -8,7 +8,7 @@ use lib.Dec.{eqb}
 use Rattle.form.specs.Ruling.{Rule, rule, ruling}
 use Rattle.form.specs.Block.{blocks, kindOf, countOf, edition, badLength, badCheck, badHeader, badBlock}
 use Rattle.form.specs.Records.{filed, filedRows, recordRules}
-use Rattle.form.specs.Sums.{sumRules}
+use Rattle.form.specs.Sums.{scatteredIn, sumRules}
 use Rattle.form.specs.declared.Counts.{Counts}
 use Rattle.form.specs.declared.Ruling.{Ruling}
 use Rattle.form.specs.declared.Ruling.the-variants.{Clean, Broken}
@@ -23,7 +23,7 @@ blockRules s =
     ∷ rule 4 (blocks s) (badBlock s)
     ∷ []
 
--- 1 to 7, what a block or a row says by itself: a return that keeps these has its rows where the counts say, each within its limits
+-- 1 to 7 and 14, what a block or a row says by itself: a return that keeps these has its rows where the counts say, each within its limits
 abbrev pub formRules : List ℕ → List Rule
 formRules s = blockRules s ++ recordRules (edition s 0) (filed s)
 
@@ -40,7 +40,11 @@ countBelow k s (suc n) = countBelow k s n + cond (eqb (kindOf s n) k) (countOf s
 abbrev pub rowCount : ℕ → List ℕ → ℕ
 rowCount k s = countBelow k s (blocks s)
 
--- the edition and the row counts. A new kind is a new line.
+-- the rows of a kind, in order
+abbrev pub rows : ℕ → List ℕ → List (List ℕ)
+rows k s = filedRows (filed s) k
+
+-- the edition, the row counts, and behind the kinds how many stock rows are of scattered trees. A new kind is a new line.
 abbrev pub countsOf : List ℕ → Counts
 countsOf s = record {
   edition = edition s 0;
@@ -51,6 +55,7 @@ countsOf s = record {
   abandoned = rowCount 5 s;
   savanna = rowCount 6 s;
   soils = rowCount 7 s;
+  scattered = scatteredIn (rows 2 s);
 }
 
 -- the counts as a list by kind, from 1 on. A new kind is a new line.
@@ -68,10 +73,6 @@ countList c =
 -- the count of a kind; another number is no kind and has no rows
 abbrev pub countIn : Counts → ℕ → ℕ
 countIn c kind = getD (0 ∷ countList c) kind 0
-
--- the rows of a kind, in order
-abbrev pub rows : ℕ → List ℕ → List (List ℕ)
-rows k s = filedRows (filed s) k
 
 -- "its answer, or one refusal number with its place"
 abbrev pub verdictBy : List ℕ → Ruling → Verdict

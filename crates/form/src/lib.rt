@@ -25,7 +25,7 @@ pub const MOST_BLOCKS: usize = 3 * (KINDS - 1) + 1;
 pub const LONGEST: usize = 512 * MOST_BLOCKS;
 
 // How many rules of records there are.
-pub const RECORD_RULES: usize = 3;
+pub const RECORD_RULES: usize = 4;
 
 // A field of a record: the zero bytes before it, its width in bytes, and its limit.
 pub struct Field {
@@ -46,7 +46,7 @@ pub enum Ruling {
     Broken { number: u8, place: u32 },
 }
 
-// What a return holds: its edition, and how many rows of each kind. A new kind is a new line.
+// What a return holds: its edition, how many rows of each kind, and how many of its stock rows are of scattered trees. A new kind is a new line.
 pub struct Counts {
     pub edition: u32,
     pub conversion: u32,
@@ -56,6 +56,7 @@ pub struct Counts {
     pub abandoned: u32,
     pub savanna: u32,
     pub soils: u32,
+    pub scattered: u32,
 }
 
 pub enum Verdict {
@@ -189,6 +190,7 @@ pub fn last_kind(edition: u32) -> u32
     match edition {
         1 => 4,
         2 => 7,
+        3 => 7,
         _ => 0,
     }
 }
@@ -209,6 +211,7 @@ pub fn record_rule(i: usize) -> u8
     match i {
         0 => 5,
         1 => 6,
+        2 => 14,
         _ => 7,
     }
 }

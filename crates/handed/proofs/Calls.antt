@@ -26,16 +26,17 @@ use Rattle.rows.specs.Reading.{rowsOf, areaTo, outgrown, readRules, readAnswer}
 use Rattle.rows.specs.Writing.{written, writeRules, writtenBy, writeAnswer}
 use Rattle.rows.specs.declared.Written.the-variants.{Done}
 use Rattle.rows.proofs.Return.{done-by}
+use Rattle.counted.specs.Counts.{countsRoom}
 use Rattle.handed.specs.Rows.{shortAt, readRulesC, readCall, writeRooms, writeRulesC, writeCall}
 use Rattle.handed.proofs.Reading.{enough}
 use Rattle.handed.proofs.Writing.{sized}
 
 module _ (s rows counts : List ℕ) where
-  pub read-called : (c : Counts) → readAnswer s rows ≡ Accepted c → suc kinds ≤ length counts → readCall s rows counts ≡ Clean
+  pub read-called : (c : Counts) → readAnswer s rows ≡ Accepted c → countsRoom ≤ length counts → readCall s rows counts ≡ Clean
   unfolding readAnswer
   read-called c e h = enough s rows counts h ∙ clean-of s (ruling (readRules s rows)) c e .0
 
-  pub read-kept : ruling (rules s) ≡ Clean → length (areaTo s kinds) ≤ length rows → suc kinds ≤ length counts → readCall s rows counts ≡ Clean
+  pub read-kept : ruling (rules s) ≡ Clean → length (areaTo s kinds) ≤ length rows → countsRoom ≤ length counts → readCall s rows counts ≡ Clean
   unfolding ruling
   read-kept k l h =
       let last = rule 9 (suc kinds) (outgrown s (length rows)) in
@@ -44,9 +45,9 @@ module _ (s rows counts : List ℕ) where
       fit : (k : ℕ) → k < suc kinds → outgrown s (length rows) k ≡ false
       fit k m = le-ltb (length rows) (length (areaTo s k)) (omega (arith, length-part (rowsOf s) k kinds (omega arith)))
 
-  counts-fit : AllKept (rule 9 (suc kinds) (shortAt s (length rows) (length counts)) ∷ []) → suc kinds ≤ length counts
+  counts-fit : AllKept (rule 9 (suc kinds) (shortAt s (length rows) (length counts)) ∷ []) → countsRoom ≤ length counts
   unfolding Kept
-  counts-fit (more k none) = ltb-false (length counts) (suc kinds) (k 0 (omega arith))
+  counts-fit (more k none) = ltb-false (length counts) countsRoom (k 0 (omega arith))
 
   pub read-answered : readCall s rows counts ≡ Clean → readAnswer s rows ≡ Accepted (countsOf s)
   unfolding readAnswer

@@ -13,11 +13,11 @@ use Rattle.filing.specs.Lists.{cut}
 use Rattle.lists.specs.Rules.{listRules}
 use Rattle.rows.specs.Reading.{outgrown, roomAfter}
 use Rattle.rows.specs.Writing.{written, writtenBy, bytesAfter}
-use Rattle.counted.specs.Counts.{countsAfter}
+use Rattle.counted.specs.Counts.{countsRoom, countsAfter}
 
 -- 9: "lent room too short": place 0 the room of n elements for the edition and the counts, then the lowest kind whose rows no longer fit room of m numbers
 abbrev pub shortAt : List ℕ → ℕ → ℕ → ℕ → Bool
-shortAt s m n zero = ltb n (suc kinds)
+shortAt s m n zero = ltb n countsRoom
 shortAt s m n (suc k) = outgrown s m (suc k)
 
 -- the rules of a read from C, into these rooms, and their ruling

@@ -2,8 +2,8 @@
 ghost use mathlib.Core.Path.{_≡_};
 ghost use mathlib.Core.List.{[]};
 ghost use Rattle.handed.specs.Rows.{readCall, rowsRead, countsRead, writeCall, blocksWritten, sizeWritten};
+use counted::COUNTS_ROOM;
 use counted::put_counts;
-use form::KINDS;
 use form::Ruling;
 use form::Verdict;
 use rows::Written;
@@ -15,7 +15,7 @@ pub fn read(bytes: &[u8], rows: &mut [u32], counts: &mut [u32]) -> Ruling
     ensures { λ _. ⌜ now (counts .exit) ≡ countsRead (now (bytes .entry)) (now (rows .entry)) (now (counts .entry)) ⌝ }
 {
     // too little room for the counts is the lowest place of 9: the judge's answer is the whole answer
-    if counts.len() <= KINDS {
+    if counts.len() < COUNTS_ROOM {
         return counted::tell(bytes, counts);
     }
     match rows::read(bytes, rows) {

@@ -1,6 +1,6 @@
 // The judge: any bytes of any length are accepted, with the row counts, or refused, with one number and one place.
 ghost use mathlib.Core.Path.{_≡_};
-ghost use Prim.Native.Nat.{_^_, _≤_, _<_};
+ghost use Prim.Native.Nat.{_^_, _<_};
 ghost use lib.ListN.{length};
 ghost use Rattle.form.specs.Ruling.{ruling};
 ghost use Rattle.form.specs.Block.{edition};
@@ -11,10 +11,12 @@ use form::RECORD_RULES;
 use form::Ruling;
 use form::Spot;
 use form::Verdict;
+use form::blocks_for;
 use form::byte_at;
 use form::record_rule;
 use form::two_at;
 use form::where_same;
+use sums::count_scattered;
 
 // Rules 1 to 4.
 fn rule_blocks(bytes: &[u8]) -> Ruling
@@ -41,7 +43,7 @@ fn rule_blocks(bytes: &[u8]) -> Ruling
     Ruling::Clean
 }
 
-// Rules 5 to 7, by their numbers.
+// Rules 5, 6, 14 and 7, by their numbers.
 fn rule_records(bytes: &[u8]) -> Ruling
     requires { ⌜ length (now bytes) < 2 ^ 24 ⌝ }
     ensures { λ r. ⌜ r ≡ ruling (recordRules (edition (now (bytes .entry)) 0) (filed (now (bytes .entry)))) ⌝ }
@@ -58,7 +60,7 @@ fn rule_records(bytes: &[u8]) -> Ruling
     Ruling::Clean
 }
 
-// Rules 1 to 7, in the paper's order: the blocks whole before the records.
+// Rules 1 to 7 and 14, in the paper's order: the blocks whole before the records.
 fn rule_form(bytes: &[u8]) -> Ruling
     ensures { λ r. ⌜ r ≡ ruling (formRules (now (bytes .entry))) ⌝ }
 {
@@ -84,20 +86,23 @@ fn rows_of(bytes: &[u8], kind: u32) -> u32
     rows
 }
 
-// The edition, from block 0, and the rows. A new kind is a new line.
+// The edition, from block 0, and the rows; and how many stock rows are of scattered trees, which stand behind the conversion's blocks. A new kind is a new line.
 pub fn count_rows(bytes: &[u8]) -> Counts
-    requires { ⌜ (8 ≤ length (now bytes)) × (length (now bytes) < 2 ^ 24) ⌝ }
+    requires { ⌜ Formed (now bytes) (countsOf (now bytes)) ⌝ }
     ensures { λ r. ⌜ r ≡ countsOf (now (bytes .entry)) ⌝ }
 {
+    let conversion = rows_of(bytes, 1);
+    let stock = rows_of(bytes, 2);
     Counts {
         edition: two_at(bytes, 6),
-        conversion: rows_of(bytes, 1),
-        stock: rows_of(bytes, 2),
+        conversion,
+        stock,
         harvest: rows_of(bytes, 3),
         parameters: rows_of(bytes, 4),
         abandoned: rows_of(bytes, 5),
         savanna: rows_of(bytes, 6),
         soils: rows_of(bytes, 7),
+        scattered: count_scattered(bytes, blocks_for(conversion as usize), stock as usize),
     }
 }
 
@@ -112,7 +117,7 @@ fn judge_sums(bytes: &[u8], counts: Counts) -> Verdict
     }
 }
 
-// Any bytes of any length, read in place: 1 to 7, then what the rows add up to.
+// Any bytes of any length, read in place: 1 to 7 and 14, then what the rows add up to.
 pub fn judge(bytes: &[u8]) -> Verdict
     ensures { λ r. ⌜ r ≡ verdictOf (now (bytes .entry)) ⌝ }
 {

@@ -51,11 +51,12 @@ listed f =
     ∷ figure (codes "savanna_nox") (f .savannas .gases .nox .0)
     ∷ net (codes "soil") (f .soils .soil .0)
     ∷ net (codes "soil_change") (f .soils .change .0)
+    ∷ figure (codes "scattered") (f .scattered .0)
     ∷ []
 
 -- how many there are: the same of every return (`counted`)
 abbrev pub figureCount : ℕ
-figureCount = 27
+figureCount = 28
 
 -- the values of a list of figures
 abbrev pub valuesOf : List Figure → List Signed

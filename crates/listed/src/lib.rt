@@ -9,7 +9,7 @@ use wide::signed::Signed;
 use worksheets::sheets::Figures;
 
 // How many figures there are, and how many numbers they are.
-pub const FIGURES: usize = 27;
+pub const FIGURES: usize = 28;
 
 pub const NUMBERS: usize = 3 * FIGURES;
 
@@ -64,6 +64,8 @@ fn list(f: Figures) -> [Signed; FIGURES]
     let savanna_nox = Signed { below: false, size };
     let soil = f.soils.soil.0;
     let soil_change = f.soils.change.0;
+    let size = f.scattered.0;
+    let scattered = Signed { below: false, size };
     [
         e,
         k,
@@ -92,6 +94,7 @@ fn list(f: Figures) -> [Signed; FIGURES]
         savanna_nox,
         soil,
         soil_change,
+        scattered,
     ]
 }
 

@@ -12,7 +12,7 @@ use lib.Seq.{getD-take, getD-drop, drop-cons, drop-drop}
 use borrow.Author.Tests.{lt-ltb, le-ltb, le-leb, eq-eqb, ne-eqb, ltb-false, eqb-true, not-false}
 use Rattle.form.specs.Layout.{field, Layout, kinds, parametersKind, layout, numbersOf, aboveLimit, fieldAt}
 use Rattle.form.specs.Edition.{lastKind, known}
-use Rattle.form.specs.Records.{RowTest, idOf, overspent, badId, brokenBy, testNumbered}
+use Rattle.form.specs.Records.{RowTest, idOf, scatteredTrees, overspent, badId, brokenBy, testNumbered}
 use Rattle.form.proofs.Tests.{and-rest, or-none, either}
 use Rattle.form.proofs.EachKind.{parameters-kind}
 use Rattle.filing.specs.Lists.{total, rowsIn, rowOf, blocksOf, filedList}
@@ -56,10 +56,14 @@ module _ (r : List ℕ) (j : ℕ) where
 
 module _ (n e kind : ℕ) (row : List ℕ) where
   -- 7 is about conversion rows alone
-  pub no-conversion : (n ≡ 6 → ⊥) → (kind ≡ 1 → ⊥) → testNumbered n e kind row ≡ false
-  no-conversion h k =
-      rw (ne-eqb n 6 h)
+  pub no-conversion : (n ≡ 6 → ⊥) → (n ≡ 14 → ⊥) → (kind ≡ 1 → ⊥) → testNumbered n e kind row ≡ false
+  no-conversion h i k =
+      rw (ne-eqb n 6 h, ne-eqb n 14 i)
       (either (λ (t : RowTest). t e kind row ≡ false) (eqb n 7) (λ q. rw (ne-eqb kind 1 k)) (λ q. refl))
+
+-- 14 is about stock rows alone
+pub no-stock : (e kind : ℕ) (row : List ℕ) → (kind ≡ 2 → ⊥) → scatteredTrees e kind row ≡ false
+no-stock e kind row h = rw (ne-eqb kind 2 h) (and-false (eqb e 3))
 
 -- ---- the limits, field by field
 

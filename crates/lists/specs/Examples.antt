@@ -78,7 +78,7 @@ uncovered : ruling (listRules 1 (15 ∷ 5 ∷ 0 ∷ 6 ∷ 0 ∷ 0 ∷ 0 ∷ []) 
 unfolding computed
 uncovered = refl
 
--- a row of abandoned land: in edition 2, and refused in edition 1 and in one that there is not
+-- a row of abandoned land: in editions 2 and 3, and refused in edition 1 and in one that there is not
 abbrev abandonedDay : List ℕ
 abandonedDay = parametersDay ++ (1 ∷ 1000 ∷ 680 ∷ 500 ∷ 2000 ∷ 300 ∷ 450 ∷ [])
 
@@ -90,9 +90,55 @@ second-only : ruling (listRules 1 (0 ∷ 0 ∷ 0 ∷ 6 ∷ 7 ∷ 0 ∷ 0 ∷ [])
 unfolding computed
 second-only = refl
 
-no-third : ruling (listRules 3 (0 ∷ 0 ∷ 0 ∷ 6 ∷ 7 ∷ 0 ∷ 0 ∷ []) abandonedDay) ≡ Broken 10 0
+third : ruling (listRules 3 (0 ∷ 0 ∷ 0 ∷ 6 ∷ 7 ∷ 0 ∷ 0 ∷ []) abandonedDay) ≡ Clean
 unfolding computed
-no-third = refl
+third = refl
+
+no-fourth : ruling (listRules 4 (0 ∷ 0 ∷ 0 ∷ 6 ∷ 7 ∷ 0 ∷ 0 ∷ []) abandonedDay) ≡ Broken 10 0
+unfolding computed
+no-fourth = refl
+
+-- stock rows, each an id and a unit code, behind a block of one conversion row that spends some fractions
+abbrev stockRow : ℕ → ℕ → List ℕ
+stockRow i code = i ∷ code ∷ 5 ∷ 100 ∷ 500 ∷ []
+
+spending : ℕ → List ℕ
+spending on-site = 7 ∷ 0 ∷ 0 ∷ 0 ∷ on-site ∷ 0 ∷ 0 ∷ 300 ∷ 0 ∷ 0 ∷ 0 ∷ 0 ∷ 0 ∷ 200 ∷ 0 ∷ []
+
+stocks : ℕ → ℕ → ℕ → List ℕ → Ruling
+stocks edition on-site n rows = ruling (listRules edition (15 ∷ n ∷ 0 ∷ 6 ∷ 0 ∷ 0 ∷ 0 ∷ []) (spending on-site ++ (rows ++ parametersDay)))
+
+-- scattered trees, in the second of two rows: good in editions 1 and 2, and refused at its place in edition 3
+trees-first : stocks 1 500 10 (stockRow 1 0 ++ stockRow 2 1) ≡ Clean
+unfolding stocks spending computed
+trees-first = refl
+
+trees-second : stocks 2 500 10 (stockRow 1 0 ++ stockRow 2 1) ≡ Clean
+unfolding stocks spending computed
+trees-second = refl
+
+trees-third : stocks 3 500 10 (stockRow 1 0 ++ stockRow 2 1) ≡ Broken 14 13
+unfolding stocks spending computed
+trees-third = refl
+
+-- "code 2 or above stays 6"
+code-2 : stocks 3 500 5 (stockRow 1 2) ≡ Broken 6 12
+unfolding stocks spending computed
+code-2 = refl
+
+-- 6 is tried over all rows first, though the scattered trees stand at the lower place; and 14 before 7
+six-before : stocks 3 500 10 (stockRow 1 1 ++ stockRow 2 2) ≡ Broken 6 13
+unfolding stocks spending computed
+six-before = refl
+
+before-seven : stocks 3 501 5 (stockRow 1 1) ≡ Broken 14 12
+unfolding stocks spending computed
+before-seven = refl
+
+-- which edition 2 lets pass, so that 7 is given
+seven-second : stocks 2 501 5 (stockRow 1 1) ≡ Broken 7 0
+unfolding stocks spending computed
+seven-second = refl
 
 -- a row of savanna behind the parameters, likewise
 abbrev savannaDay : List ℕ

@@ -1,4 +1,4 @@
--- "Writing: 10, then 5 to 9": the rules of the row lists alone, 10 by kind, and those of filed records where the records would stand: 5 to 7, then those that add rows up.
+-- "Writing: 10, then 5 to 9": the rules of the row lists alone, 10 by kind, and those of filed records where the records would stand: 5, 6, 14 and 7, then those that add rows up.
 use Prim.Native.Nat.{ℕ, zero, suc, _+_, _-_, _%_, _≤_, _<_}
 use mathlib.Core.Path.{_≡_}
 use mathlib.Core.Bool.{Bool, false, not, _&&_, _||_}
@@ -30,7 +30,7 @@ badLengths lengths m = not (eqb (length lengths) kinds) || not (eqb (total lengt
 unfoldable pub notAllowed : ℕ → ℕ → ℕ → Bool
 notAllowed edition kind n = ltb (lastKind edition) kind && not (eqb n 0)
 
--- 10 by its place: 0 for "an unknown edition" and the lengths, then the kinds
+-- 10 by its place: 0 for "an unknown edition", which 3 no longer is, and the lengths, then the kinds
 abbrev pub badAt : ℕ → List ℕ → ℕ → ℕ → Bool
 badAt edition lengths m zero = not (known edition) || badLengths lengths m
 badAt edition lengths m (suc k) = notAllowed edition (suc k) (getD lengths k 0) || badList (suc k) (getD lengths k 0)

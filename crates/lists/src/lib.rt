@@ -1,11 +1,11 @@
-// The rules of rows that are to be written: 10 by kind, then 5 to 7 where each record would stand.
+// The rules of rows that are to be written: 10 by kind, then 5, 6, 14 and 7 where each record would stand.
 ghost use mathlib.Core.Path.{_≡_};
 ghost use Prim.Native.Nat.{suc, _+_, _*_, _^_, _≤_, _<_};
 ghost use lib.ListN.{length, getD, drop};
 ghost use Rattle.form.specs.First.{first};
 ghost use Rattle.form.specs.Ruling.{ruling};
 ghost use Rattle.form.specs.Layout.{kinds, layout, numbersOf, aboveLimit};
-ghost use Rattle.form.specs.Records.{overspent, badId, recordRules, testNumbered, testOf};
+ghost use Rattle.form.specs.Records.{scatteredTrees, overspent, badId, recordRules, testNumbered, testOf};
 ghost use Rattle.filing.specs.Lists.{cut, total, rowsIn, rowOf, blocksOf, filedList, filedLists};
 ghost use Rattle.lists.specs.Rules.{badList, badLengths, notAllowed, badAt, Good, FewRows, blocksFrom, shifted, firstOf};
 use form::KINDS;
@@ -136,6 +136,21 @@ fn overspent_at(rows: &[u32], at: usize) -> bool
     1000 < wide(rows[at + 4]) + wide(rows[at + 7]) + wide(rows[at + 13])
 }
 
+// A stock row of scattered trees, which edition 3 no longer has.
+fn scattered(edition: u32, kind: usize, rows: &[u32], j: usize) -> bool
+    requires { ⌜ j < rowsIn kind (length (now rows)) ⌝ }
+    ensures { λ r. ⌜ r ≡ scatteredTrees edition kind (rowOf kind (now (rows .entry)) j) ⌝ }
+{
+    if edition != 3 {
+        return false;
+    }
+    if kind != 2 {
+        return false;
+    }
+    let at = numbers(2) * j;
+    rows[at + 1] == 1
+}
+
 // A rule of one row, by its number, of row j.
 fn row_breaks(number: u32, edition: u32, kind: usize, rows: &[u32], j: usize) -> bool
     requires { ⌜ j < rowsIn kind (length (now rows)) ⌝ }
@@ -143,6 +158,9 @@ fn row_breaks(number: u32, edition: u32, kind: usize, rows: &[u32], j: usize) ->
 {
     if number == 6 {
         return above_limit(kind, rows, j);
+    }
+    if number == 14 {
+        return scattered(edition, kind, rows, j);
     }
     if kind != 1 {
         return false;
@@ -210,7 +228,7 @@ fn first_broken(number: u32, edition: u32, lengths: &[u32], area: &[u32]) -> Spo
     Spot::Nowhere
 }
 
-// Rules 5 to 7, by their numbers, of lists that 10 has found good.
+// Rules 5, 6, 14 and 7, by their numbers, of lists that 10 has found good.
 pub fn rule_records(edition: u32, lengths: &[u32], area: &[u32]) -> Ruling
     requires { ⌜ Good (now lengths) (length (now area)) ⌝ }
     ensures { λ r. ⌜ r ≡ ruling (recordRules edition (filedLists (cut (now (lengths .entry)) (now (area .entry))))) ⌝ }

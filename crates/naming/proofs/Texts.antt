@@ -13,7 +13,7 @@ use Rattle.phrases.proofs.LineTexts.{text-append, item, lines}
 use Rattle.reasons.proofs.Reason.{the-type}
 use Rattle.reasons.specs.declared.Row.{Row}
 use Rattle.reasons.specs.declared.Reason.{Reason}
-use Rattle.reasons.specs.declared.Reason.the-variants.{BadLength, BadCheck, BadHeader, BadBlock, IdBelow, FieldAbove, FractionsAbove, ClearedAbove, SoilUneven}
+use Rattle.reasons.specs.declared.Reason.the-variants.{BadLength, BadCheck, BadHeader, BadBlock, IdBelow, FieldAbove, FractionsAbove, ClearedAbove, SoilUneven, ScatteredTrees}
 use Rattle.form.specs.Layout.{parametersKind}
 use Rattle.naming.specs.Names.{fieldName, kindName}
 use Rattle.naming.specs.RowLines.{wordLine, placeLines, namedLines, limitLines, fractionsLines, soilLines, rowLines}
@@ -42,6 +42,7 @@ no-lines (FieldAbove w i v l) o = absurd (miss (0 ∷ 1 ∷ 2 ∷ 3 ∷ 7 ∷ []
 no-lines (FractionsAbove w n f d t) o = absurd (miss (0 ∷ 1 ∷ 2 ∷ 3 ∷ 7 ∷ []) 6 tt o)
 no-lines (ClearedAbove u l) o = refl
 no-lines (SoilUneven w t n o) k = absurd (miss (0 ∷ 1 ∷ 2 ∷ 3 ∷ 7 ∷ []) 8 tt k)
+no-lines (ScatteredTrees w c e) o = absurd (miss (0 ∷ 1 ∷ 2 ∷ 3 ∷ 7 ∷ []) 9 tt o)
 
 -- the field's number, its name and its value, part by part
 four : (x f n e t : List ℕ) → ((((x ++ f) ++ n) ++ e) ++ t) ≡ x ++ (f ++ (n ++ (e ++ t)))

@@ -8,7 +8,7 @@ use Rattle.phrases.specs.Ascii.{codes}
 use Rattle.phrases.specs.Lines.{Line, numberLine}
 use Rattle.reasons.specs.declared.Row.{Row}
 use Rattle.reasons.specs.declared.Reason.{Reason}
-use Rattle.reasons.specs.declared.Reason.the-variants.{BadLength, BadCheck, BadHeader, BadBlock, IdBelow, FieldAbove, FractionsAbove, ClearedAbove, SoilUneven}
+use Rattle.reasons.specs.declared.Reason.the-variants.{BadLength, BadCheck, BadHeader, BadBlock, IdBelow, FieldAbove, FractionsAbove, ClearedAbove, SoilUneven, ScatteredTrees}
 use Rattle.naming.specs.Names.{fieldName, kindName}
 
 -- a name and a word
@@ -48,6 +48,10 @@ fractionsLines n f d t = numberLine (codes "onsite") n ∷ numberLine (codes "of
 abbrev pub soilLines : ℕ → ℕ → ℕ → List Line
 soilLines t n o = numberLine (codes "soil_type") t ∷ numberLine (codes "area_now") n ∷ numberLine (codes "area_then") o ∷ []
 
+-- §12: `unit_code`, `edition`: what stands in the row, and in the headers
+abbrev pub treesLines : ℕ → ℕ → List Line
+treesLines c e = numberLine (codes "unit_code") c ∷ numberLine (codes "edition") e ∷ []
+
 -- by the number; 1 to 4 and 12 are of a block or of the whole return. A new number is a new case.
 abbrev pub rowLines : Reason → List Line
 rowLines (BadLength n) = []
@@ -63,3 +67,5 @@ rowLines (FieldAbove w i v l) = namedLines w ++ limitLines (w .kind) i v l
 rowLines (FractionsAbove w n f d t) = namedLines w ++ fractionsLines n f d t
 -- 13: the soil type and its two area sums
 rowLines (SoilUneven w t n o) = namedLines w ++ soilLines t n o
+-- 14: the unit code and the edition
+rowLines (ScatteredTrees w c e) = namedLines w ++ treesLines c e

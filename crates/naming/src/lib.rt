@@ -169,6 +169,10 @@ pub fn put_row(reason: Reason, out: &mut [u8], at: usize) -> usize
             let next = put_named(row, out, at);
             put_soil(soil, now, then, out, next)
         }
+        Reason::ScatteredTrees { row, code, edition } => {
+            let next = put_named(row, out, at);
+            put_two(b"unit_code edition ", code, edition, out, next)
+        }
         _ => at,
     }
 }

@@ -42,8 +42,8 @@ use Rattle.steps.proofs.Told.{verdict-told, written-told, figures-told, doubles
 use Rattle.promises.specs.Order.{numbers, ByOrder, by-order, Coded, by-code}
 
 -- ---- the orders
--- "Sheets and doubles: 1 to 8", and "01's order closes over" 8; 12 is "tried straight after 7", and 13 "straight after 12"
-pub sheets-numbers : (s : List ℕ) → numbers (rules s) ≡ 1 ∷ 2 ∷ 3 ∷ 4 ∷ 5 ∷ 6 ∷ 7 ∷ 12 ∷ 13 ∷ []
+-- "Sheets and doubles: 1 to 8", and "01's order closes over" 8; 14 is tried "straight after 6", 12 "straight after 7", and 13 "straight after 12"
+pub sheets-numbers : (s : List ℕ) → numbers (rules s) ≡ 1 ∷ 2 ∷ 3 ∷ 4 ∷ 5 ∷ 6 ∷ 14 ∷ 7 ∷ 12 ∷ 13 ∷ []
 unfolding numbers blockRules
 sheets-numbers s = refl
 
@@ -52,18 +52,18 @@ pub never-8 : (s : List ℕ) (p : ℕ) → verdictOf s ≡ verdict.Refused 8 p �
 unfolding blockRules
 never-8 s p e = absurd (omega (arith, broken-at s 8 e refl .inside))
 
--- "Reading: 1 to 9", but 8, with 12 and 13 straight after 7
-pub read-numbers : (s room : List ℕ) → numbers (readRules s room) ≡ 1 ∷ 2 ∷ 3 ∷ 4 ∷ 5 ∷ 6 ∷ 7 ∷ 12 ∷ 13 ∷ 9 ∷ []
+-- "Reading: 1 to 9", but 8, with 14 straight after 6, and 12 and 13 straight after 7
+pub read-numbers : (s room : List ℕ) → numbers (readRules s room) ≡ 1 ∷ 2 ∷ 3 ∷ 4 ∷ 5 ∷ 6 ∷ 14 ∷ 7 ∷ 12 ∷ 13 ∷ 9 ∷ []
 unfolding numbers blockRules
 read-numbers s room = refl
 
--- "Writing: 10, then 5 to 9", but 8, with 12 and 13 straight after 7
-pub write-numbers : (edition : ℕ) (lengths rows room : List ℕ) → numbers (writeRules edition lengths rows room) ≡ 10 ∷ 5 ∷ 6 ∷ 7 ∷ 12 ∷ 13 ∷ 9 ∷ []
+-- "Writing: 10, then 5 to 9", but 8, with 14 straight after 6, and 12 and 13 straight after 7
+pub write-numbers : (edition : ℕ) (lengths rows room : List ℕ) → numbers (writeRules edition lengths rows room) ≡ 10 ∷ 5 ∷ 6 ∷ 14 ∷ 7 ∷ 12 ∷ 13 ∷ 9 ∷ []
 unfolding numbers listRules
 write-numbers edition lengths rows room = refl
 
 -- §7: "those of the sheets, then 11 for a subtotal's code above 2"
-pub heaviest-numbers : (s : List ℕ) (code : ℕ) → numbers (heaviestRules s code) ≡ 1 ∷ 2 ∷ 3 ∷ 4 ∷ 5 ∷ 6 ∷ 7 ∷ 12 ∷ 13 ∷ 11 ∷ []
+pub heaviest-numbers : (s : List ℕ) (code : ℕ) → numbers (heaviestRules s code) ≡ 1 ∷ 2 ∷ 3 ∷ 4 ∷ 5 ∷ 6 ∷ 14 ∷ 7 ∷ 12 ∷ 13 ∷ 11 ∷ []
 unfolding numbers blockRules
 heaviest-numbers s code = refl
 
@@ -111,27 +111,27 @@ heaviest-by-order s code = by-order (namedBy s code) (named-told s code) (heavie
 
 -- ---- from C
 -- "from C, then 11 and last 9"
-pub c-judge-numbers : (s counts : List ℕ) → numbers (judgeRules s counts) ≡ 1 ∷ 2 ∷ 3 ∷ 4 ∷ 5 ∷ 6 ∷ 7 ∷ 12 ∷ 13 ∷ 9 ∷ []
+pub c-judge-numbers : (s counts : List ℕ) → numbers (judgeRules s counts) ≡ 1 ∷ 2 ∷ 3 ∷ 4 ∷ 5 ∷ 6 ∷ 14 ∷ 7 ∷ 12 ∷ 13 ∷ 9 ∷ []
 unfolding numbers blockRules
 c-judge-numbers s counts = refl
 
-pub c-subtotal-numbers : (s : List ℕ) (code : ℕ) (room : List ℕ) → numbers (subtotalRules s code room) ≡ 1 ∷ 2 ∷ 3 ∷ 4 ∷ 5 ∷ 6 ∷ 7 ∷ 12 ∷ 13 ∷ 11 ∷ 9 ∷ []
+pub c-subtotal-numbers : (s : List ℕ) (code : ℕ) (room : List ℕ) → numbers (subtotalRules s code room) ≡ 1 ∷ 2 ∷ 3 ∷ 4 ∷ 5 ∷ 6 ∷ 14 ∷ 7 ∷ 12 ∷ 13 ∷ 11 ∷ 9 ∷ []
 unfolding numbers blockRules
 c-subtotal-numbers s code room = refl
 
-pub c-heaviest-numbers : (s : List ℕ) (code : ℕ) (room : List ℕ) → numbers (heaviestRulesC s code room) ≡ 1 ∷ 2 ∷ 3 ∷ 4 ∷ 5 ∷ 6 ∷ 7 ∷ 12 ∷ 13 ∷ 11 ∷ 9 ∷ []
+pub c-heaviest-numbers : (s : List ℕ) (code : ℕ) (room : List ℕ) → numbers (heaviestRulesC s code room) ≡ 1 ∷ 2 ∷ 3 ∷ 4 ∷ 5 ∷ 6 ∷ 14 ∷ 7 ∷ 12 ∷ 13 ∷ 11 ∷ 9 ∷ []
 unfolding numbers blockRules
 c-heaviest-numbers s code room = refl
 
-pub c-figures-numbers : (s room : List ℕ) → numbers (figuresRules s room) ≡ 1 ∷ 2 ∷ 3 ∷ 4 ∷ 5 ∷ 6 ∷ 7 ∷ 12 ∷ 13 ∷ 9 ∷ []
+pub c-figures-numbers : (s room : List ℕ) → numbers (figuresRules s room) ≡ 1 ∷ 2 ∷ 3 ∷ 4 ∷ 5 ∷ 6 ∷ 14 ∷ 7 ∷ 12 ∷ 13 ∷ 9 ∷ []
 unfolding numbers blockRules
 c-figures-numbers s room = refl
 
-pub c-read-numbers : (s rows counts : List ℕ) → numbers (readRulesC s rows counts) ≡ 1 ∷ 2 ∷ 3 ∷ 4 ∷ 5 ∷ 6 ∷ 7 ∷ 12 ∷ 13 ∷ 9 ∷ []
+pub c-read-numbers : (s rows counts : List ℕ) → numbers (readRulesC s rows counts) ≡ 1 ∷ 2 ∷ 3 ∷ 4 ∷ 5 ∷ 6 ∷ 14 ∷ 7 ∷ 12 ∷ 13 ∷ 9 ∷ []
 unfolding numbers blockRules
 c-read-numbers s rows counts = refl
 
-pub c-write-numbers : (edition : ℕ) (rows lengths room size : List ℕ) → numbers (writeRulesC edition rows lengths room size) ≡ 10 ∷ 5 ∷ 6 ∷ 7 ∷ 12 ∷ 13 ∷ 9 ∷ []
+pub c-write-numbers : (edition : ℕ) (rows lengths room size : List ℕ) → numbers (writeRulesC edition rows lengths room size) ≡ 10 ∷ 5 ∷ 6 ∷ 14 ∷ 7 ∷ 12 ∷ 13 ∷ 9 ∷ []
 unfolding numbers listRules
 c-write-numbers edition rows lengths room size = refl
 

@@ -2,31 +2,31 @@
 -- those rows; an accepted return, read and written again, is the same bytes."
 use Prim.Native.Nat.{ℕ, suc, _+_, _-_, _*_, _^_, _<_, _≤_}
 use mathlib.Core.Path.{_≡_, refl, sym, ap, subst, _∙_}
-use mathlib.Core.Bool.{cond}
-use mathlib.Core.List.{List}
+use mathlib.Core.Bool.{false, cond}
+use mathlib.Core.List.{List, []}
 use native.Mathlib.Omega.{arith}
 use lib.ListN.{length, getD}
-use lib.Dec.{ltb, lit<}
+use lib.Dec.{ltb, eqb, lit<}
 use lib.IntN.{ℤ, pos, negℤ, _-ℤ_, _*ℤ_}
 use Rattle.form.specs.Ruling.{onFront}
 use Rattle.form.specs.Layout.{kinds}
 use Rattle.form.specs.Bytes.{byteAt}
-use Rattle.form.specs.Records.{areaOf, before, after, onsite, onsiteOxidised, onsiteCarbon, offsite, offsiteOxidised, offsiteCarbon, tenYearArea, tenYearBefore, tenYearAfter, decay, decayCarbon, countedDifference, difference, tenYearDifference}
+use Rattle.form.specs.Records.{unitCode, filedRows, areaOf, before, after, onsite, onsiteOxidised, onsiteCarbon, offsite, offsiteOxidised, offsiteCarbon, tenYearArea, tenYearBefore, tenYearAfter, decay, decayCarbon, countedDifference, difference, tenYearDifference}
 use Rattle.form.proofs.Periods.{thinner-none, plain}
 use Rattle.form.specs.Verdict.{rows, countsOf, countIn, verdictOf}
 use Rattle.form.specs.declared.Counts.{Counts}
 use Rattle.form.specs.declared.Verdict.the-variants.{Accepted}
-use Rattle.filing.specs.Lists.{rowsIn}
+use Rattle.filing.specs.Lists.{cut, rowsIn, filedLists}
 use Rattle.rows.specs.Reading.{readAnswer, roomAfter, lengthsOf}
 use Rattle.rows.specs.Writing.{writeAnswer, bytesAfter}
 use Rattle.rows.specs.declared.Written.the-variants.{Done}
-use Rattle.trips.proofs.Again.{returned, read-accepted, read-edition, read-counts, read-rows, leftBehind, write-done, write-same}
-use Rattle.standing.proofs.Accepted.{formed}
+use Rattle.trips.proofs.Again.{returned, read-accepted, read-edition, read-counts, read-scattered, read-rows, leftBehind, write-done, write-same}
+use Rattle.standing.proofs.Accepted.{formed, formed-counts}
 use Rattle.wide.specs.Numbers.{value}
 use Rattle.wide.specs.Signs.{amount, signedOf, nearestZ}
 use Rattle.wide.proofs.Laws.{value-words}
 use Rattle.wide.proofs.SignLaws.{nearest-turned, form-holds}
-use Rattle.form.specs.Sums.{sumOf, commercial, tonnesPerM3, fuelwood, otherUse, areaNow, areaThen, harvestPart, clearedPart}
+use Rattle.form.specs.Sums.{sumOf, scatteredPart, scatteredIn, commercial, tonnesPerM3, fuelwood, otherUse, areaNow, areaThen, harvestPart, clearedPart}
 use Rattle.totals.specs.Columns.{rate, stockAmount, stockCarbon, stockPart, onsitePart, offsitePart, decayPart, thinnerPart, thinnerTotal}
 use Rattle.totals.specs.Sums.{totalsOf}
 use Rattle.totals.proofs.Accepted.{columns-small}
@@ -49,6 +49,7 @@ use Rattle.gathered.specs.Gathered.{ledgerIn}
 use Rattle.worksheets.specs.declared.sheets.Parameters.{Parameters}
 use Rattle.worksheets.specs.declared.sheets.Abandoned.{Abandoned}
 use Rattle.steps.proofs.Figures.{part, product, products}
+use Rattle.steps.proofs.Scattered.{scattered-le}
 use Rattle.promises.specs.Rounding.{Rounded, rounds, rounds-net, rounds-plain}
 
 -- "its difference counts as 0": what a period counts with, by its densities before and after, in every column below and in the doubles
@@ -85,6 +86,10 @@ pub record Sheet5-2 (s : List ℕ) (v : Conversion) : Type 0 where
 -- "the number of (row, period) pairs with after above before"
 abbrev pub thinnerPairs : List ℕ → ℕ
 thinnerPairs s = sumOf (λ r. cond (ltb (before r) (after r)) 1 0 + cond (ltb (tenYearBefore r) (tenYearAfter r)) 1 0) (rows 1 s)
+
+-- "how many such rows there were": of the stock rows, those with unit code 1
+abbrev pub scatteredRows : List ℕ → ℕ
+scatteredRows s = sumOf (λ r. cond (eqb (unitCode r) 1) 1 0) (rows 2 s)
 
 -- "5-3, from on-site carbon only"; the parameter row gives the ratios
 pub record Sheet5-3 (c : ℕ) (p : Parameters) (v : Gases) : Type 0 where
@@ -190,6 +195,19 @@ figures-5-5 s =
     let e = form-holds z .number in
     record { soil = e; change = subst (λ (x : ℤ). Rounded z (20 * 10 ^ 4) (amount (signedOf (nearestZ x (20 * 10 ^ 4))))) (sym e) (rounds-net z (20 * 10 ^ 4) (lit< tt)) }
 
+-- the rows of scattered trees, as a figure and in the answer's counts
+pub figures-scattered : (s : List ℕ) → value (figuresOf (byKind s) .scattered .0) ≡ scatteredRows s
+unfolding scatteredPart
+figures-scattered s = value-words (scatteredRows s) .number
+
+pub counts-scattered : (s : List ℕ) (c : Counts) → verdictOf s ≡ Accepted c → c .scattered ≡ scatteredRows s
+unfolding scatteredPart
+counts-scattered s c accepted = ap (λ (x : Counts). x .scattered) (formed-counts s c (formed s c accepted))
+
+-- no more of them than stock rows
+pub few-scattered : (s : List ℕ) (c : Counts) → verdictOf s ≡ Accepted c → c .scattered ≤ c .stock
+few-scattered s c accepted = scattered-le s c accepted
+
 -- no sum overflows: 32 stocks of at most 2.7 x 10^16 are below 2^60, so either sum is one word
 pub soils-fit : (s : List ℕ) (c : Counts) → verdictOf s ≡ Accepted c → (stocksNow s < 2 ^ 60) × (stocksThen s < 2 ^ 60)
 unfolding soilCarbon stockNow stockThen
@@ -197,11 +215,12 @@ soils-fit s c accepted = let w = sums-small s c (formed s c accepted) in (omega 
 
 -- ---- "Good rows written as a return read back as those rows"
 -- Whatever write answers other than a refusal: the bytes that it left at the front of its room, read to any room that is long enough for the rows, are
--- accepted with the edition that they were written in and the counts of the rows, and the rows, kind after kind, stand at the front of that room.
+-- accepted with the edition that they were written in and the counts of the rows, of scattered trees too, and the rows, kind after kind, stand at the front of that room.
 pub record ReadsBack (edition : ℕ) (lengths rows : List ℕ) (s room : List ℕ) : Type 0 where
   pub accepted : readAnswer s room ≡ Accepted (countsOf s)
   pub same-edition : countsOf s .edition ≡ edition
   pub counts : (k : ℕ) → k < kinds → countIn (countsOf s) (suc k) ≡ rowsIn (suc k) (getD lengths k 0)
+  pub scattered : countsOf s .scattered ≡ scatteredIn (filedRows (filedLists (cut lengths rows)) 2)
   pub front : roomAfter s room (Accepted (countsOf s)) ≡ onFront rows room
 
 pub written-reads-back : (edition : ℕ) (lengths rows bytes : List ℕ) (n : ℕ) → writeAnswer edition lengths rows bytes ≡ Done n
@@ -210,6 +229,7 @@ written-reads-back edition lengths rows bytes n done room long = record {
   accepted = read-accepted edition lengths rows bytes n done room long;
   same-edition = read-edition edition lengths rows bytes n done;
   counts = read-counts edition lengths rows bytes n done;
+  scattered = read-scattered edition lengths rows bytes n done;
   front = read-rows edition lengths rows bytes n done room (countsOf (returned edition lengths rows bytes n));
 }
 

@@ -1,13 +1,15 @@
 -- §7. "A small tool takes a return and says, for a refusal, the number, the place and the values that clash .. Values that stand in the return are proved to be those at that place,
 -- a computed one to follow its rule in 01, and no earlier number, or lower place under that number, to be at fault."
 -- §8. "The explaining tool then shows 100K and L." §11: for 13 the soil type and its two area sums; the place is that of its own sentence.
+-- §12: for 14 the unit code and the edition.
 use Prim.Native.Nat.{ℕ, _*_, _<_, _≤_}
 use mathlib.Core.Path.{_≡_, refl, ap}
 use mathlib.Core.List.{List, _++_}
 use borrow.Author.Tests.{le-ltb}
 use lib.ListN.{length, drop}
 use Rattle.form.specs.Ruling.{ruling}
-use Rattle.form.specs.Records.{filed}
+use Rattle.form.specs.Block.{edition}
+use Rattle.form.specs.Records.{filed, unitCode}
 use Rattle.form.specs.Sums.{columnK, columnL, soilType, sumNow, sumThen}
 use Rattle.form.specs.Verdict.{rules, rows, verdictOf}
 use Rattle.form.specs.declared.Counts.{Counts}
@@ -29,11 +31,11 @@ use Rattle.faults.specs.declared.Fault.the-variants.{Fourth}
 use Rattle.reasons.specs.declared.Header.{Header}
 use Rattle.reasons.specs.declared.Reason.{Reason}
 use Rattle.reasons.specs.declared.Reason.the-variants.{BadBlock}
-use Rattle.naming.specs.RowLines.{namedLines, soilLines}
+use Rattle.naming.specs.RowLines.{namedLines, soilLines, treesLines}
 use Rattle.wording.specs.Wording.{woodLines, valueLines}
 use Rattle.explained.specs.Explained.{explanationOf, rulingOf, weightsLines, explainedText, explained}
 use Rattle.explained.specs.declared.Explanation.the-variants.{Accepted, Refused}
-use Rattle.explained.proofs.Laws.{accepted-explained, ruling-explained, refused-explained, refused-text, values-stand, fourth-never, wood-place, wood-above, wood-text, soil-place, soil-text}
+use Rattle.explained.proofs.Laws.{accepted-explained, ruling-explained, refused-explained, refused-text, values-stand, fourth-never, wood-place, wood-above, wood-text, soil-place, soil-text, trees-place, trees-text}
 use Rattle.reasons.proofs.Explains.{reason-told}
 use Rattle.reasons.proofs.Unexplained.{unexplained}
 use Rattle.door.specs.Door.{sizeOf}
@@ -109,6 +111,19 @@ pub record SoilTold (s : List ℕ) (p type : ℕ) : Type 0 where
 
 pub explained-soil : (s : List ℕ) (p : ℕ) → verdictOf s ≡ verdict.Refused 13 p → SoilTold s p (soilType (filed s .row p))
 explained-soil s p e = record { place = soil-place s e; text = soil-text s e }
+
+-- where 14 is given, the row at the place is a stock row of code 1 in edition 3, and behind `refused 14 PLACE` the text names that row and has its unit code and the
+-- edition, as they stand there, and no other line
+pub record TreesTold (s : List ℕ) (p : ℕ) : Type 0 where
+  pub stock-row : filed s .kind p ≡ 2
+  pub code-1 : unitCode (filed s .row p) ≡ 1
+  pub edition-3 : edition s 0 ≡ 3
+  pub text : explained s ≡ refusedLine 14 p ++ linesText (namedLines (rowNamed s p) ++ treesLines (unitCode (filed s .row p)) (edition s 0))
+
+pub explained-trees : (s : List ℕ) (p : ℕ) → verdictOf s ≡ verdict.Refused 14 p → TreesTold s p
+explained-trees s p e =
+    let t = trees-place s e in
+    record { stock-row = t .0; code-1 = t .1; edition-3 = t .2; text = trees-text s e }
 
 -- whatever the text is, the contracts of `explain_lines` and of `niloferq_explain` put it into room that is long enough: its length is answered, and it
 -- stands at the front

@@ -11,13 +11,15 @@ use lib.Seq.{take-at}
 use Rattle.form.specs.Bytes.{number, littleEndian}
 use Rattle.form.specs.Layout.{kinds}
 use Rattle.form.specs.Ruling.{tooShort, ruling, onFront}
+use Rattle.form.specs.Records.{filedRows}
+use Rattle.form.specs.Sums.{scatteredIn}
 use Rattle.form.specs.Verdict.{rules, rows, countsOf, countList, verdictOf}
 use Rattle.form.specs.declared.Counts.{Counts}
 use Rattle.form.specs.declared.Ruling.the-variants.{Clean}
 use Rattle.form.specs.declared.Verdict.the-variants.{Accepted}
 use Rattle.form.proofs.Order.{kept-before, one-kept, long-enough, clean-ruling}
 use Rattle.standing.proofs.Accepted.{formed, formed-counts, accepted-ruling}
-use Rattle.filing.specs.Lists.{cut, total, rowsIn}
+use Rattle.filing.specs.Lists.{cut, total, rowsIn, filedLists}
 use Rattle.rows.specs.Reading.{areaTo, lengthsFrom, lengthsOf}
 use Rattle.rows.specs.Writing.{written, writeRules, writeAnswer, bytesAfter}
 use Rattle.rows.specs.declared.Written.the-variants.{Done}
@@ -29,7 +31,7 @@ use Rattle.wide.specs.Numbers.{value}
 use Rattle.doubles.specs.Subtotals.{subtotalsOf}
 use Rattle.nearness.specs.Near.{Near}
 use Rattle.listed.specs.Listed.{figureNumbers, numbersRoom}
-use Rattle.counted.specs.Counts.{judgeCall, countsJudged}
+use Rattle.counted.specs.Counts.{held, countsRoom, judgeCall, countsJudged}
 use Rattle.tabled.specs.Figures.{figuresAnswer, figuresTold}
 use Rattle.charted.specs.Subtotal.{subtotalCall, doubleBy, bitsTold}
 use Rattle.handed.specs.Rows.{readCall, rowsRead, countsRead, writeCall, blocksWritten, sizeWritten}
@@ -48,12 +50,12 @@ module _ (s : List ℕ) (c : Counts) (accepted : verdictOf s ≡ Accepted c) whe
   clean : ruling (rules s) ≡ Clean
   clean = accepted-ruling s c accepted
 
-  -- niloferq_judge: the edition, then the rows of each kind
-  pub c-judge-told : (room : List ℕ) → suc kinds ≤ length room
-      → (codeOf (judgeCall s room) ≡ 0) × (countsJudged s room ≡ onFront (c .edition ∷ countList c) room)
+  -- niloferq_judge: the edition, then the rows of each kind, last the rows of scattered trees
+  pub c-judge-told : (room : List ℕ) → countsRoom ≤ length room
+      → (codeOf (judgeCall s room) ≡ 0) × (countsJudged s room ≡ onFront (c .edition ∷ (countList c ++ (c .scattered ∷ []))) room)
   c-judge-told room h =
-      rw (kept-before (rules s) (tooShort (suc kinds) room ∷ []) clean ∙ long-enough (suc kinds) room h)
-      (refl, ap (λ (x : Counts). onFront (x .edition ∷ countList x) room) (sym counts-are))
+      rw (kept-before (rules s) (tooShort countsRoom room ∷ []) clean ∙ long-enough countsRoom room h)
+      (refl, ap (λ (x : Counts). onFront (held x) room) (sym counts-are))
 
   -- niloferq_figures: the figures of the sheets, in the order of the lines
   pub c-figures-told : (room : List ℕ) → numbersRoom ≤ length room
@@ -82,11 +84,11 @@ module _ (s : List ℕ) (c : Counts) (accepted : verdictOf s ≡ Accepted c) whe
     c-demand-3 = let d = demand-3 s c accepted in rw c-subtotal-read (by-code-holds (Near (c .conversion)) code (d .onsite) (d .offsite) (d .decay))
 
   -- niloferq_read: the rows, kind after kind; and in the other room what the judge leaves there
-  pub c-read-told : (area counts : List ℕ) → length (areaTo s kinds) ≤ length area → suc kinds ≤ length counts
+  pub c-read-told : (area counts : List ℕ) → length (areaTo s kinds) ≤ length area → countsRoom ≤ length counts
       → (codeOf (readCall s area counts) ≡ 0) × (rowsRead s area counts ≡ onFront (areaTo s kinds) area)
-      × (countsRead s area counts ≡ onFront (c .edition ∷ countList c) counts)
+      × (countsRead s area counts ≡ onFront (c .edition ∷ (countList c ++ (c .scattered ∷ []))) counts)
   c-read-told area counts l h =
-      rw (read-kept s area counts clean l h) (refl, refl, ap (λ (x : Counts). onFront (x .edition ∷ countList x) counts) (sym counts-are))
+      rw (read-kept s area counts clean l h) (refl, refl, ap (λ (x : Counts). onFront (held x) counts) (sym counts-are))
 
 -- niloferq_write, where it gets back 0: the blocks, and their number of bytes
 module _ (edition : ℕ) (area lengths room size : List ℕ) where
@@ -104,6 +106,7 @@ pub record ReadsBackC (edition : ℕ) (lengths rows s area counts : List ℕ) : 
   pub code : codeOf (readCall s area counts) ≡ 0
   pub same-edition : getD (countsRead s area counts) 0 0 ≡ edition
   pub counted : (k : ℕ) → k < kinds → getD (countsRead s area counts) (suc k) 0 ≡ rowsIn (suc k) (getD lengths k 0)
+  pub scattered : getD (countsRead s area counts) (suc kinds) 0 ≡ scatteredIn (filedRows (filedLists (cut lengths rows)) 2)
   pub front : rowsRead s area counts ≡ onFront rows area
 
 module _ (edition : ℕ) (rows lengths room size : List ℕ) (zero : codeOf (writeCall edition rows lengths room size) ≡ 0) where
@@ -112,7 +115,7 @@ module _ (edition : ℕ) (rows lengths room size : List ℕ) (zero : codeOf (wri
       bytesLeft (blocksWritten edition rows lengths room size) (sizeWritten edition rows lengths room size) ≡ returned edition lengths rows room n
   left = let t = c-write-told edition rows lengths room size zero in rw (t .0, t .1)
 
-  pub c-written-reads-back : (area counts : List ℕ) → length rows ≤ length area → suc kinds ≤ length counts
+  pub c-written-reads-back : (area counts : List ℕ) → length rows ≤ length area → countsRoom ≤ length counts
       → ReadsBackC edition lengths rows (bytesLeft (blocksWritten edition rows lengths room size) (sizeWritten edition rows lengths room size)) area counts
   unfolding kinds
   c-written-reads-back area counts long h =
@@ -125,7 +128,8 @@ module _ (edition : ℕ) (rows lengths room size : List ℕ) (zero : codeOf (wri
       (record {
         code = ap codeOf k;
         same-edition = rw k (r .same-edition);
-        counted = λ i l. rw k (List·getD-append (countList (countsOf s)) (drop (suc kinds) counts) 0 i l ∙ r .counts i l);
+        counted = λ i l. rw k (List·getD-append (countList (countsOf s)) (countsOf s .scattered ∷ drop countsRoom counts) 0 i l ∙ r .counts i l);
+        scattered = rw k (r .scattered);
         front = rw k (r .front);
       })
 
@@ -163,5 +167,5 @@ c-read-writes-back s small area counts zero room size long h =
     let c = countsOf s in
     let k = clean-ruling (c-read-by-order s area counts .answered-by .0 zero) in
     let r = read-writes-back s small area c (read-answered s area counts k) room long in
-    let e : take kinds (countList c ++ drop (suc kinds) counts) ≡ countList c = take-at (countList c) (drop (suc kinds) counts) kinds refl in
+    let e : take kinds (countList c ++ (c .scattered ∷ drop countsRoom counts)) ≡ countList c = take-at (countList c) (c .scattered ∷ drop countsRoom counts) kinds refl in
     rw (k, e) (written-from s (c .edition) (leftBehind s area c) (lengthsOf c) room size (r .done) (r .front) h)

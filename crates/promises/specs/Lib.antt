@@ -8,7 +8,7 @@
 --     Lent        what is lent as `&[u8]` is bytes, so that the round trips ask nothing of running code
 --     Wood        no accepted return clears more wood than it uses, so M and O are never below zero
 --     Soils       in an accepted return each soil type has as much land now as twenty years ago; else 13, at the first row of the lowest type that has not
---     Editions    edition 1 returns are read as before, but for 12
+--     Editions    edition 1 returns are read as before, but for 12; editions 1 and 2 as before there was a third, which is edition 2 without scattered trees
 --     Adding      the check is the last total of a department's adding sheet
 --     Table52     a lookup answers the printed entry of table 5-2, or which number is off it
 --     Heaviest    the row that is named has the largest part in a subtotal, and the lower id on a tie; none is named where the subtotal is zero

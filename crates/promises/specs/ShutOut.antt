@@ -37,7 +37,7 @@ not-always-refused h = let r = h (nth 1 .bytes) in worked-not-refused _ (r .0) (
 pub judge-not-always-refused : ((s : List ℕ) → (n : ℕ) × (p : ℕ) × (verdictOf s ≡ Refused n p)) → ⊥
 judge-not-always-refused h = not-always-refused (λ s. let r = h s in (r .0, r .1, ap (outcomeBy s) (r .2)))
 
--- "one with a fixed figure": no figure of the printed list, by its place, is the same for every return; the worked day with a row each of grass, abandoned land and savanna and two of soil, and the lone block of zero values differ in each
+-- "one with a fixed figure": no figure of the printed list, by its place, is the same for every return; the worked day with a row each of grass, scattered trees, abandoned land and savanna and two of soil, and the lone block of zero values differ in each
 pub no-fixed-figure : (i : ℕ) → i < figureCount → (x : ℤ) → ((s : List ℕ) (v : Figures) → outcomeOf s ≡ worked v → amount (figureAt (listed v) i .value) ≡ x) → ⊥
 no-fixed-figure i l x always = each-differs i l (always (nth landCase .bytes) _ land-answered ∙ sym (always (nth 1 .bytes) _ lone-answered))
 
@@ -63,7 +63,7 @@ not-the-first-block h = let e : _≡_ {A = ℕ} 320000000000000000000 (12 * 10 ^
 pub zero-double : (n exact : ℕ) → n ≤ 32 → Near n (double 0) exact → exact ≡ 0
 zero-double n exact h near = near-zero n exact h near
 
--- "An invented n or row count breaks demand 2": the counts are the sums of the kinds' counts
+-- "An invented n or row count breaks demand 2": the counts are the sums of the kinds' counts, and that of scattered trees is of the stock rows with unit code 1
 pub no-invented-count : (s : List ℕ) (c : Counts) → verdictOf s ≡ Accepted c → c ≡ countsOf s
 no-invented-count s c e = formed-counts s c (formed s c e)
 

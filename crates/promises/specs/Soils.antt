@@ -23,7 +23,7 @@ accepted-even = even-good
 pub refused-13 : (s : List ℕ) (p : ℕ) → verdictOf s ≡ verdict.Refused 13 p → FirstOfLowest (filed s) p (soilType (filed s .row p))
 refused-13 = soil-refused
 
--- and of a return that keeps 1 to 7 and 12: refused there, where a row is that first one; accepted, where every soil type is even
+-- and of a return that keeps 1 to 7, 14 and 12: refused there, where a row is that first one; accepted, where every soil type is even
 pub uneven-refused : (s : List ℕ) (c : Counts) → Formed s c → columnL (rows 1 s) ≤ 100 * columnK (rows 3 s)
     → (p type : ℕ) → FirstOfLowest (filed s) p type → verdictOf s ≡ verdict.Refused 13 p
 unfolding verdictOf

@@ -29,7 +29,7 @@ refused-12 = wood-refused
 pub accepted-wood : (s : List ℕ) (c : Counts) → verdictOf s ≡ Accepted c → columnL (rows 1 s) ≤ 100 * columnK (rows 3 s)
 accepted-wood = wood-good
 
--- and of a return that keeps 1 to 7 either is so; "equality still good": what may still refuse it is 13
+-- and of a return that keeps 1 to 7 and 14 either is so; "equality still good": what may still refuse it is 13
 pub more-cleared-refused : (s : List ℕ) (c : Counts) → Formed s c → 100 * columnK (rows 3 s) < columnL (rows 1 s) → verdictOf s ≡ Refused 12 0
 unfolding verdictOf
 more-cleared-refused s c f h = ap (verdictBy s) (wood-stops s (formRules s) (f .clean) h)

@@ -11,7 +11,7 @@ use borrow.Author.Tests.{ltb-true, eqb-true, eqb-false, not-true}
 use lib.Dec.{eqb}
 use lib.ListN.{length}
 use Rattle.form.specs.Layout.{layout}
-use Rattle.form.specs.Block.{blocks, recordAt, badCheck, checkSaid, checkDue, badBlock}
+use Rattle.form.specs.Block.{blocks, edition, recordAt, badCheck, checkSaid, checkDue, badBlock}
 use Rattle.form.specs.Records.{filed, brokenBy, overspent}
 use Rattle.form.specs.Sums.{columnK, columnL, soilType}
 use Rattle.form.specs.Verdict.{rows, verdictOf}
@@ -19,6 +19,7 @@ use Rattle.form.specs.declared.Ruling.the-variants.{Broken}
 use Rattle.form.specs.declared.Verdict.the-variants.{Refused}
 use Rattle.form.proofs.Tests.{and-true, either}
 use Rattle.form.proofs.Tables.{id-number}
+use Rattle.form.proofs.SecondEdition.{first-scattered}
 use Rattle.areas.proofs.Balanced.{place-told}
 use Rattle.faults.specs.declared.Fault.the-variants.{Fourth}
 use Rattle.faults.specs.Faults.{faultOf, Faulty, fourth}
@@ -28,18 +29,19 @@ use Rattle.reasons.specs.declared.Header.{Header}
 use Rattle.reasons.specs.declared.Reason.{Reason}
 use Rattle.reasons.specs.declared.Reason.the-variants.{BadLength, BadBlock}
 use Rattle.reasons.specs.Above.{aboveFrom}
-use Rattle.reasons.specs.Reasons.{refusalOf, checkReason, headerReason, blockReason, rowNamed, idReason, limitReason, fractionsReason, woodReason, soilReason, reasonOf}
-use Rattle.reasons.specs.Explains.{RowStands, Explains, length-1, check-2, header-3, block-4, ids-5, field-6, fractions-7, wood-12, soils-13}
+use Rattle.reasons.specs.Reasons.{refusalOf, checkReason, headerReason, blockReason, rowNamed, idReason, limitReason, fractionsReason, woodReason, soilReason, treesReason, reasonOf}
+use Rattle.reasons.specs.Explains.{RowStands, Explains, length-1, check-2, header-3, block-4, ids-5, field-6, fractions-7, wood-12, soils-13, trees-14}
 use Rattle.reasons.proofs.Above.{above-there}
 use Rattle.reasons.proofs.Rows.{id-used, id-parts, id-order, row-stands}
-use Rattle.reasons.proofs.Refused.{at-length, at-check, at-header, at-block, at-id, at-field, at-fractions, at-wood, at-soil, last-number, known-kinds}
+use Rattle.reasons.proofs.Refused.{at-length, at-check, at-header, at-block, at-id, at-field, at-fractions, at-wood, at-soil, at-trees, last-number, known-kinds}
 
 module _ (s : List ℕ) {n p : ℕ} (e : verdictOf s ≡ Refused n p) where
   -- what is shown of the reason of each number is so of the refusal's
   by-number : (P : Reason → Type 0) → (n ≡ 1 → P (BadLength (length s))) → (n ≡ 2 → P (checkReason s p)) → (n ≡ 3 → P (headerReason s p)) → (n ≡ 4 → P (blockReason s p))
-      → (n ≡ 5 → P (idReason s p)) → (n ≡ 6 → P (limitReason s p)) → (n ≡ 7 → P (fractionsReason s p)) → (n ≡ 12 → P (woodReason s)) → (n ≡ 13 → P (soilReason s p)) → P (reasonOf s n p)
+      → (n ≡ 5 → P (idReason s p)) → (n ≡ 6 → P (limitReason s p)) → (n ≡ 7 → P (fractionsReason s p)) → (n ≡ 12 → P (woodReason s)) → (n ≡ 14 → P (treesReason s p)) → (n ≡ 13 → P (soilReason s p))
+      → P (reasonOf s n p)
   unfolding reasonOf
-  by-number P one two three four five six seven twelve thirteen =
+  by-number P one two three four five six seven twelve fourteen thirteen =
       either P (eqb n 1) (λ q. one (eqb-true n 1 q)) (λ a.
       either P (eqb n 2) (λ q. two (eqb-true n 2 q)) (λ b.
       either P (eqb n 3) (λ q. three (eqb-true n 3 q)) (λ c.
@@ -47,7 +49,8 @@ module _ (s : List ℕ) {n p : ℕ} (e : verdictOf s ≡ Refused n p) where
       either P (eqb n 5) (λ q. five (eqb-true n 5 q)) (λ f.
       either P (eqb n 6) (λ q. six (eqb-true n 6 q)) (λ g.
       either P (eqb n 7) (λ q. seven (eqb-true n 7 q)) (λ h.
-      either P (eqb n 12) (λ q. twelve (eqb-true n 12 q)) (λ i. thirteen (last-number s e a b c d f g h i)))))))))
+      either P (eqb n 12) (λ q. twelve (eqb-true n 12 q)) (λ i.
+      either P (eqb n 14) (λ q. fourteen (eqb-true n 14 q)) (λ j. thirteen (last-number s e a b c d f g h i j))))))))))
 
   -- the row that a number behind 3 names
   row-of : {m : ℕ} → n ≡ m → 3 < m → p < 12 * blocks s → filed s .used p ≡ true → RowStands s (rowNamed s p)
@@ -79,6 +82,9 @@ module _ (s : List ℕ) {n p : ℕ} (e : verdictOf s ≡ Refused n p) where
       fractions-7 (rowNamed s p) (row-of q (omega arith) (w .inside) (u .0)) (eqb-true (filed s .kind p) 1 (b .0)) (ltb-true 1000 _ (b .1)))
       (λ q. wood-12 (omega (arith, ltb-true (100 * columnK (rows 3 s)) (columnL (rows 1 s)) (at-wood s e q .broken))))
       (λ q.
+      let t = first-scattered (edition s 0) (filed s) p (at-trees s e q) in
+      trees-14 (rowNamed s p) (row-of q (omega arith) (t .inside) (t .used-there)) (t .stock-row) (t .code-1) (t .edition-3))
+      (λ q.
       let w = place-told (filed s) (at-soil s e q) in
       soils-13 (rowNamed s p) (soilType (filed s .row p)) (row-of q (omega arith) (w .inside) (w .used-there)) w)
 
@@ -93,6 +99,7 @@ module _ (s : List ℕ) {n p : ℕ} (e : verdictOf s ≡ Refused n p) where
       told
       told
       (λ q. ap₂ Broken (sym q) (omega (arith, at-wood s e q .inside)))
+      told
       told
     where
       told : {m : ℕ} → n ≡ m → Broken m p ≡ Broken n p

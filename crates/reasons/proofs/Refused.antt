@@ -1,6 +1,6 @@
 -- What a refusal says of its place, by its number: the rule's place, broken there and at no lower one. Assumes nothing.
---     at-length to at-soil    for each number; a new number is a new entry
---     last-number             a number that is none of 1 to 7 and 12 is 13
+--     at-length to at-trees    for each number; a new number is a new entry
+--     last-number             a number that is none of 1 to 7, 12 and 14 is 13
 --     known-kinds             behind number 3 every record is of a kind that there is
 --     wood-formed, soil-formed    where 12 or 13 is given, the return can be read row by row
 use Prim.Native.Nat.{ℕ, _*_, _/_, _<_, _≤_}
@@ -13,7 +13,7 @@ use lib.Dec.{eqb}
 use Rattle.form.specs.Ruling.{Rule, rule, ruling}
 use Rattle.form.specs.Layout.{kinds}
 use Rattle.form.specs.Block.{blocks, edition, badLength, badCheck, badHeader, badBlock}
-use Rattle.form.specs.Records.{filed, badId, brokenBy, fieldAbove, fractionsAbove}
+use Rattle.form.specs.Records.{filed, badId, brokenBy, fieldAbove, scatteredTrees, fractionsAbove}
 use Rattle.form.specs.Sums.{clearedAbove, soilUneven, sumRules}
 use Rattle.form.specs.Verdict.{blockRules, formRules, rules, rows, countsOf, Formed, verdictOf}
 use Rattle.form.specs.declared.Ruling.{Ruling}
@@ -74,10 +74,14 @@ module _ (s : List ℕ) {n p : ℕ} (e : verdictOf s ≡ Refused n p) where
   unfolding blockRules
   at-soil = broken-at s 13 e
 
-  pub last-number : eqb n 1 ≡ false → eqb n 2 ≡ false → eqb n 3 ≡ false → eqb n 4 ≡ false → eqb n 5 ≡ false → eqb n 6 ≡ false → eqb n 7 ≡ false → eqb n 12 ≡ false
-      → n ≡ 13
+  pub at-trees : n ≡ 14 → BrokenAt (rule 14 (12 * blocks s) (brokenBy (filed s) (edition s 0) scatteredTrees)) p
   unfolding blockRules
-  last-number a b c d f g h i = eqb-true n 13 (sym (or-false (eqb n 13)) ∙ rw (a, b, c, d, f, g, h, i) at (given-number s n p e))
+  at-trees = broken-at s 14 e
+
+  pub last-number : eqb n 1 ≡ false → eqb n 2 ≡ false → eqb n 3 ≡ false → eqb n 4 ≡ false → eqb n 5 ≡ false → eqb n 6 ≡ false → eqb n 7 ≡ false → eqb n 12 ≡ false
+      → eqb n 14 ≡ false → n ≡ 13
+  unfolding blockRules
+  last-number a b c d f g h i j = eqb-true n 13 (sym (or-false (eqb n 13)) ∙ rw (a, b, c, d, f, g, j, h, i) at (given-number s n p e))
 
   pub known-kinds : 3 < n → (j : ℕ) → j < 12 * blocks s → (0 < filed s .kind j) × (filed s .kind j ≤ kinds)
   known-kinds d j i =

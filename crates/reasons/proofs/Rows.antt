@@ -2,7 +2,8 @@
 --     id-used, id-parts, id-order    what rule 5 says of a place that breaks it; id-broken, what breaks it
 --     row-stands        what is so of the row that is named; row-there, the row by its numbers
 --     id-there          the id of the record at a place
---     fractions-there   the three fractions of a conversion row; limit-there, the first field above its limit; soil-there, the type and the sums of a soil row
+--     fractions-there   the three fractions of a conversion row; limit-there, the first field above its limit; soil-there, the type and the sums of a soil row;
+--     trees-there       the unit code of a stock row
 use Prim.Native.Nat.{ℕ, _+_, _-_, _*_, _/_, _%_, _<_, _≤_}
 use mathlib.Core.Path.{_≡_, refl, sym, ap, _∙_}
 use mathlib.Core.Bool.{true, not, _&&_}
@@ -12,7 +13,7 @@ use borrow.Author.Tests.{lt-ltb, le-leb, eq-eqb, ne-eqb, ltb-true, leb-true, eqb
 use lib.Dec.{ltb, leb, eqb}
 use Rattle.form.specs.Bytes.{number}
 use Rattle.form.specs.Layout.{kinds, parametersKind, layout, rowFrom, rowAt}
-use Rattle.form.specs.Block.{blocks, recordAt}
+use Rattle.form.specs.Block.{blocks, edition, recordAt}
 use Rattle.form.specs.Records.{Filed, filed, hasId, idOf, badId}
 use Rattle.form.proofs.Tests.{on, and-true}
 use Rattle.form.proofs.Tables.{id-number}
@@ -21,10 +22,10 @@ use Rattle.form.specs.Sums.{soilType, sumNow, sumThen}
 use Rattle.form.specs.Verdict.{rows}
 use Rattle.areas.specs.Areas.{areasOf}
 use Rattle.areas.specs.declared.Areas.{Areas}
-use Rattle.reasons.specs.declared.Reason.the-variants.{FractionsAbove, SoilUneven}
+use Rattle.reasons.specs.declared.Reason.the-variants.{FractionsAbove, SoilUneven, ScatteredTrees}
 use Rattle.reasons.specs.declared.records.Above.{Above}
 use Rattle.reasons.specs.Above.{aboveFrom}
-use Rattle.reasons.specs.Reasons.{rowNamed, limitBy, limitReason, fractionsBy, fractionsReason, soilBy, soilReason}
+use Rattle.reasons.specs.Reasons.{rowNamed, limitBy, limitReason, fractionsBy, fractionsReason, soilBy, soilReason, treesBy, treesReason}
 use Rattle.reasons.specs.Explains.{RowStands}
 
 pub id-used : (f : Filed) (j : ℕ) → badId f j ≡ true → f .used j ≡ true
@@ -89,3 +90,9 @@ pub soil-there : (s : List ℕ) (p : ℕ) {w : Row} {at t : ℕ} {a : Areas} →
 unfolding rowFrom
 soil-there s p k w e t a =
     rw (a, w) (ap (soilBy (rowNamed s p) (rows 7 s)) (rw (t, start-of p e) (ap (λ (n : ℕ). soilType (rowAt (layout n) s (recordAt (p / 12) (p % 12)))) (sym k))))
+
+pub trees-there : (s : List ℕ) (p : ℕ) {w : Row} {at c e : ℕ} → filed s .kind p ≡ 2 → w ≡ rowNamed s p → at ≡ recordAt (0 + p / 12) (p % 12)
+    → c ≡ number 1 s (at + 4) → e ≡ edition s 0 → ScatteredTrees w c e ≡ treesReason s p
+unfolding rowFrom
+trees-there s p k w e c d =
+    rw (w, c, d, start-of p e) (ap (λ (n : ℕ). treesBy (rowNamed s p) (rowAt (layout n) s (recordAt (p / 12) (p % 12))) (edition s 0)) (sym k))

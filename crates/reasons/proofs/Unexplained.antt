@@ -9,7 +9,7 @@ use borrow.Author.Tests.{eq-eqb, eqb-false, ltb-false, not-true}
 use lib.Dec.{ltb, leb, eqb}
 use Rattle.form.specs.Layout.{field, kinds, parametersKind, layout, aboveLimit}
 use Rattle.form.specs.Block.{blocks, edition, checkSaid, checkDue, badLength, badCheck, badHeader, badBlock}
-use Rattle.form.specs.Records.{filed, hasId, badId, brokenBy, fieldAbove, fractionsAbove, overspent, onsite, offsite, decay}
+use Rattle.form.specs.Records.{filed, hasId, unitCode, badId, brokenBy, fieldAbove, scatteredTrees, fractionsAbove, overspent, onsite, offsite, decay}
 use Rattle.form.specs.Sums.{columnK, columnL, clearedAbove, soilUneven}
 use Rattle.form.specs.Verdict.{blockRules, rules, rows, verdictOf}
 use Rattle.form.specs.declared.Counts.{Counts}
@@ -20,7 +20,7 @@ use Rattle.standing.proofs.Accepted.{accepted-ruling, limit-of}
 use Rattle.areas.proofs.Balanced.{kept-even}
 use Rattle.faults.proofs.First.{faulty-bad}
 use Rattle.reasons.specs.declared.Reason.{Reason}
-use Rattle.reasons.specs.Explains.{Explains, length-1, check-2, header-3, block-4, ids-5, field-6, fractions-7, wood-12, soils-13}
+use Rattle.reasons.specs.Explains.{Explains, length-1, check-2, header-3, block-4, ids-5, field-6, fractions-7, wood-12, soils-13, trees-14}
 use Rattle.reasons.proofs.Rows.{id-broken}
 
 -- a kind with an id is another than the parameters'
@@ -68,6 +68,10 @@ module _ (s : List ℕ) {c : Counts} (acc : verdictOf s ≡ Accepted c) where
   unfolding blockRules Kept
   soil-kept = kept 13
 
+  trees-kept : (j : ℕ) → j < 12 * blocks s → brokenBy (filed s) (edition s 0) scatteredTrees j ≡ false
+  unfolding blockRules Kept
+  trees-kept = kept 14
+
   pub unexplained : {r : Reason} → Explains s r → ⊥
   unfolding badCheck brokenBy
   unexplained (length-1 h) = false≢true (sym length-kept ∙ h)
@@ -91,3 +95,9 @@ module _ (s : List ℕ) {c : Counts} (acc : verdictOf s ≡ Accepted c) where
       absurd (omega (arith, ltb-false 1000 (onsite r + offsite r + decay r) spent, h))
   unexplained (wood-12 h) = absurd (omega (arith, ltb-false (100 * columnK (rows 3 s)) (columnL (rows 1 s)) wood-kept, h))
   unexplained (soils-13 w t r f) = f .differ (kept-even (filed s) soil-kept t)
+  unexplained (trees-14 w t k c e) =
+      let p = w .place in
+      let none = and-rest (filed s .used p) _ (t .used-there) (trees-kept p (t .inside)) in
+      let stock = and-rest (eqb (edition s 0) 3) _ (eq-eqb (edition s 0) 3 e) none in
+      let code = and-rest (eqb (filed s .kind p) 2) _ (eq-eqb (filed s .kind p) 2 (sym (t .kind-there) ∙ k)) stock in
+      eqb-false (unitCode (filed s .row p)) 1 code c

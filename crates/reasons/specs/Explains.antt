@@ -6,7 +6,7 @@ use mathlib.Core.List.{List}
 use lib.ListN.{length}
 use Rattle.form.specs.Layout.{kinds, parametersKind, layout}
 use Rattle.form.specs.Block.{blocks, edition, checkSaid, checkDue, badLength, badHeader}
-use Rattle.form.specs.Records.{filed, hasId, idOf, onsite, offsite, decay}
+use Rattle.form.specs.Records.{filed, hasId, unitCode, idOf, onsite, offsite, decay}
 use Rattle.form.specs.Sums.{columnK, columnL, sumNow, sumThen}
 use Rattle.form.specs.Verdict.{rows}
 use Rattle.areas.specs.Place.{FirstOfLowest}
@@ -15,7 +15,7 @@ use Rattle.faults.specs.Faults.{Faulty}
 use Rattle.reasons.specs.declared.records.Above.{Above}
 use Rattle.reasons.specs.declared.Row.{Row}
 use Rattle.reasons.specs.declared.Reason.{Reason}
-use Rattle.reasons.specs.declared.Reason.the-variants.{BadLength, BadCheck, BadHeader, BadBlock, IdBelow, FieldAbove, FractionsAbove, ClearedAbove, SoilUneven}
+use Rattle.reasons.specs.declared.Reason.the-variants.{BadLength, BadCheck, BadHeader, BadBlock, IdBelow, FieldAbove, FractionsAbove, ClearedAbove, SoilUneven, ScatteredTrees}
 use Rattle.reasons.specs.Above.{FirstAbove}
 use Rattle.reasons.specs.Reasons.{headerOf}
 
@@ -53,3 +53,6 @@ pub data Explains (s : List ℕ) : Reason → Type 0 where
   wood-12 : 100 * columnK (rows 3 s) < columnL (rows 1 s) → Explains s (ClearedAbove (100 * columnK (rows 3 s)) (columnL (rows 1 s)))
   -- 13: the row is the first of the lowest soil type whose two area sums differ; that type, and the sums
   soils-13 : (w : Row) (t : ℕ) → RowStands s w → FirstOfLowest (filed s) (w .place) t → Explains s (SoilUneven w t (sumNow (rows 7 s) t) (sumThen (rows 7 s) t))
+  -- 14: the unit code of a stock row, which is 1, and the edition, which is 3
+  trees-14 : (w : Row) → RowStands s w → w .kind ≡ 2 → unitCode (filed s .row (w .place)) ≡ 1 → edition s 0 ≡ 3
+      → Explains s (ScatteredTrees w (unitCode (filed s .row (w .place))) (edition s 0))

@@ -1,5 +1,6 @@
 -- §7. "says, for a refusal, the number, the place and the values that clash: the length, stored and computed check, the block's header or non-zero byte, the two ids,
--- the field and its limit, the sum of the fractions." §8: "The explaining tool then shows 100K and L."; §11: for 13 the soil type and its two area sums.
+-- the field and its limit, the sum of the fractions." §8: "The explaining tool then shows 100K and L."; §11: for 13 the soil type and its two area sums;
+-- §12: for 14 the unit code and the edition.
 use Prim.Native.Nat.{ℕ, _+_, _-_, _*_, _/_, _%_}
 use mathlib.Core.Bool.{cond}
 use mathlib.Core.List.{List}
@@ -8,7 +9,7 @@ use lib.Dec.{eqb}
 use Rattle.form.specs.Bytes.{number}
 use Rattle.form.specs.Layout.{layout}
 use Rattle.form.specs.Block.{blocks, kindOf, countOf, blockNumber, blocksSaid, edition, recordAt, checkSaid, checkDue}
-use Rattle.form.specs.Records.{filed, idOf, onsite, offsite, decay}
+use Rattle.form.specs.Records.{filed, unitCode, idOf, onsite, offsite, decay}
 use Rattle.form.specs.Sums.{columnK, columnL, soilType, sumNow, sumThen}
 use Rattle.form.specs.Verdict.{rows}
 use Rattle.form.specs.declared.Ruling.{Ruling}
@@ -18,7 +19,7 @@ use Rattle.reasons.specs.declared.records.Above.{Above}
 use Rattle.reasons.specs.declared.Header.{Header}
 use Rattle.reasons.specs.declared.Row.{Row}
 use Rattle.reasons.specs.declared.Reason.{Reason}
-use Rattle.reasons.specs.declared.Reason.the-variants.{BadLength, BadCheck, BadHeader, BadBlock, IdBelow, FieldAbove, FractionsAbove, ClearedAbove, SoilUneven}
+use Rattle.reasons.specs.declared.Reason.the-variants.{BadLength, BadCheck, BadHeader, BadBlock, IdBelow, FieldAbove, FractionsAbove, ClearedAbove, SoilUneven, ScatteredTrees}
 use Rattle.reasons.specs.Above.{aboveFrom}
 
 -- "a definition gives this paper's number and values for each of its cases": the number and the place of a reason
@@ -32,6 +33,7 @@ refusalOf (FieldAbove w i v l) = Broken 6 (w .place)
 refusalOf (FractionsAbove w n f d t) = Broken 7 (w .place)
 refusalOf (ClearedAbove u l) = Broken 12 0
 refusalOf (SoilUneven w t n o) = Broken 13 (w .place)
+refusalOf (ScatteredTrees w c e) = Broken 14 (w .place)
 
 -- the header of block b, as it stands there
 abbrev pub headerOf : List ℕ → ℕ → Header
@@ -83,6 +85,13 @@ soilBy w soils t = SoilUneven w t (sumNow soils t) (sumThen soils t)
 abbrev pub soilReason : List ℕ → ℕ → Reason
 soilReason s p = soilBy (rowNamed s p) (rows 7 s) (soilType (filed s .row p))
 
+-- 14: the row, its unit code, and the return's edition
+abbrev pub treesBy : Row → List ℕ → ℕ → Reason
+treesBy w r e = ScatteredTrees w (unitCode r) e
+
+abbrev pub treesReason : List ℕ → ℕ → Reason
+treesReason s p = treesBy (rowNamed s p) (filed s .row p) (edition s 0)
+
 -- the values that clash where number n is given at place p. A new number is a new line.
 unfoldable pub reasonOf : List ℕ → ℕ → ℕ → Reason
 reasonOf s n p =
@@ -94,4 +103,5 @@ reasonOf s n p =
     (cond (eqb n 6) (limitReason s p)
     (cond (eqb n 7) (fractionsReason s p)
     (cond (eqb n 12) (woodReason s)
-    (soilReason s p))))))))
+    (cond (eqb n 14) (treesReason s p)
+    (soilReason s p)))))))))

@@ -11,6 +11,7 @@ ghost use Rattle.reasons.specs.Reasons.{headerOf, checkReason, headerRea
 use crate::records::field_above;
 use crate::records::fractions_above;
 use crate::records::id_below;
+use crate::records::scattered_trees;
 use crate::records::soil_uneven;
 use balance::weigh_wood;
 use faults::Fault;
@@ -84,6 +85,11 @@ pub enum Reason {
         soil: u32,
         now: u64,
         then: u64,
+    },
+    ScatteredTrees {
+        row: Row,
+        code: u32,
+        edition: u32,
     },
 }
 
@@ -165,6 +171,7 @@ pub fn reason_of(bytes: &[u8], number: u8, place: u32) -> Reason
         6 => field_above(bytes, place),
         7 => fractions_above(bytes, place),
         12 => cleared_above(bytes),
+        14 => scattered_trees(bytes, place),
         _ => soil_uneven(bytes, place),
     }
 }

@@ -1,4 +1,4 @@
-// The values that clash in a record, by its place: numbers 5, 6, 7 and 13.
+// The values that clash in a record, by its place: numbers 5, 6, 7, 13 and 14.
 ghost use mathlib.Core.Path.{_≡_};
 ghost use mathlib.Core.Bool.{true};
 ghost use Prim.Native.Nat.{_+_, _*_, _^_, _≤_, _<_};
@@ -8,7 +8,7 @@ ghost use Rattle.form.specs.Block.{blocks};
 ghost use Rattle.form.specs.Records.{filed, badId};
 ghost use Rattle.reasons.specs.Above.{aboveFrom};
 ghost use Rattle.form.specs.Verdict.{countsOf, Formed};
-ghost use Rattle.reasons.specs.Reasons.{rowNamed, idReason, limitReason, fractionsReason, soilReason};
+ghost use Rattle.reasons.specs.Reasons.{rowNamed, idReason, limitReason, fractionsReason, soilReason, treesReason};
 use crate::Reason;
 use crate::Row;
 use areas::areas_of;
@@ -126,4 +126,15 @@ pub fn soil_uneven(bytes: &[u8], place: u32) -> Reason
         now: sums.now,
         then: sums.then,
     }
+}
+
+// 14: a stock row and its unit code; the edition is the whole return's.
+pub fn scattered_trees(bytes: &[u8], place: u32) -> Reason
+    requires { ⌜ (place < 12 * blocks (now bytes)) × (filed (now bytes) .kind place ≡ 2) ⌝ }
+    ensures { λ r. ⌜ r ≡ treesReason (now (bytes .entry)) place ⌝ }
+{
+    let row = row_named(bytes, place);
+    let code = byte_at(bytes, row_start(0, place as usize) + 4);
+    let edition = two_at(bytes, 6);
+    Reason::ScatteredTrees { row, code, edition }
 }

@@ -1,10 +1,10 @@
 -- A record rule at record r of block b, as the code tries it. Assumes nothing.
 --     tried, unused     a rule of one row, of a used and of an unused record; spared, a whole block whose kind it is not about
---     of-kind, other-kind    a rule about one kind's rows alone
+--     of-kind, other-kind    a rule about one kind's rows alone; other-edition, of one edition
 --     later, no-later   rule 5 of a later record, used and unused; no-ids, a block whose kind has no id
 use Prim.Native.Nat.{ℕ, zero, suc, _+_, _-_, _*_, _<_, _≤_}
-use mathlib.Core.Path.{_≡_, sym, ap, _∙_}
-use mathlib.Core.Bool.{Bool, true, false, not, _&&_, and-false}
+use mathlib.Core.Path.{_≡_, refl, sym, ap, _∙_}
+use mathlib.Core.Bool.{Bool, true, false, not, _&&_, _||_, and-false, false≢true}
 use mathlib.Core.List.{List}
 use native.Mathlib.Nat.{add-zero}
 use native.Mathlib.Omega.{arith}
@@ -28,6 +28,15 @@ of-kind m k t s at q = guarded (eqb k m) (λ e. q ∙ ap (λ (n : ℕ). t (rowAt
 pub other-kind : (m k : ℕ) (x : Bool) → not (eqb k m) ≡ true → (eqb k m && x) ≡ false
 other-kind m k x h = sym (off x (not-true (eqb k m) h))
 
+-- a test of the rows of kind m in edition a alone
+pub other-edition : (a e m k : ℕ) (x : Bool) → (not (eqb e a) || not (eqb k m)) ≡ true → (eqb e a && (eqb k m && x)) ≡ false
+other-edition a e m k x = go (eqb e a) (eqb k m)
+  where
+    go : (p q : Bool) → (not p || not q) ≡ true → (p && (q && x)) ≡ false
+    go false q h = refl
+    go true false h = refl
+    go true true h = absurd (false≢true h)
+
 module _ (s : List ℕ) (b : ℕ) where
   module _ (n : ℕ) where
     pub tried : {x : Bool} (r : ℕ) → r < 12 → r < countOf s b → x ≡ testNumbered n (edition s 0) (kindOf s b) (rowIn s b r) → rowTest n s (12 * b + r) ≡ x
@@ -36,10 +45,10 @@ module _ (s : List ℕ) (b : ℕ) where
     pub unused : (r : ℕ) → r < 12 → countOf s b ≤ r → rowTest n s (12 * b + r) ≡ false
     unused r l u = broken-at s b r l (edition s 0) (testNumbered n) ∙ sym (off _ (le-ltb r (countOf s b) u))
 
-    pub spared : {k : ℕ} {over : Bool} → Spared n k over → k ≡ kindOf s b → over ≡ true → first (λ r. rowTest n s (12 * b + r)) 12 ≡ Nowhere
-    spared p e h =
+    pub spared : {e k : ℕ} {over : Bool} → Spared n e k over → e ≡ edition s 0 → k ≡ kindOf s b → over ≡ true → first (λ r. rowTest n s (12 * b + r)) 12 ≡ Nowhere
+    spared p e k h =
         first-is-none _ 12
-        (λ r l. broken-at s b r l (edition s 0) (testNumbered n) ∙ rw (rw e at (p .kept h (edition s 0) (rowIn s b r))) (and-false (ltb r (countOf s b))))
+        (λ r l. broken-at s b r l (edition s 0) (testNumbered n) ∙ rw (rw (e, k) at (p .kept h (rowIn s b r))) (and-false (ltb r (countOf s b))))
 
   pub later : {x : Bool} (r : ℕ) → 0 < r → r < 12 → r < countOf s b → hasId (kindOf s b) ≡ true
       → x ≡ leb (number 4 s (recordAt b r)) (number 4 s (recordAt b (r - 1))) → badId (filed s) (12 * b + r) ≡ x

@@ -14,6 +14,6 @@ rowTest n s = brokenBy (filed s) (edition s 0) (testNumbered n)
 abbrev pub recordTest : ℕ → List ℕ → ℕ → Bool
 recordTest n s = testOf n (edition s 0) (filed s)
 
--- what is known of a rule and a kind that are passed over together: no row of the kind breaks the rule
-pub record Spared (n k : ℕ) (over : Bool) : Type 0 where
-  pub kept : over ≡ true → (edition : ℕ) (r : List ℕ) → testNumbered n edition k r ≡ false
+-- what is known of a rule, an edition and a kind that are passed over together: no row of the kind breaks the rule in the edition
+pub record Spared (n e k : ℕ) (over : Bool) : Type 0 where
+  pub kept : over ≡ true → (r : List ℕ) → testNumbered n e k r ≡ false

@@ -1,12 +1,12 @@
-// Rules 5 to 7: the records of a return, block by block over those that are used.
+// Rules 5, 6, 14 and 7: the records of a return, block by block over those that are used.
 ghost use mathlib.Core.Path.{_≡_};
 ghost use mathlib.Core.Bool.{false};
 ghost use Prim.Native.Nat.{_+_, _*_, _^_, _≤_, _<_, min};
 ghost use lib.ListN.{length};
 ghost use Rattle.form.specs.First.{first};
-ghost use Rattle.form.specs.Layout.{layout, conversion, rowAt, aboveLimit};
+ghost use Rattle.form.specs.Layout.{layout, conversion, stock, rowAt, aboveLimit};
 ghost use Rattle.form.specs.Block.{blocks, countOf, edition};
-ghost use Rattle.form.specs.Records.{filed, hasId, badId, overspent, testNumbered};
+ghost use Rattle.form.specs.Records.{filed, hasId, isScattered, badId, overspent, testNumbered};
 ghost use Rattle.records.specs.Steps.{rowTest, recordTest, Spared};
 use form::KINDS;
 use form::PARAMETERS;
@@ -70,6 +70,14 @@ fn overspent_at(bytes: &[u8], at: usize) -> bool
     1000 < two_at(bytes, at + 12) + two_at(bytes, at + 18) + two_at(bytes, at + 32)
 }
 
+// A stock row of scattered trees.
+fn scattered_at(bytes: &[u8], at: usize) -> bool
+    requires { ⌜ at + 40 ≤ length (now bytes) ⌝ }
+    ensures { λ r. ⌜ r ≡ isScattered (rowAt stock (now (bytes .entry)) at) ⌝ }
+{
+    byte_at(bytes, at + 4) == 1
+}
+
 // A rule of one row, by its number, of the record at a place. A new rule is a new line.
 fn breaks(bytes: &[u8], number: u32, kind: u32, at: usize) -> bool
     requires { ⌜ at + 40 ≤ length (now bytes) ⌝ }
@@ -77,16 +85,18 @@ fn breaks(bytes: &[u8], number: u32, kind: u32, at: usize) -> bool
 {
     match number {
         6 => above_at(bytes, kind, at),
+        14 => (two_at(bytes, 6) == 3) & ((kind == 2) & scattered_at(bytes, at)),
         7 => (kind == 1) & overspent_at(bytes, at),
         _ => false,
     }
 }
 
-// A rule that no row of a kind can break, so that the kind's blocks are passed over: 7 is about conversion rows alone.
-fn spares(number: u32, kind: u32) -> bool
-    ensures { λ r. ⌜ Spared number kind r ⌝ }
+// A rule that no row of a kind can break in an edition, so that the kind's blocks are passed over: 7 is about conversion rows alone, 14 about stock rows of edition 3.
+fn spares(number: u32, edition: u32, kind: u32) -> bool
+    ensures { λ r. ⌜ Spared number edition kind r ⌝ }
 {
     match number {
+        14 => (edition != 3) | (kind != 2),
         7 => kind != 1,
         _ => false,
     }
@@ -98,7 +108,7 @@ fn first_row_in(bytes: &[u8], number: u32, b: usize) -> Spot
     ensures { λ x. ⌜ x ≡ first (λ r. rowTest number (now (bytes .entry)) (12 * b + r)) 12 ⌝ }
 {
     let kind = byte_at(bytes, 512 * b);
-    if spares(number, kind) {
+    if spares(number, two_at(bytes, 6), kind) {
         return Spot::Nowhere;
     }
     let used = used_in(bytes, b);

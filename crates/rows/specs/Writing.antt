@@ -1,4 +1,4 @@
--- "Writing: 10, then 5 to 9", with 12 "straight after 7" and 13 "straight after 12". "Success writes exactly the blocks at the front; later elements keep their values."
+-- "Writing: 10, then 5 to 9", with 14 "straight after 6", 12 "straight after 7" and 13 "straight after 12". "Success writes exactly the blocks at the front; later elements keep their values."
 use Prim.Native.Nat.{ℕ}
 use mathlib.Core.List.{List, [], _∷_, _++_}
 use lib.ListN.{length}
@@ -36,7 +36,7 @@ abbrev pub bytesAfter : ℕ → List ℕ → List ℕ → List ℕ → Written �
 bytesAfter edition lengths area room (Done n) = onFront (written edition (cut lengths area)) room
 bytesAfter edition lengths area room (Refused n p) = room
 
--- ---- as the code goes through the rules: the answer from 5 on, where 10 is kept, from 12 on, where 5 to 7 are too, and from 9 on, where all others are
+-- ---- as the code goes through the rules: the answer from 5 on, where 10 is kept, from 12 on, where the rules of records are too, and from 9 on, where all others are
 
 abbrev pub answerFrom5 : ℕ → List ℕ → List ℕ → List ℕ → Written
 answerFrom5 edition lengths area room =

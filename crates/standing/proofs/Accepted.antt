@@ -7,7 +7,7 @@
 --     few-rows           at most 32 rows of a kind; one-row, one parameter row
 --     first-block        a kind's first block, by the counts
 --     rows-are           the rows of a kind stand one after the other from the place that the counts give; row-is, each by its bytes; inside, in the bytes
---     row-kept           every rule of one row, by its number: within, 6 (limit-of, a field of a row); spent, 7 of a conversion row
+--     row-kept           every rule of one row, by its number: within, 6 (limit-of, a field of a row); spent, 7 of a conversion row; none-scattered, 14
 use Prim.Native.Nat.{ℕ, zero, suc, _+_, _-_, _*_, _/_, _%_, _<_, _≤_}
 use mathlib.Core.Path.{_≡_, refl, sym, ap, ap₂, _∙_}
 use mathlib.Core.Bool.{Bool, true, false, cond, not}
@@ -24,7 +24,7 @@ use Rattle.form.specs.declared.Field.{Field}
 use Rattle.form.specs.Layout.{Layout, kinds, parametersKind, layout, rowAt, aboveLimit}
 use Rattle.form.specs.Edition.{lastKind}
 use Rattle.form.specs.Block.{mostBlocks, longest, blocks, kindOf, edition, recordAt, checkSaid, checkDue, badLength, badCheck, badHeader, badBlock}
-use Rattle.form.specs.Records.{filed, RowTest, RowRule, rowRules, badId, brokenBy, overPlaces, recordRules, overspent, numbered, testNumbered}
+use Rattle.form.specs.Records.{filed, RowTest, RowRule, rowRules, badId, brokenBy, overPlaces, recordRules, isScattered, overspent, numbered, testNumbered}
 use Rattle.form.specs.Sums.{sumRules}
 use Rattle.form.specs.Verdict.{Formed, blockRules, formRules, rules, countBelow, rowCount, rows, countsOf, countList, countIn, verdictOf}
 use Rattle.form.specs.Standing.{blocksFor, startBlock, firstBlock, startPlace, rowsFrom}
@@ -34,7 +34,7 @@ use Rattle.form.specs.declared.Verdict.the-variants.{Accepted}
 use Rattle.form.proofs.Tests.{and-rest, or-none, all-fail, same-of}
 use Rattle.form.proofs.Order.{AllKept, Kept, none, more, ruling-clean, ruling-append, or-clean, append-kept, kept-of}
 use Rattle.form.proofs.Places.{broken-at}
-use Rattle.form.proofs.EachKind.{one-kind}
+use Rattle.form.proofs.EachKind.{kinds-are, one-kind}
 use Rattle.form.proofs.Meaning.{clean-of}
 use Rattle.form.proofs.Lengths.{length-kept}
 use Rattle.standing.proofs.Stand.{Headed, headed, Ordered, ordered, needed, Lies, lying, only-row}
@@ -207,6 +207,12 @@ module _ (s : List ℕ) (c : Counts) (acc : Formed s c) where
 
   pub spent : (i : ℕ) → i < rowCount 1 s → overspent (getD (rows 1 s) i []) ≡ false
   spent i l = row-kept 1 i (omega arith) one-kind l 7
+
+  -- "Edition 3 has no unit code 1": of each stock row
+  pub none-scattered : edition s 0 ≡ 3 → (i : ℕ) → i < length (rows 2 s) → isScattered (getD (rows 2 s) i []) ≡ false
+  none-scattered three i l =
+      let kept-14 = row-kept 2 i (omega arith) (omega (arith, kinds-are)) (omega (arith, rows-length 2)) 14 in
+      rw three at kept-14
 
   -- rule 5, at every place
   pub id-kept : (j : ℕ) → j < 12 * blocks s → badId (filed s) j ≡ false

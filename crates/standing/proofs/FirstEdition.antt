@@ -1,38 +1,27 @@
 -- "Edition 1 returns read as before." Assumes nothing.
 --     as-before     up to 5,120 bytes, an edition 1 return is ruled as 01's rules rule it, and behind them those that add rows up
 use Prim.Native.Nat.{ℕ, _+_, _≤_, _<_}
-use mathlib.Core.Path.{_≡_, refl, sym, ap, _∙_}
+use mathlib.Core.Path.{_≡_, refl, ap, _∙_}
 use mathlib.Core.Bool.{Bool, false, _||_, or-true, or-false}
-use mathlib.Core.List.{List, _∷_, _++_}
+use mathlib.Core.List.{List, _++_}
 use native.Mathlib.Decide.{ℕ-discrete}
 use native.Mathlib.Omega.{arith}
 use borrow.Author.Tests.{lt-ltb, le-ltb, le-leb, eq-eqb, ne-eqb}
 use lib.ListN.{length}
 use Rattle.form.specs.First.{first}
-use Rattle.form.specs.Ruling.{Rule, rule, refuse, ruling}
+use Rattle.form.specs.Ruling.{ruling}
 use Rattle.form.specs.Edition.{lastKind}
 use Rattle.form.specs.Block.{longest, blocks, kindOf, edition, badLength, badCheck, badHeader, lowBehind, endsLow, noneBefore, fourthOfKind, badCount, notFilled, overFilled, stray, badBlock, kindFalls}
-use Rattle.form.specs.Records.{filed, recordRules}
+use Rattle.form.specs.Records.{filed}
 use Rattle.form.specs.Sums.{sumRules}
 use Rattle.form.specs.Verdict.{blockRules, formRules, rules}
-use Rattle.form.specs.declared.Ruling.{Ruling}
 use Rattle.form.specs.FirstEdition.{badLength01, badHeader01, wrongEnd01, badBlock01, rules01}
-use Rattle.form.specs.declared.Spot.{Spot}
-use Rattle.form.specs.declared.Spot.the-variants.{At, Nowhere}
+use Rattle.form.specs.declared.Spot.the-variants.{Nowhere}
 use Rattle.form.proofs.Search.{first-same, first-none}
-use Rattle.form.proofs.Order.{orRule, ruling-append}
+use Rattle.form.proofs.Order.{append-same, both-rule}
 use Rattle.form.proofs.EachKind.{kinds-are}
+use Rattle.form.proofs.SecondEdition.{records-kept, spared}
 use Rattle.standing.proofs.Stand.{headed}
-
--- two lists of rules whose first rules agree, and whose others agree where the first is kept
-both-rule : (n m : ℕ) (p q : ℕ → Bool) (rs qs : List Rule) → first p m ≡ first q m → (first q m ≡ Nowhere → ruling rs ≡ ruling qs)
-    → ruling (rule n m p ∷ rs) ≡ ruling (rule n m q ∷ qs)
-unfolding ruling
-both-rule n m p q rs qs e h = ap (λ (t : Spot). refuse n t (ruling rs)) e ∙ go (first q m) refl
-  where
-    go : (t : Spot) → first q m ≡ t → refuse n t (ruling rs) ≡ refuse n t (ruling qs)
-    go (At i) f = refl
-    go Nowhere f = h f
 
 module _ (s : List ℕ) (one : edition s 0 ≡ 1) where
   header-same : (b : ℕ) → badHeader s b ≡ badHeader01 s b
@@ -75,7 +64,7 @@ module _ (s : List ℕ) (one : edition s 0 ≡ 1) where
       both-rule 1 1 (λ p. badLength s) (λ p. badLength01 s) _ _ (first-same _ _ 1 (λ p l. lengths-same)) (λ e.
       both-rule 2 (blocks s) (badCheck s) (badCheck s) _ _ refl (λ e.
       both-rule 3 (blocks s) (badHeader s) (badHeader01 s) _ _ (first-same _ _ (blocks s) (λ b l. header-same b)) (λ none.
-      both-rule 4 (blocks s) (badBlock s) (badBlock01 s) _ _ (first-same _ _ (blocks s) (blocks-same none)) (λ e. ap (λ (x : ℕ). ruling (recordRules x (filed s))) one))))
+      both-rule 4 (blocks s) (badBlock s) (badBlock01 s) _ _ (first-same _ _ (blocks s) (blocks-same none)) (λ e. records-kept (edition s 0) (filed s) (spared (edition s 0) (filed s) (λ three. absurd (omega (arith, one, three))))))))
     where
       lengths-same : badLength s ≡ badLength01 s
       lengths-same = rw (le-ltb longest (length s) (omega (arith, kinds-are)), le-ltb 5120 (length s) short)
@@ -86,7 +75,4 @@ module _ (s : List ℕ) (one : edition s 0 ≡ 1) where
           block-same b l (low b l) (low (b + 1))
 
   pub as-before : length s ≤ 5120 → ruling (rules s) ≡ ruling (rules01 s ++ sumRules (filed s))
-  as-before short =
-      ruling-append (formRules s) (sumRules (filed s))
-      ∙ ap (λ (u : Ruling). orRule u (ruling (sumRules (filed s)))) (form-as-before short)
-      ∙ sym (ruling-append (rules01 s) (sumRules (filed s)))
+  as-before short = append-same (formRules s) (rules01 s) (sumRules (filed s)) (form-as-before short)

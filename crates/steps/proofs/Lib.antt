@@ -3,6 +3,8 @@
 --     Editions  what is told of an edition, that edition 1 has no abandoned land, no savannas and no mineral soils, and that 4 stops one above ten blocks
 --     Wood      what rule 12 says of a return, and of M and O
 --     Soils     what rule 13 says of a return, and of rows to be written
+--     Scattered how many rows of scattered trees a return has
+--     Trees     what rule 14 says of them
 --     Figures   so many parts of a mass that is held as words
 --     Rounds    rounding is to nearest, a half to the even neighbour, for both signs
 --     Clauses   what follows from the facts of a contract's clauses
@@ -12,6 +14,8 @@ pub mod Told
 pub mod Editions
 pub mod Wood
 pub mod Soils
+pub mod Scattered
+pub mod Trees
 pub mod Figures
 pub mod Rounds
 pub mod Clauses

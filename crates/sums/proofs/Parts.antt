@@ -2,19 +2,23 @@
 --     both          a row of abandoned land has its two areas behind its id; growths, how large
 --     small-part    how large a part is; no-part, a kind that has none
 --     sum-room      so there is room for one row more
+--     code-byte     a stock row's unit code is one byte of it
+--     stock-block   the stock rows' first block, by the conversion rows before them; stock-near, how far behind it is
 use Prim.Native.Nat.{ℕ, zero, suc, _+_, _*_, _^_, _<_, _≤_}
-use mathlib.Core.Path.{_≡_, refl}
-use mathlib.Core.Bool.{false}
+use mathlib.Core.Path.{_≡_, refl, ap, _∙_}
+use mathlib.Core.Bool.{false, cond}
 use mathlib.Core.List.{List}
 use native.Mathlib.Numerals.{bound}
 use native.Mathlib.Omega.{arith}
-use lib.Dec.{lit<, lit≤}
+use lib.Dec.{eqb, lit<, lit≤}
 use lib.ListN.{take, getD}
-use Rattle.form.specs.Layout.{field, kinds, layout, abandoned, rowFrom, rowAt, aboveLimit}
-use Rattle.form.specs.Sums.{sumOf}
+use Rattle.form.specs.Bytes.{byteAt, number}
+use Rattle.form.specs.Layout.{field, kinds, layout, stock, abandoned, rowFrom, rowAt, aboveLimit}
+use Rattle.form.specs.Sums.{sumOf, scatteredPart}
 use Rattle.form.specs.Verdict.{rows, Formed}
 use Rattle.form.specs.declared.Counts.{Counts}
-use Rattle.standing.proofs.Accepted.{limit-of}
+use Rattle.form.specs.Standing.{blocksFor, firstBlock}
+use Rattle.standing.proofs.Accepted.{limit-of, few-counted}
 use Rattle.totals.specs.Abandoned.{abandonedPart, growthAt}
 use Rattle.totals.proofs.Limits.{cleared-below, stock-below, harvest-below, abandoned-below}
 use Rattle.totals.proofs.Sums.{sum-le}
@@ -63,3 +67,18 @@ no-part (suc (suc (suc (suc (suc (suc k)))))) r o a b c = refl
 
 pub sum-room : (s : List ℕ) (c : Counts) → Formed s c → (k i : ℕ) → 1 ≤ k → k ≤ kinds → sumOf (partIn k) (take i (rows k s)) < 2 ^ 60
 sum-room s c acc k i lo hi = omega (arith, sum-le (partIn k) (rows k s) i, small s c acc k (partIn k) (2 * 10 ^ 14) lo hi (small-part k))
+
+pub stock-block : (c : Counts) → blocksFor (c .conversion) ≡ firstBlock 2 c
+unfolding firstBlock
+stock-block c = omega arith
+
+pub stock-near : (s : List ℕ) (c : Counts) → Formed s c → firstBlock 2 c ≤ 3
+stock-near s c acc = omega (arith, stock-block c, few-counted s c acc 1)
+
+one-byte : (s : List ℕ) (at : ℕ) → byteAt s at ≡ number 1 s at
+unfolding number
+one-byte s at = omega arith
+
+pub code-byte : (s : List ℕ) (at : ℕ) {b r : ℕ} → b ≡ byteAt s (at + 4) → r ≡ cond (eqb b 1) 1 0 → r ≡ scatteredPart (rowAt stock s at)
+unfolding scatteredPart rowFrom
+code-byte s at e q = q ∙ ap (λ (x : ℕ). cond (eqb x 1) 1 0) (e ∙ one-byte s (at + 4))

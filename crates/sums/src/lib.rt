@@ -1,22 +1,26 @@
 // Sums of one number a row: E of the stocks, K of the harvest, L of the conversion, and worksheet 5-4's uptake of land given up by farmers. One loop for all kinds.
+// And, for the counts themselves, how many stock rows are of scattered trees.
 ghost use mathlib.Core.Path.{_≡_};
 ghost use mathlib.Core.Bool.{false};
 ghost use Prim.Native.Nat.{_+_, _^_, _≤_, _<_};
 ghost use lib.ListN.{length};
 ghost use Rattle.form.specs.Layout.{kinds, layout, conversion, stock, harvest, abandoned, rowAt, aboveLimit};
-ghost use Rattle.form.specs.Verdict.{rows, Formed};
-ghost use Rattle.form.specs.Sums.{sumOf, harvestPart, clearedPart, columnK, columnL};
+ghost use Rattle.form.specs.Verdict.{rowCount, rows, countsOf, Formed};
+ghost use Rattle.form.specs.Standing.{firstBlock};
+ghost use Rattle.form.specs.Sums.{sumOf, scatteredPart, scatteredIn, harvestPart, clearedPart, columnK, columnL};
 ghost use Rattle.wide.specs.Numbers.{Is};
 ghost use Rattle.totals.specs.Masses.{dryMatter, carbon};
 ghost use Rattle.totals.specs.Columns.{stockPart, columnE};
 ghost use Rattle.totals.specs.Abandoned.{abandonedPart, uptakeTotal, growthAt};
 ghost use Rattle.sums.specs.Parts.{partIn};
 use form::Counts;
+use form::byte_at;
 use form::count_of;
 use form::first_block;
 use form::four_at;
 use form::row_start;
 use form::two_at;
+use form::where_same;
 use totals::Carbon;
 use totals::CarbonPart;
 use totals::DryMatter;
@@ -142,4 +146,27 @@ pub fn sum_abandoned(bytes: &[u8], c: Counts) -> Carbon
     ensures { λ r. ⌜ r ≡ carbon (uptakeTotal (rows 5 (now (bytes .entry)))) ⌝ }
 {
     Carbon(sum_parts(bytes, c, 5))
+}
+
+// 1 for a stock row of scattered trees, and 0 for one of land.
+fn scattered_at(bytes: &[u8], at: usize) -> u32
+    requires { ⌜ at + 40 ≤ length (now bytes) ⌝ }
+    ensures { λ r. ⌜ (r ≡ scatteredPart (rowAt stock (now (bytes .entry)) at)) × (r ≤ 1) ⌝ }
+{
+    where_same(byte_at(bytes, at + 4), 1, 1)
+}
+
+// How many stock rows are of scattered trees. This is one of the counts, so no whole counts are there to ask: the rows' first block and number are handed in.
+pub fn count_scattered(bytes: &[u8], first: usize, n: usize) -> u32
+    requires { ⌜ Formed (now bytes) (countsOf (now bytes)) ⌝ }
+    requires { ⌜ (first ≡ firstBlock 2 (countsOf (now bytes))) × (n ≡ rowCount 2 (now bytes)) ⌝ }
+    ensures { λ r. ⌜ r ≡ scatteredIn (rows 2 (now (bytes .entry))) ⌝ }
+{
+    let mut scattered: u32 = 0;
+    let mut i: usize = 0;
+    while i < n {
+        scattered += scattered_at(bytes, row_start(first, i));
+        i += 1;
+    }
+    scattered
 }

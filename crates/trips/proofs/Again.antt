@@ -1,5 +1,5 @@
 -- THE ROUND TRIPS through the answers of `rows::write` and `rows::read` themselves. Assumes nothing.
---     read-accepted, read-counts, read-rows    what a write left, read to room that is long enough
+--     read-accepted, read-counts, read-scattered, read-rows    what a write left, read to room that is long enough
 --     left-is, write-done, write-same          what a read left, cut by the counts that it answered, written to room that is long enough
 use Prim.Native.Nat.{ℕ, suc, _≤_, _<_}
 use mathlib.Core.Path.{_≡_, refl, sym, ap, _∙_}
@@ -13,6 +13,8 @@ use Rattle.form.specs.Bytes.{byteAt}
 use Rattle.form.specs.Layout.{kinds}
 use Rattle.form.specs.Block.{edition}
 use Rattle.form.specs.Ruling.{rule, ruling, onFront}
+use Rattle.form.specs.Records.{filedRows}
+use Rattle.form.specs.Sums.{scatteredIn}
 use Rattle.form.specs.Verdict.{rules, countsOf, countIn, verdictBy, verdictOf}
 use Rattle.form.specs.declared.Counts.{Counts}
 use Rattle.form.specs.declared.Ruling.the-variants.{Clean}
@@ -21,7 +23,7 @@ use Rattle.form.proofs.Search.{first-is-none}
 use Rattle.form.proofs.Order.{ruling-append, kept, kept-before, long-enough, or-clean}
 use Rattle.form.proofs.Meaning.{clean-of}
 use Rattle.standing.proofs.Accepted.{accepted-ruling, formed, counted}
-use Rattle.filing.specs.Lists.{cut, total, rowsIn}
+use Rattle.filing.specs.Lists.{cut, total, rowsIn, filedLists}
 use Rattle.filing.proofs.Cut.{total-flat}
 use Rattle.filing.proofs.Laying.{length-part}
 use Rattle.lists.specs.Rules.{listRules}
@@ -30,7 +32,7 @@ use Rattle.rows.specs.Writing.{written, roomRule, writeRules, writtenBy, writeA
 use Rattle.rows.specs.declared.Written.the-variants.{Done}
 use Rattle.rows.proofs.Return.{done-by}
 use Rattle.trips.proofs.WriteBack.{lengths-are}
-use Rattle.trips.proofs.RoundTrips.{area-is, accepted-again, edition-again, counts-again, rows-again, clean-again, bytes-again}
+use Rattle.trips.proofs.RoundTrips.{area-is, accepted-again, edition-again, counts-again, scattered-again, rows-again, clean-again, bytes-again}
 
 -- ---- written, then read
 
@@ -72,6 +74,9 @@ module _ (ed : ℕ) (lengths area room : List ℕ) (n : ℕ) (done : writeAnswer
   pub read-counts : (k : ℕ) → k < kinds → countIn (countsOf (returned ed lengths area room n)) (suc k) ≡ rowsIn (suc k) (getD lengths k 0)
   read-counts k h =
       ap (λ (x : List ℕ). countIn (countsOf x) (suc k)) left ∙ counted w (countsOf w) (formed w (countsOf w) (accepted-again ed lengths area clean)) k h ∙ counts-again ed lengths area clean k h
+
+  pub read-scattered : countsOf (returned ed lengths area room n) .scattered ≡ scatteredIn (filedRows (filedLists (cut lengths area)) 2)
+  read-scattered = ap (λ (x : List ℕ). countsOf x .scattered) left ∙ scattered-again ed lengths area clean
 
   pub read-rows : (rows : List ℕ) (c : Counts) → roomAfter (returned ed lengths area room n) rows (Accepted c) ≡ onFront area rows
   read-rows rows c = rw left (ap (λ (x : List ℕ). onFront x rows) (rows-again ed lengths area clean))

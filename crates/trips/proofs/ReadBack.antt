@@ -1,5 +1,6 @@
 -- THE FIRST ROUND TRIP: row lists that break no rule, written and read again, are themselves. Assumes nothing.
 --     accepted-back    the bytes written are accepted; counts-back, with the counts of the rows
+--     scattered-back   and as many rows of scattered trees
 --     rows-back        and their rows are the lists; edition-back, in their edition; each-back, the rows of a kind one by one
 use Prim.Native.Nat.{ℕ, zero, suc, _+_, _-_, _*_, _/_, _%_, _<_, _≤_, min}
 use mathlib.Core.Path.{_≡_, refl, sym, ap, ap₂, subst, _∙_}
@@ -16,8 +17,8 @@ use borrow.Author.Tests.{lt-ltb, le-ltb, lt-leb, eq-eqb, ne-eqb, ltb-true, eqb-t
 use Rattle.form.specs.Layout.{kinds, parametersKind, numbersOf}
 use Rattle.form.specs.Edition.{lastKind}
 use Rattle.form.specs.Block.{longest, blocks, kindOf, countOf, edition, blocksBelow, badLength, badCheck, badHeader, kindFalls, lowBehind, endsLow, noneBefore, earlier, badCount, notFilled, overFilled, strayRecord, stray, badBlock}
-use Rattle.form.specs.Records.{Filed, filed}
-use Rattle.form.specs.Sums.{filedRules}
+use Rattle.form.specs.Records.{Filed, filed, filedRows}
+use Rattle.form.specs.Sums.{scatteredIn, filedRules}
 use Rattle.form.specs.Verdict.{blockRules, countBelow, rowCount, rows, countsOf, verdictOf}
 use Rattle.form.specs.Standing.{blocksFor, startBlock, startPlace, rowsFrom}
 use Rattle.form.specs.declared.Verdict.the-variants.{Accepted}
@@ -35,7 +36,7 @@ use Rattle.filing.proofs.Alike.{Alike, turn-same}
 use Rattle.rows.specs.Reading.{rowsOf, listsFrom, rowLists}
 use Rattle.rows.specs.Writing.{written}
 use Rattle.decoding.proofs.Decoded.{flat-from}
-use Rattle.trips.proofs.Same.{rules-same, solid-lists}
+use Rattle.trips.proofs.Same.{kind-same, rules-same, solid-lists}
 use Rattle.trips.proofs.Shape.{blocksAt, startOf, start-next, start-mono, Where, whereis, where-rises, list-at}
 use Rattle.trips.proofs.Standing.{rowsAt, nth, Clear, places-blocks, long, one-block, few-blocks, blocks-there, nth-block, read, kind-is, count-is, place-same, no-stray}
 
@@ -259,6 +260,10 @@ module _ (ed : ℕ) (l : Lists) (ok : Clear ed l) where
   pub counts-back : (k : ℕ) → k < kinds → rowCount (suc k) s ≡ rowsIn (suc k) (length (ofKind l (suc k)))
   counts-back k h =
       below k (blocks s) (omega arith) h .1 ∙ omega (arith, blocks-there ed l ok, start-mono l (suc k) kinds h, start-next l k)
+
+  -- and as many of scattered trees
+  pub scattered-back : scatteredIn (rows 2 s) ≡ scatteredIn (filedRows (filedLists l) 2)
+  scattered-back = ap scatteredIn (sym (kind-same ed (filedLists l) (filed s) all-alike places-there 2))
 
   start-is : (k : ℕ) → k < kinds → startBlock (suc k) s ≡ startOf l k
   unfolding startBlock startOf

@@ -1,5 +1,5 @@
 -- THE ROUND TRIPS, over all rows and all bytes, about the definitions that the contracts of rows::write and rows::read cite. Assumes nothing.
---     accepted-again, edition-again, counts-again, rows-again    written and read: accepted, with the edition, the counts and the rows
+--     accepted-again, edition-again, counts-again, scattered-again, rows-again    written and read: accepted, with the edition, the counts and the rows
 --     lists-accepted, lists-rows                  the same of row lists that lie by themselves, their rows one by one
 --     clean-again, bytes-again                    read and written: no rule broken, and the same bytes
 use Prim.Native.Nat.{ℕ, zero, suc, _<_}
@@ -11,20 +11,22 @@ use Rattle.form.specs.Ruling.{ruling}
 use Rattle.form.specs.Bytes.{byteAt}
 use Rattle.form.specs.Layout.{kinds}
 use Rattle.form.specs.Block.{edition}
+use Rattle.form.specs.Records.{filedRows}
+use Rattle.form.specs.Sums.{scatteredIn}
 use Rattle.form.specs.Verdict.{rowCount, rows, countsOf, Formed, verdictOf}
 use Rattle.form.specs.Standing.{rowsFrom}
 use Rattle.form.specs.declared.Counts.{Counts}
 use Rattle.form.specs.declared.Ruling.the-variants.{Clean}
 use Rattle.form.specs.declared.Verdict.the-variants.{Accepted}
 use Rattle.standing.proofs.Accepted.{accepted-ruling, formed, formed-counts}
-use Rattle.filing.specs.Lists.{Lists, ofKind, cut, rowsIn, filedList}
+use Rattle.filing.specs.Lists.{Lists, ofKind, cut, rowsIn, filedList, filedLists}
 use Rattle.filing.specs.Written.{inTurn}
 use Rattle.filing.proofs.Cut.{cut-long, flat-cut, cut-flat}
 use Rattle.lists.specs.Rules.{Good, listRules}
 use Rattle.rows.specs.Reading.{rowsOf, areaTo, listsFrom, rowLists, lengthsOf}
 use Rattle.rows.specs.Writing.{written}
 use Rattle.trips.proofs.Standing.{kept-lists, Clear, clear}
-use Rattle.trips.proofs.ReadBack.{edition-back, accepted-back, counts-back, rows-back, each-back}
+use Rattle.trips.proofs.ReadBack.{edition-back, accepted-back, counts-back, scattered-back, rows-back, each-back}
 use Rattle.trips.proofs.WriteBack.{lengths-are, rows-clean, written-back}
 
 -- the rows of a return in one area are its row lists, one after the other
@@ -51,6 +53,9 @@ module _ (ed : ℕ) (lengths area : List ℕ) (clean : ruling (listRules ed leng
   counts-again k h =
       counts-back ed (cut lengths area) ok k h
       ∙ ap (rowsIn (suc k)) (cut-long lengths area (omega (arith, good-lists .all)) k (omega (arith, good-lists .each)))
+
+  pub scattered-again : scatteredIn (rows 2 (written ed (cut lengths area))) ≡ scatteredIn (filedRows (filedLists (cut lengths area)) 2)
+  scattered-again = scattered-back ed (cut lengths area) ok
 
   pub rows-again : areaTo (written ed (cut lengths area)) kinds ≡ area
   rows-again =

@@ -62,7 +62,7 @@ module _ (e : ℕ) (f g : Filed) (a : Alike f 0 g 0 (f .places)) (same : f .plac
   records-same solid = ap₂ (refuse 5) (at (badId f) (badId g) (id-same a solid)) (over-same rowRules)
 
   -- rules that add rows up: alike places have the same rows
-  kind-same : (k : ℕ) → filedRows f k ≡ filedRows g k
+  pub kind-same : (k : ℕ) → filedRows f k ≡ filedRows g k
   kind-same k = rows-alike k (f .places) (same-at a) ∙ ap (rowsBelow g k) same
 
   -- 13 at a place is a test of its row, by the rows of mineral soil

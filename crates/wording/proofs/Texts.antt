@@ -16,7 +16,7 @@ use Rattle.faults.specs.declared.Fault.the-variants.{Order, End, Fourth, Count,
 use Rattle.reasons.proofs.Reason as reason
 use Rattle.reasons.specs.declared.Header.{Header}
 use Rattle.reasons.specs.declared.Reason.{Reason}
-use Rattle.reasons.specs.declared.Reason.the-variants.{BadLength, BadCheck, BadHeader, BadBlock, IdBelow, FieldAbove, FractionsAbove, ClearedAbove, SoilUneven}
+use Rattle.reasons.specs.declared.Reason.the-variants.{BadLength, BadCheck, BadHeader, BadBlock, IdBelow, FieldAbove, FractionsAbove, ClearedAbove, SoilUneven, ScatteredTrees}
 use Rattle.naming.specs.RowLines.{rowLines}
 use Rattle.wording.specs.Wording.{wordOf, faultWords, faultNumber, faultLine, headerLines, faultLines, dueLines, woodLines, valueLines}
 
@@ -84,13 +84,14 @@ module _ (f : Fault) (n : ℕ) (e : n ≡ faultNumber f) where
   word-text = ap (λ (w : List ℕ). (codes "fault " ++ w) ++ 10 ∷ []) found
 
 -- the numbers of one row
-pub row-lines : (r : Reason) → OneOf (4 ∷ 5 ∷ 6 ∷ 8 ∷ []) (tagOf reason.the-type r) → rowLines r ≡ valueLines r
-row-lines (BadLength n) o = absurd (miss (4 ∷ 5 ∷ 6 ∷ 8 ∷ []) 0 tt o)
-row-lines (BadCheck b x y) o = absurd (miss (4 ∷ 5 ∷ 6 ∷ 8 ∷ []) 1 tt o)
-row-lines (BadHeader b h n e) o = absurd (miss (4 ∷ 5 ∷ 6 ∷ 8 ∷ []) 2 tt o)
-row-lines (BadBlock b h f) o = absurd (miss (4 ∷ 5 ∷ 6 ∷ 8 ∷ []) 3 tt o)
+pub row-lines : (r : Reason) → OneOf (4 ∷ 5 ∷ 6 ∷ 8 ∷ 9 ∷ []) (tagOf reason.the-type r) → rowLines r ≡ valueLines r
+row-lines (BadLength n) o = absurd (miss (4 ∷ 5 ∷ 6 ∷ 8 ∷ 9 ∷ []) 0 tt o)
+row-lines (BadCheck b x y) o = absurd (miss (4 ∷ 5 ∷ 6 ∷ 8 ∷ 9 ∷ []) 1 tt o)
+row-lines (BadHeader b h n e) o = absurd (miss (4 ∷ 5 ∷ 6 ∷ 8 ∷ 9 ∷ []) 2 tt o)
+row-lines (BadBlock b h f) o = absurd (miss (4 ∷ 5 ∷ 6 ∷ 8 ∷ 9 ∷ []) 3 tt o)
 row-lines (IdBelow w x) o = refl
 row-lines (FieldAbove w i v l) o = refl
 row-lines (FractionsAbove w n f d t) o = refl
-row-lines (ClearedAbove u l) o = absurd (miss (4 ∷ 5 ∷ 6 ∷ 8 ∷ []) 7 tt o)
+row-lines (ClearedAbove u l) o = absurd (miss (4 ∷ 5 ∷ 6 ∷ 8 ∷ 9 ∷ []) 7 tt o)
 row-lines (SoilUneven w t n o) k = refl
+row-lines (ScatteredTrees w c e) o = refl

@@ -7,7 +7,7 @@ use Rattle.faults.specs.declared.Fault.{Fault}
 use Rattle.faults.specs.declared.Fault.the-variants.{Order, End, Fourth, Count, Unfilled, Overfilled, Stray}
 use Rattle.reasons.specs.declared.Header.{Header}
 use Rattle.reasons.specs.declared.Reason.{Reason}
-use Rattle.reasons.specs.declared.Reason.the-variants.{BadLength, BadCheck, BadHeader, BadBlock, IdBelow, FieldAbove, FractionsAbove, ClearedAbove, SoilUneven}
+use Rattle.reasons.specs.declared.Reason.the-variants.{BadLength, BadCheck, BadHeader, BadBlock, IdBelow, FieldAbove, FractionsAbove, ClearedAbove, SoilUneven, ScatteredTrees}
 use Rattle.naming.specs.RowLines.{wordLine, rowLines}
 
 -- "the block's header, five lines"
@@ -74,10 +74,11 @@ valueLines (BadCheck b x y) = numberLine (codes "stored") x ∷ numberLine (code
 valueLines (BadHeader b h n e) = headerLines h ++ dueLines b n e
 -- 4: the first fault
 valueLines (BadBlock b h f) = faultLine f ∷ faultLines h f
--- 5 to 7 and 13: those of a row
+-- 5 to 7, 13 and 14: those of a row
 valueLines (IdBelow w x) = rowLines (IdBelow w x)
 valueLines (FieldAbove w i v l) = rowLines (FieldAbove w i v l)
 valueLines (FractionsAbove w n f d t) = rowLines (FractionsAbove w n f d t)
 valueLines (SoilUneven w t n o) = rowLines (SoilUneven w t n o)
+valueLines (ScatteredTrees w c e) = rowLines (ScatteredTrees w c e)
 -- 12: of the whole return, and of no row
 valueLines (ClearedAbove u l) = woodLines u l

@@ -3,7 +3,9 @@ use Prim.Native.Nat.{ℕ, _≤_}
 use mathlib.Core.List.{List, [], _∷_}
 use lib.ListN.{getD}
 use Rattle.form.specs.Layout.{parametersKind}
+use Rattle.form.specs.Sums.{scatteredIn}
 use Rattle.form.specs.Verdict.{rows}
+use Rattle.wide.specs.Numbers.{wordsOf}
 use Rattle.totals.specs.Masses.{carbon, periods}
 use Rattle.totals.specs.Columns.{thinnerTotal}
 use Rattle.totals.specs.Abandoned.{uptakeTotal}
@@ -19,6 +21,7 @@ use Rattle.ledger.specs.Ledger.{ledgerOf}
 use Rattle.ledger.specs.Derived.{stocksOf, conversionOf}
 use Rattle.worksheets.specs.declared.sheets.Parameters.{Parameters}
 use Rattle.worksheets.specs.declared.sheets.Abandoned.{Abandoned}
+use Rattle.worksheets.specs.declared.sheets.StockRows.{StockRows}
 use Rattle.worksheets.specs.declared.sheets.Figures.{Figures}
 
 -- N, CH4, CO, N/C, N2O and NOx, by the numbers of a parameter row
@@ -61,6 +64,10 @@ gasesBy c p = gasesOf (releasedOf c (ratiosIn p)) 1
 unfoldable pub abandonedOf : Carbon → Abandoned
 abandonedOf u = record { uptake = u; co2 = uptakeCo2 u }
 
+-- a count of stock rows, from its number
+abbrev pub stockRows : ℕ → StockRows
+stockRows n = record { 0 = wordsOf n }
+
 -- the figures of rows, sheet by sheet: conversion rows are kind 1, stock rows 2, harvest rows 3, abandoned land 5, savannas 6, mineral soils 7
 abbrev pub figuresOf : Rows → Figures
 figuresOf by =
@@ -73,4 +80,5 @@ figuresOf by =
       abandoned = abandonedOf (carbon (uptakeTotal (by 5)));
       savannas = savannasOf (by 6);
       soils = soilsOf (by 7);
+      scattered = stockRows (scatteredIn (by 2));
     }

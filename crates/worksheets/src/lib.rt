@@ -10,6 +10,7 @@ use crate::sheets::Answer;
 use crate::sheets::Figures;
 use crate::sheets::gases_of;
 use crate::sheets::read_parameters;
+use crate::sheets::scattered_rows;
 use crate::sheets::work_abandoned;
 use form::Counts;
 use form::Verdict;
@@ -39,6 +40,7 @@ pub fn work_out(bytes: &[u8], c: Counts) -> Figures
     let abandoned = work_abandoned(sum_abandoned(bytes, c));
     let savannas = work_savannas(bytes, c);
     let soils = work_soils(bytes, c);
+    let scattered = scattered_rows(c);
     Figures {
         stocks,
         conversion,
@@ -47,6 +49,7 @@ pub fn work_out(bytes: &[u8], c: Counts) -> Figures
         abandoned,
         savannas,
         soils,
+        scattered,
     }
 }
 

@@ -5,7 +5,7 @@ ghost use lib.ListN.{length};
 ghost use Rattle.form.specs.Layout.{parameters, rowAt};
 ghost use Rattle.form.specs.Verdict.{Formed};
 ghost use Rattle.wide.specs.Numbers.{value};
-ghost use Rattle.worksheets.specs.Sheets.{standard, parametersOf, byKind, given, Within, gasesBy, abandonedOf};
+ghost use Rattle.worksheets.specs.Sheets.{standard, parametersOf, byKind, given, Within, gasesBy, abandonedOf, stockRows};
 use burning::Gases;
 use burning::Ratios;
 use burning::release;
@@ -23,6 +23,8 @@ use totals::Carbon;
 use totals::Periods;
 use units::Co2;
 use units::uptake_co2;
+use wide::Wide;
+use wide::of;
 
 // The parameter row, in thousandths.
 pub struct Parameters {
@@ -114,6 +116,16 @@ pub fn work_abandoned(uptake: Carbon) -> Abandoned
     Abandoned { uptake, co2 }
 }
 
+// How many stock rows: a plain count, and no mass.
+pub struct StockRows(pub Wide);
+
+// The rows of scattered trees, as the judge counted them.
+pub fn scattered_rows(c: Counts) -> StockRows
+    ensures { λ r. ⌜ r ≡ stockRows (c .scattered) ⌝ }
+{
+    StockRows(of(c.scattered as u64))
+}
+
 pub struct Figures {
     pub stocks: Stocks,
     pub conversion: Conversion,
@@ -122,6 +134,7 @@ pub struct Figures {
     pub abandoned: Abandoned,
     pub savannas: Savannas,
     pub soils: Soils,
+    pub scattered: StockRows,
 }
 
 // The figures, or a refusal's number and place.

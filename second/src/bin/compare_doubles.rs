@@ -30,7 +30,7 @@ mod run {
     type Memory = [u8; MEMORY];
 
     /// The numbers that the requests put just before 11 and 9.
-    const BEFORE_11: [u32; 2] = [12, 13];
+    const BEFORE_11: [u32; 3] = [12, 13, 14];
 
     pub fn main() -> ExitCode {
         let Some(arguments) = Arguments::from_command("compare_doubles") else {
@@ -40,11 +40,12 @@ mod run {
             name: "doubles",
             inputs: inputs::least(),
             least: inputs::least(),
-            often: &[0, 1, 2, 3, 4, 5, 6, 7, 9, 11, 12, 13],
-            counted: &[(13, 2_000)],
+            often: &[0, 1, 2, 3, 4, 5, 6, 7, 9, 11, 12, 13, 14],
+            counted: &[(13, 2_000), (14, 2_000)],
             sorts: 100,
             balances: 1_000,
             uneven: 100,
+            retired: 100,
         };
         let mut coverage = Coverage::default();
         let tried = [

@@ -44,7 +44,7 @@ mod run {
     const LEAST_ROWS: usize = 500;
 
     /// The numbers that the requests put just before 11 and 9.
-    const BEFORE_11: [u32; 2] = [12, 13];
+    const BEFORE_11: [u32; 3] = [12, 13, 14];
 
     /// What is counted of the calls.
     struct Tally {
@@ -87,11 +87,12 @@ mod run {
             name: "reasons",
             inputs: inputs::least_explained(),
             least: inputs::least_explained(),
-            often: &[0, 1, 2, 3, 4, 5, 6, 7, 12, 13],
-            counted: &[(13, 2_000)],
+            often: &[0, 1, 2, 3, 4, 5, 6, 7, 12, 13, 14],
+            counted: &[(13, 2_000), (14, 2_000)],
             sorts: 100,
             balances: 1_000,
             uneven: 100,
+            retired: 100,
         };
         let mut tally = Tally::new();
         let ran = run(&plan, arguments, inputs::explained, |case, rng| {

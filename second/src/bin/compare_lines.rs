@@ -49,11 +49,12 @@ mod run {
             name: "lines",
             inputs: inputs::least(),
             least: inputs::least(),
-            often: &[0, 1, 2, 3, 4, 5, 6, 7, 12, 13],
-            counted: &[(13, 2_000)],
+            often: &[0, 1, 2, 3, 4, 5, 6, 7, 12, 13, 14],
+            counted: &[(13, 2_000), (14, 2_000)],
             sorts: 100,
             balances: 1_000,
             uneven: 100,
+            retired: 100,
         };
         let mut coverage = Coverage::default();
         let calls = coverage.add(Due::Told, ["calls, lines and figures"]);

@@ -49,7 +49,7 @@ mod run {
     const ROOMS: [&str; 4] = ["exact", "short by one", "empty", "longer"];
 
     /// Refusal numbers that a return in a file can have, and how often each is due.
-    const NUMBERS: [(u32, usize); 8] = [
+    const NUMBERS: [(u32, usize); 9] = [
         (2, STOPS),
         (3, STOPS),
         (4, STOPS),
@@ -58,6 +58,7 @@ mod run {
         (7, STOPS),
         (12, STOPS),
         (13, 2_000),
+        (14, 2_000),
     ];
 
     struct Tally {

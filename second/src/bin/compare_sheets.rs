@@ -26,7 +26,7 @@ use std::process::ExitCode;
 const TAKEN: usize = RETURN_ROOM + 1;
 const INPUTS: usize = 2_000;
 /// For `explain`, whose text is compared on many more without the program.
-const EXPLAINED: usize = 800;
+const EXPLAINED: usize = 1_000;
 #[rustfmt::skip]
 const LENGTHS: [usize; 23] = [
     0, 1, 2, 511, 512, 513, 1_024, 5_119, 5_120, 5_121, 5_632, 6_656, 6_657, 7_168, 8_192, 8_193, 20_480,
@@ -45,11 +45,12 @@ fn main() -> ExitCode {
         name: "sheets",
         inputs: INPUTS,
         least: INPUTS,
-        often: &[0, 1, 2, 3, 4, 5, 6, 7, 12, 13],
+        often: &[0, 1, 2, 3, 4, 5, 6, 7, 12, 13, 14],
         counted: &[],
         sorts: 10,
         balances: 5,
         uneven: 1,
+        retired: 1,
     };
     let mut coverage = Coverage::default();
     let halves = Halves::new(Due::Times(1), &mut coverage);
@@ -69,6 +70,7 @@ fn main() -> ExitCode {
         // No sort of rows is asked of so few.
         sorts: 0,
         uneven: 0,
+        retired: 0,
         ..plan
     };
     let explained = run(&plan, arguments, make_explained, |case, rng| {
@@ -95,7 +97,7 @@ fn make(index: usize, rng: &mut Rng) -> Case {
         // A full return, cut or with more behind it.
         1 => Rows::good(rng, [32; 3]).to_bytes(),
         2 => Rows::good(rng, [0; 3]).to_bytes(),
-        3 => Rows::good_in(rng, 2, [32; WITH_IDS.len()]).to_bytes(),
+        3 => Rows::good_in_later(rng, [32; WITH_IDS.len()]).to_bytes(),
         _ => (0..length).map(|_| rng.byte()).collect(),
     };
     bytes.resize(length, 0);

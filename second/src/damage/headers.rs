@@ -2,7 +2,8 @@
 
 use super::{block, block_count, edition, has_later_kinds};
 use crate::kinds::KINDS;
-use crate::make::{last_kind, renumber, repair_checks, BLOCK, CHECK_AT, MOST_BLOCKS};
+use crate::make::{last_kind, renumber, repair_checks, ALL_EDITIONS};
+use crate::make::{BLOCK, CHECK_AT, MOST_BLOCKS};
 use crate::rng::Rng;
 use std::ops::Range;
 
@@ -96,11 +97,13 @@ pub(super) fn break_header(rng: &mut Rng, bytes: &mut [u8]) -> String {
     format!("3: offset {at} of block {b} set to {}", block[at])
 }
 
-/// An edition that there isn't. Some look like 1 or 2 to a reader of one byte,
+/// An edition that there isn't. Some look like 1, 2 or 3 to a reader of one byte,
 /// or of the bytes in the other order.
 fn unknown_edition(rng: &mut Rng) -> u16 {
-    let any = rng.from_to(3, 65_535) as u16;
-    let likely = [0, 3, 4, 255, 256, 257, 258, 512, 32_769, 32_770, 65_535];
+    let any = rng.from_to(4, 65_535) as u16;
+    let likely = [
+        0, 4, 5, 255, 256, 257, 258, 259, 512, 768, 32_769, 32_770, 32_771, 65_535,
+    ];
     if rng.one_in(12) {
         any
     } else {
@@ -113,7 +116,8 @@ fn unknown_edition(rng: &mut Rng) -> u16 {
 fn break_edition(rng: &mut Rng, bytes: &mut [u8]) -> Option<String> {
     let blocks = block_count(bytes);
     let b = rng.below(blocks);
-    let other = if edition(bytes) == 1 { 2 } else { 1 };
+    let others = ALL_EDITIONS.into_iter().filter(|&e| e != edition(bytes));
+    let other = rng.pick(&others.collect::<Vec<_>>());
     let (which, new) = match rng.below(5) {
         0 => (b..b + 1, unknown_edition(rng)),
         1 => (0..blocks, unknown_edition(rng)),

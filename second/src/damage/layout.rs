@@ -22,13 +22,13 @@ fn break_zero(rng: &mut Rng, bytes: &mut [u8]) -> String {
 /// Breaks number 4 in one of its ways; a way that this return has no room for
 /// becomes a non-zero byte where zero is due.
 pub(super) fn break_layout(rng: &mut Rng, bytes: &mut Vec<u8>) -> String {
-    let done = match rng.below(15) {
+    let done = match rng.below(17) {
         0 => swap_blocks(rng, bytes),
         1 => double_block(rng, bytes),
-        2 => drop_parameters(rng, bytes),
+        2 | 15 => drop_parameters(rng, bytes),
         3 => after_parameters(rng, bytes),
         4 => shorten_full_block(rng, bytes),
-        5 | 13 => overfull_third(rng, bytes),
+        5 | 13 | 16 => overfull_third(rng, bytes),
         6 => empty_block(rng, bytes),
         7 => {
             let b = rng.below(block_count(bytes));

@@ -9,7 +9,7 @@ use crate::rng::Rng;
 /// 0 all random, 1 right headers, 2 good kinds and counts, 3 zeros where due,
 /// 4 fields near their limits, 5 the same with rising ids.
 pub fn random_blocks(rng: &mut Rng, depth: usize) -> Vec<u8> {
-    let edition = rng.pick(&[1, 2]);
+    let edition = rng.pick(&[1, 2, 3]);
     // Good kinds of edition 1 fill ten blocks at most.
     let most = if edition == 1 && depth >= 2 {
         FIRST_FULL

@@ -5,11 +5,7 @@ use crate::make::zero_areas;
 
 /// Number 4 at a block whose header is as it should be but for its fault.
 fn fault(word: &str, blocks: &[(u8, u8)], (edition, place): (u32, usize), more: &str) {
-    let hand = if edition == 1 {
-        Hand::new(blocks)
-    } else {
-        Hand::second(blocks)
-    };
+    let hand = Hand::in_edition(edition as u16, blocks);
     let ((kind, count), all) = (blocks[place], blocks.len());
     let due = format!(
         "refused 4 {place}\nfault {word}\nkind {kind}\ncount {count}\nnumber {place}\n\
@@ -20,7 +16,7 @@ fn fault(word: &str, blocks: &[(u8, u8)], (edition, place): (u32, usize), more: 
 
 #[test]
 fn orders() {
-    for edition in [1, 2] {
+    for edition in [1, 2, 3] {
         let before = |kind| format!("kind_before {kind}\n");
         fault("order", &[(2, 1), (1, 1), (4, 1)], (edition, 1), &before(2));
         // A last block below kind 4, too; and a count of 0, and a fourth.
@@ -80,7 +76,7 @@ fn counts() {
 
 #[test]
 fn unfilled_and_overfilled() {
-    for edition in [1, 2] {
+    for edition in [1, 2, 3] {
         let next = "kind_next 2\n";
         fault("unfilled", &[(2, 11), (2, 12), (4, 1)], (edition, 0), next);
         fault(
@@ -113,7 +109,7 @@ fn unfilled_and_overfilled() {
 #[test]
 fn a_fourth_is_never_first() {
     let kinds = [1, 2, 4, 5];
-    for edition in [1, 2] {
+    for edition in [1, 2, 3] {
         for index in 0..usize::pow(4 * 3, 5) {
             let digit = |b: u32| index / usize::pow(12, b) % 12;
             let block = |b| (kinds[digit(b) % 4], [8, 12, 1][digit(b) / 4]);

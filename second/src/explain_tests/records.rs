@@ -1,4 +1,4 @@
-//! Numbers 5 to 7, 12 and 13.
+//! Numbers 5 to 7, 12, 13 and 14.
 
 use super::*;
 use crate::judge::tests::{full, FULL};
@@ -224,4 +224,31 @@ fn soils() {
     assert_eq!(with(&top), due);
     assert!(with(&[[3, 5, 5]]).starts_with("heaviest_onsite 7\n"));
     assert!(with(&[[3, 5, 0], [3, 0, 5]]).starts_with("heaviest_onsite 7\n"));
+}
+
+/// Number 14 names the row, then its unit code and the edition, which has no such code.
+#[test]
+fn trees() {
+    let with = |edition: u16, codes: &[u32]| {
+        let mut rows = worked_day();
+        rows.edition = edition;
+        let row = |(id, &code): (u32, &u32)| [id, code, 1, 1, 1];
+        rows.stock = (7..).zip(codes).map(row).collect();
+        text_of(&rows.to_bytes())
+    };
+    let due = "refused 14 12\nblock 1\nrow 0\nkind_name stock\nid 7\nunit_code 1\nedition 3\n";
+    assert_eq!(with(3, &[1]), due);
+    assert_eq!(with(3, &[1, 0, 1]), due);
+    let mut codes = [0; 32];
+    codes[31] = 1;
+    let due = "refused 14 43\nblock 3\nrow 7\nkind_name stock\nid 38\nunit_code 1\nedition 3\n";
+    assert_eq!(with(3, &codes), due);
+    // A code that there isn't is a field above its limit, in any edition.
+    for edition in [1, 2, 3] {
+        let due = field((13, "stock", Some(8)), (1, "unit_code"), 2, 1);
+        assert_eq!(with(edition, &[1, 2]), due);
+    }
+    for edition in [1, 2] {
+        assert!(with(edition, &[1, 1]).starts_with("heaviest_onsite 7\n"));
+    }
 }

@@ -65,7 +65,7 @@ pub(super) fn gas_near_half(rng: &mut Rng) -> Rows {
 fn with_spare_rows(rng: &mut Rng) -> Rows {
     let mut counts = WITH_IDS.map(|_| rng.below(3));
     counts[4] = SPARE + rng.pick(&[0, 0, 1, 8, 9, MOST_ROWS - SPARE]);
-    let mut rows = Rows::good_in(rng, 2, counts);
+    let mut rows = Rows::good_in_later(rng, counts);
     if rng.one_in(3) {
         rows.savanna.iter_mut().for_each(|row| row[BURNED] = 0);
     }
@@ -116,7 +116,7 @@ fn set_carbon(rng: &mut Rng, row: &mut Row, digit: u32, power: usize) {
 pub(super) fn large_alone(rng: &mut Rng) -> Rows {
     let mut counts = WITH_IDS.map(|_| rng.below(3));
     counts[4] = rng.pick(&[1, 2, 12, 31, 32, 32, 32, 32]);
-    let mut rows = Rows::good_in(rng, 2, counts);
+    let mut rows = Rows::good_in_later(rng, counts);
     enlarge(rng, &mut rows.savanna);
     rows
 }

@@ -29,7 +29,7 @@ fn gain(rows: &[SoilRow]) -> i128 {
 pub(super) fn near_half(rng: &mut Rng) -> Rows {
     let mut counts = WITH_IDS.map(|_| rng.below(3));
     counts[5] = rng.pick(&[0, 0, 1, 8, 9, MOST_ROWS - SPARE]);
-    let mut rows = Rows::good_in(rng, 2, counts);
+    let mut rows = Rows::good_in_later(rng, counts);
     if rng.one_in(3) {
         // All that is gained or lost is the spare rows'.
         let none = rng.pick(&SOIL_CARBON);

@@ -53,7 +53,7 @@ pub(crate) fn computed_check(block: &Block) -> u32 {
 
 /// Number 3: "kind not 1 to 4, wrong block number, wrong number of blocks", "an
 /// edition other than 1 or 2, an edition unlike block 0's, or a kind above 4 in
-/// edition 1". Numbers of two bytes are compared whole.
+/// edition 1"; it "lets edition 3 in" (02, §12). Numbers of two bytes are compared whole.
 ///
 /// The right number of blocks is the length over 512, the only one that number
 /// 1 leaves.
@@ -65,11 +65,11 @@ pub(super) fn header_holds(blocks: &[Block], b: usize) -> bool {
         && edition(block) == edition(&blocks[0])
 }
 
-/// An edition that is not known has no kinds at all.
+/// An edition that is not known has no kinds at all. "Edition 3 is otherwise edition 2."
 fn is_kind_of(edition: u16, kind: u8) -> bool {
     match edition {
         1 => (CONVERSION..=PARAMETERS).contains(&kind),
-        2 => (CONVERSION..=SOIL).contains(&kind),
+        2 | 3 => (CONVERSION..=SOIL).contains(&kind),
         _ => false,
     }
 }

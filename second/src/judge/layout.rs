@@ -99,8 +99,8 @@ impl Fault {
 }
 
 /// Part of number 4, about where a return may end. In edition 1 it is at fault
-/// with "kind 4 and not last, or last and not kind 4". In edition 2 these become
-/// "kind 4 before a kind below 5, a last block below kind 4, a kind above 4 with
+/// with "kind 4 and not last, or last and not kind 4". In edition 2, and so in 3, these
+/// become "kind 4 before a kind below 5, a last block below kind 4, a kind above 4 with
 /// no kind 4 before it".
 fn end_holds(edition: u16, kind: u8, next: Option<u8>, parameters_seen: bool) -> bool {
     match next {

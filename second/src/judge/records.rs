@@ -1,22 +1,29 @@
-//! Numbers 5 to 7: the ids, and each record by its fields.
+//! Numbers 5, 6, 14 and 7: the ids, and each record by its fields.
 
-use super::{four, two, used_records, Block, Record, Refusal, RECORDS_PER_BLOCK};
+use super::{edition, four, two, unit_code, used_records, Block, Record, Refusal};
 use super::{ABANDONED, CONVERSION, HARVEST, PARAMETERS, SAVANNA, SOIL, STOCK};
+use super::{RECORDS_PER_BLOCK, TREES, WITHOUT_TREES};
 
-/// Which of the numbers 6 and 7 a record is at fault with.
+/// Which of the numbers 6, 14 and 7 a record is at fault with.
 #[derive(Clone, Copy, PartialEq, Eq)]
 struct Faults {
     limit: bool,
+    trees: bool,
     fractions: bool,
 }
 
-/// The first place of each of the numbers 6 and 7.
-type FirstPlaces = [Option<u32>; 2];
+/// The numbers of single records behind 5, in the order in which they are tried: 14
+/// "straight after 6" (02, §12).
+const TRIED: [u32; 3] = [6, 14, 7];
 
-/// Numbers 5 to 7. Only tried when 1 to 4 are clean, so the blocks of one kind
+/// The first place of each of them.
+type FirstPlaces = [Option<u32>; TRIED.len()];
+
+/// Numbers 5, 6, 14 and 7. Only tried when 1 to 4 are clean, so the blocks of one kind
 /// stand together and every count is good.
 pub(super) fn records_hold(blocks: &[Block]) -> Result<(), Refusal> {
-    let mut first: FirstPlaces = [None; 2];
+    let edition = edition(&blocks[0]);
+    let mut first = FirstPlaces::default();
     let mut kind_before = 0;
     let mut least_id = 0;
     for (b, block) in blocks.iter().enumerate() {
@@ -36,7 +43,7 @@ pub(super) fn records_hold(blocks: &[Block]) -> Result<(), Refusal> {
         }
         match kind {
             CONVERSION => note(records, place, conversion_faults, &mut first),
-            STOCK => note(records, place, stock_faults, &mut first),
+            STOCK => note(records, place, |r| stock_faults(edition, r), &mut first),
             HARVEST => note(records, place, harvest_faults, &mut first),
             ABANDONED => note(records, place, abandoned_faults, &mut first),
             SAVANNA => note(records, place, savanna_faults, &mut first),
@@ -44,7 +51,8 @@ pub(super) fn records_hold(blocks: &[Block]) -> Result<(), Refusal> {
             _ => note(records, place, parameter_faults, &mut first),
         }
     }
-    match (6..).zip(first).find_map(|(n, place)| Some((n, place?))) {
+    let mut tried = TRIED.into_iter().zip(first);
+    match tried.find_map(|(number, place)| Some((number, place?))) {
         None => Ok(()),
         Some((number, place)) => Err(Refusal { number, place }),
     }
@@ -72,8 +80,8 @@ fn note(
 ) {
     for (record, place) in records.iter().zip(place..) {
         let faults = faults_of(record);
-        if faults.limit | faults.fractions {
-            let found = [faults.limit, faults.fractions];
+        if faults.limit | faults.trees | faults.fractions {
+            let found = [faults.limit, faults.trees, faults.fractions];
             for (first, _) in first.iter_mut().zip(found).filter(|(_, found)| *found) {
                 first.get_or_insert(place);
             }
@@ -119,18 +127,24 @@ fn conversion_faults(r: &Record) -> Faults {
         // Three numbers of two bytes: their sum needs the wider word.
         fractions: u32::from(on_site) + u32::from(off_site) + u32::from(decay)
             > u32::from(MOST_FRACTION),
+        trees: false,
     }
 }
 
 /// "unit code: 0 land, 1 scattered trees" is a field with limit 1, so another
-/// code is number 6.
-fn stock_faults(r: &Record) -> Faults {
-    only_limit(
-        (r[4] > LAST_UNIT_CODE)
+/// code is number 6, in any edition: "14 [..] for code 1 in edition 3 [..]; code 2 or
+/// above stays 6" (02, §12).
+fn stock_faults(edition: u16, r: &Record) -> Faults {
+    let limits = only_limit(
+        (unit_code(r) > LAST_UNIT_CODE)
             | (two(r, 6) > MOST_RATE)
             | (four(r, 8) > MOST_AMOUNT)
             | (two(r, 12) > MOST_FRACTION),
-    )
+    );
+    Faults {
+        trees: edition == WITHOUT_TREES && unit_code(r) == TREES,
+        ..limits
+    }
 }
 
 fn harvest_faults(r: &Record) -> Faults {
@@ -177,10 +191,11 @@ fn soil_faults(r: &Record) -> Faults {
     )
 }
 
-/// Number 7 is about conversion records alone.
+/// Number 7 is about conversion records alone, and 14 about stock.
 fn only_limit(limit: bool) -> Faults {
     Faults {
         limit,
+        trees: false,
         fractions: false,
     }
 }

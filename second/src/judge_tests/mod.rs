@@ -7,6 +7,7 @@ mod later;
 mod records;
 mod second_edition;
 mod soils;
+mod trees;
 
 use super::{judge, Counts, Refusal, Verdict, LAST_KIND, MOST_BLOCKS};
 
@@ -26,7 +27,12 @@ impl Hand {
 
     /// As [`Hand::new`], in edition 2.
     pub(crate) fn second(blocks: &[(u8, u8)]) -> Self {
-        (0..blocks.len()).fold(Self::new(blocks), |hand, b| hand.edition(b, 2))
+        Self::in_edition(2, blocks)
+    }
+
+    /// As [`Hand::new`], in this edition.
+    pub(crate) fn in_edition(edition: u16, blocks: &[(u8, u8)]) -> Self {
+        (0..blocks.len()).fold(Self::new(blocks), |hand, b| hand.edition(b, edition))
     }
 
     pub(crate) fn edition(mut self, block: usize, edition: u16) -> Self {
@@ -83,7 +89,11 @@ impl Hand {
 fn accepted_in(edition: u16, front: &[u32]) -> Verdict {
     let mut rows = [0; LAST_KIND];
     rows[..front.len()].copy_from_slice(front);
-    Verdict::Accepted(Counts { edition, rows })
+    Verdict::Accepted(Counts {
+        edition,
+        rows,
+        scattered: 0,
+    })
 }
 
 fn accepted<const N: usize>(rows: [u32; N]) -> Verdict {

@@ -27,8 +27,8 @@ fn thirteen_blocks_are_full_without_savannas_and_soils() {
 
 #[test]
 fn editions() {
-    // Each of the two bytes counts: 257 and 258 are neither 1 nor 2.
-    for edition in [0, 3, 256, 257, 258, 512, 65_535] {
+    // Each of the two bytes counts: 257, 258 and 259 are neither 1 nor 2 nor 3.
+    for edition in [0, 4, 5, 256, 257, 258, 259, 512, 768, 65_535] {
         assert_eq!(lone().edition(0, edition).judged(), refused(3, 0));
         let both = one_conversion().edition(0, edition).edition(1, edition);
         assert_eq!(both.judged(), refused(3, 0));
@@ -36,11 +36,15 @@ fn editions() {
         assert_eq!(last.judged(), refused(3, 1));
     }
     // Unlike block 0's, though each is an edition: the later block is at fault.
-    assert_eq!(one_conversion().edition(1, 2).judged(), refused(3, 1));
-    assert_eq!(one_conversion().edition(0, 2).judged(), refused(3, 1));
+    for later in [2, 3] {
+        assert_eq!(one_conversion().edition(1, later).judged(), refused(3, 1));
+        assert_eq!(one_conversion().edition(0, later).judged(), refused(3, 1));
+    }
     let three = || Hand::second(&[(1, 1), (2, 1), (4, 1)]);
-    assert_eq!(three().edition(2, 1).judged(), refused(3, 2));
-    assert_eq!(three().edition(0, 1).judged(), refused(3, 1));
+    for other in [1, 3] {
+        assert_eq!(three().edition(2, other).judged(), refused(3, 2));
+        assert_eq!(three().edition(0, other).judged(), refused(3, 1));
+    }
 }
 
 #[test]

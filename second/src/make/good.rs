@@ -3,8 +3,10 @@
 use super::draw::{draw_row, good_ids, good_value};
 use super::savannas::style_savannas;
 use super::soils::style_soils;
+use super::trees::style_stock;
 use super::{fields, place_of, RowCounts, Rows, AFTER, BEFORE};
-use super::{FIRST_WITH_IDS, LATER, MOST_ROWS, SOIL_AREAS, SUMMED, WITH_IDS};
+use super::{FIRST_WITH_IDS, LATER, LATER_EDITIONS};
+use super::{MOST_ROWS, SOIL_AREAS, SUMMED, WITH_IDS};
 use crate::rng::Rng;
 
 const MOST_DENSITY: u32 = 10_000;
@@ -37,35 +39,46 @@ impl Rows {
         for row in &mut rows.conversion {
             good_conversion(rng, row, thinner);
         }
+        style_stock(rng, edition, &mut rows.stock);
         style_savannas(rng, &mut rows.savanna);
         style_soils(rng, &mut rows.soil);
         rows.cover(rng);
         rows
     }
 
-    /// As [`Rows::good`], in edition 2 where it alone has these kinds, and else in
-    /// either.
-    pub fn good_in_either(rng: &mut Rng, counts: RowCounts) -> Self {
-        let second = later(&counts) || rng.one_in(4);
-        Self::good_in(rng, 1 + u16::from(second), counts)
+    /// As [`Rows::good`], in an edition that has these kinds.
+    pub fn good_in_any(rng: &mut Rng, counts: RowCounts) -> Self {
+        let edition = if later(&counts) {
+            rng.pick(&LATER_EDITIONS)
+        } else {
+            rng.pick(&[1, 1, 2, 3])
+        };
+        Self::good_in(rng, edition, counts)
     }
 
-    /// Good rows of either edition with random counts from 0 to 32, the block
+    /// As [`Rows::good`], in one of the editions that have the kinds above 4.
+    pub fn good_in_later(rng: &mut Rng, counts: impl AsRef<[usize]>) -> Self {
+        let edition = rng.pick(&LATER_EDITIONS);
+        Self::good_in(rng, edition, counts)
+    }
+
+    /// Good rows of any edition with random counts from 0 to 32, the block
     /// borders favoured.
     pub fn any_good(rng: &mut Rng) -> Self {
         Self::good_from(rng, 0)
     }
 
-    /// Good rows of either edition with at least `least` in each of its kinds
+    /// Good rows of any edition with at least `least` in each of its kinds
     /// with ids.
     pub fn good_from(rng: &mut Rng, least: usize) -> Self {
-        let edition = rng.pick(&[1, 2]);
+        let edition = rng.pick(&[1, 1, 2, 3]);
         Self::good_from_in(rng, edition, least)
     }
 
     /// The same in an edition that has the kinds above 4.
     pub fn good_later(rng: &mut Rng, least: usize) -> Self {
-        Self::good_from_in(rng, 2, least)
+        let edition = rng.pick(&LATER_EDITIONS);
+        Self::good_from_in(rng, edition, least)
     }
 
     /// Good as far as they can be, after this field of a row was changed within its limit:
@@ -79,7 +92,8 @@ impl Rows {
         }
     }
 
-    fn good_from_in(rng: &mut Rng, edition: u16, least: usize) -> Self {
+    /// The same in this edition.
+    pub fn good_from_in(rng: &mut Rng, edition: u16, least: usize) -> Self {
         // Now and then all blocks of the edition, or all rows.
         let least = match rng.below(16) {
             0 => 25,

@@ -9,27 +9,31 @@ pub static OF_RETURNS: Sentences<Seen> = Sentences {
     general: &[
         ("3, an edition that there isn't", |s| s.number == 3 && !s.known()),
         ("3, an edition unlike block 0's", |s| s.number == 3 && s.known() && s.own != s.first),
-        ("3, a kind above the last in edition 2", |s| s.header(2) && usize::from(s.kind) > KINDS.len()),
-        ("4 in edition 2, kind 4 before a kind below 5", |s| s.layout(2) && s.kind == 4 && s.next().is_some_and(|next| next < 5)),
-        ("4 in edition 2, a last block below kind 4", |s| s.layout(2) && s.kind < 4 && s.next().is_none()),
-        ("4 in edition 2, a kind above 4 behind a higher one", |s| s.layout(2) && s.kind > 4 && s.before().last() > Some(&s.kind)),
-        ("4 in edition 2, more than one kind 4", |s| s.layout(2) && s.times(4) > 1),
         ("4 in edition 1, above ten blocks", |s| s.layout(1) && s.kinds.len() > FIRST_FULL),
         ("1, above the most blocks and whole", |s| s.number == 1 && s.whole && s.kinds.len() > MOST_BLOCKS),
-        ("accepted, the most blocks", |s| s.number == 0 && s.kinds.len() == MOST_BLOCKS),
-        ("accepted, edition 2 without kinds above 4", |s| s.accepted(2) && s.later() == []),
+    ],
+    of_editions: &[
+        ("3, a kind above the last in edition @", |s, e| s.header(e) && usize::from(s.kind) > KINDS.len()),
+        ("4 in edition @, kind 4 before a kind below 5", |s, e| s.layout(e) && s.kind == 4 && s.next().is_some_and(|next| next < 5)),
+        ("4 in edition @, a last block below kind 4", |s, e| s.layout(e) && s.kind < 4 && s.next().is_none()),
+        ("4 in edition @, a kind above 4 behind a higher one", |s, e| s.layout(e) && s.kind > 4 && s.before().last() > Some(&s.kind)),
+        ("4 in edition @, more than one kind 4", |s, e| s.layout(e) && s.times(4) > 1),
+        ("accepted, the most blocks in edition @", |s, e| s.accepted(e) && s.kinds.len() == MOST_BLOCKS),
+        ("accepted, edition @ without kinds above 4", |s, e| s.accepted(e) && s.later() == []),
     ],
     of_kinds: &[
         ("3, kind # in edition 1", |s, kind| s.header(1) && s.kind == kind),
-        ("4 in edition 2, kind # with no kind 4 before it", |s, kind| s.layout(2) && s.kind == kind && !s.before().contains(&4)),
-        ("4 in edition 2, kind # with a count outside 1 to 12", |s, kind| s.layout(2) && s.kind == kind && !(1..=12).contains(&s.count())),
-        ("4 in edition 2, third of kind # with a count above 8", |s, kind| {
-            s.layout(2) && s.kind == kind && s.before().ends_with(&[kind, kind]) && s.count() > 8
-        }),
-        ("4 in edition 2, a non-zero byte behind the fields of kind #", |s, kind| s.layout(2) && s.kind == kind && s.stray()),
         ("5, kind #", |s, kind| s.number == 5 && s.kind == kind),
         ("6, kind #", |s, kind| s.number == 6 && s.kind == kind),
-        ("accepted, edition 2 with kind # alone above 4", |s, kind| s.accepted(2) && s.later() == [kind]),
+    ],
+    of_both: &[
+        ("4 in edition @, kind # with no kind 4 before it", |s, e, kind| s.layout(e) && s.kind == kind && !s.before().contains(&4)),
+        ("4 in edition @, kind # with a count outside 1 to 12", |s, e, kind| s.layout(e) && s.kind == kind && !(1..=12).contains(&s.count())),
+        ("4 in edition @, third of kind # with a count above 8", |s, e, kind| {
+            s.layout(e) && s.kind == kind && s.before().ends_with(&[kind, kind]) && s.count() > 8
+        }),
+        ("4 in edition @, a non-zero byte behind the fields of kind #", |s, e, kind| s.layout(e) && s.kind == kind && s.stray()),
+        ("accepted, edition @ with kind # alone above 4", |s, e, kind| s.accepted(e) && s.later() == [kind]),
     ],
 };
 
@@ -140,57 +144,68 @@ mod tests {
 
     #[test]
     fn sentences_by_hand() {
-        let parameters = "4 in edition 2, kind 4 before a kind below 5";
-        assert_eq!(met(&blocks(2, &[4, 3]), 4000), [parameters]);
-        let twice = "4 in edition 2, more than one kind 4";
-        assert_eq!(met(&blocks(2, &[4, 4]), 4000), [parameters, twice]);
-        let last = "4 in edition 2, a last block below kind 4";
-        assert_eq!(met(&blocks(2, &[1, 3]), 4001), [last]);
-        let mut mixed = blocks(2, &[1, 3]);
-        mixed[518] = 1;
-        let unlike = "3, an edition unlike block 0's";
-        assert_eq!(met(&mixed, 3001), [unlike]);
-        mixed[518] = 77;
-        let unknown = "3, an edition that there isn't";
-        assert_eq!(met(&mixed, 3001), [unknown]);
-        let above = "3, a kind above the last in edition 2";
-        assert_eq!(met(&blocks(2, &[1, 99]), 3001), [above]);
-        let without = "accepted, edition 2 without kinds above 4";
-        assert_eq!(met(&blocks(2, &[3, 4]), 0), [without]);
-        let higher = "4 in edition 2, a kind above 4 behind a higher one";
-        assert_eq!(met(&blocks(2, &[4, 6, 5]), 4002), [higher]);
+        for edition in [2, 3] {
+            let named = |name: &str| name.replace('@', &edition.to_string());
+            let blocks = |kinds: &[u8]| blocks(edition, kinds);
+            let parameters = named("4 in edition @, kind 4 before a kind below 5");
+            assert_eq!(met(&blocks(&[4, 3]), 4000), [&parameters[..]]);
+            let twice = named("4 in edition @, more than one kind 4");
+            assert_eq!(met(&blocks(&[4, 4]), 4000), [parameters, twice]);
+            let last = named("4 in edition @, a last block below kind 4");
+            assert_eq!(met(&blocks(&[1, 3]), 4001), [last]);
+            let above = named("3, a kind above the last in edition @");
+            assert_eq!(met(&blocks(&[1, 99]), 3001), [above]);
+            let without = named("accepted, edition @ without kinds above 4");
+            assert_eq!(met(&blocks(&[3, 4]), 0), [without]);
+            let higher = named("4 in edition @, a kind above 4 behind a higher one");
+            assert_eq!(met(&blocks(&[4, 6, 5]), 4002), [higher]);
+            for other in [1, 5 - edition] {
+                let mut mixed = blocks(&[1, 3]);
+                mixed[518] = other;
+                let unlike = "3, an edition unlike block 0's";
+                assert_eq!(met(&mixed, 3001), [unlike]);
+            }
+            for other in [0, 4, 77] {
+                let mut mixed = blocks(&[1, 3]);
+                mixed[518] = other;
+                let unknown = "3, an edition that there isn't";
+                assert_eq!(met(&mixed, 3001), [unknown]);
+            }
+        }
     }
 
     /// The parameters and blocks of each kind above 4 behind them.
     #[test]
     fn later_kinds_by_hand() {
         for kind in later_kinds() {
-            let named = |name: &str| [name.replace('#', &kind.to_string())];
-            assert_eq!(
-                met(&blocks(1, &[1, kind]), 3001),
-                named("3, kind # in edition 1")
-            );
-            let early = named("4 in edition 2, kind # with no kind 4 before it");
-            assert_eq!(met(&blocks(2, &[kind, 4]), 4000), early);
-            let mut two = blocks(2, &[4, kind]);
-            let alone = named("accepted, edition 2 with kind # alone above 4");
-            assert_eq!(met(&two, 0), alone);
-            assert_eq!(met(&two, 5012), named("5, kind #"));
-            assert_eq!(met(&two, 6012), named("6, kind #"));
-            assert!(met(&two, 6000).is_empty());
-            let end = KINDS[usize::from(kind) - 1].fields_end();
-            two[512 + 8 + end - 1] = 1;
-            assert!(met(&two, 4001).is_empty());
-            two[512 + 8 + end] = 1;
-            let stray = named("4 in edition 2, a non-zero byte behind the fields of kind #");
-            assert_eq!(met(&two, 4001), stray);
-            two[513] = 0;
-            let count = named("4 in edition 2, kind # with a count outside 1 to 12");
-            assert_eq!(met(&two, 4001), count);
-            let mut four = blocks(2, &[4, kind, kind, kind]);
-            four[3 * 512 + 1] = 9;
-            let third = named("4 in edition 2, third of kind # with a count above 8");
-            assert_eq!(met(&four, 4003), third);
+            let own = |name: &str| [name.replace('#', &kind.to_string())];
+            let first = own("3, kind # in edition 1");
+            assert_eq!(met(&blocks(1, &[1, kind]), 3001), first);
+            for edition in [2, 3] {
+                let named = |name: &str| own(&name.replace('@', &edition.to_string()));
+                let blocks = |kinds: &[u8]| blocks(edition, kinds);
+                let early = named("4 in edition @, kind # with no kind 4 before it");
+                assert_eq!(met(&blocks(&[kind, 4]), 4000), early);
+                let mut two = blocks(&[4, kind]);
+                let alone = named("accepted, edition @ with kind # alone above 4");
+                assert_eq!(met(&two, 0), alone);
+                assert_eq!(met(&two, 5012), named("5, kind #"));
+                assert_eq!(met(&two, 6012), named("6, kind #"));
+                assert!(met(&two, 6000).is_empty());
+                let end = KINDS[usize::from(kind) - 1].fields_end();
+                two[512 + 8 + end - 1] = 1;
+                assert!(met(&two, 4001).is_empty());
+                two[512 + 8 + end] = 1;
+                let stray = named("4 in edition @, a non-zero byte behind the fields of kind #");
+                assert_eq!(met(&two, 4001), stray);
+                two[513] = 0;
+                let count = named("4 in edition @, kind # with a count outside 1 to 12");
+                assert_eq!(met(&two, 4001), count);
+                let mut four = blocks(&[4, kind, kind, kind]);
+                four[3 * 512 + 1] = 9;
+                let third = named("4 in edition @, third of kind # with a count above 8");
+                assert_eq!(met(&four, 4003), third);
+            }
         }
     }
 }

@@ -8,21 +8,25 @@ use crate::lists::RowLists;
 pub static OF_WRITING: Sentences<SeenRows> = Sentences {
     general: &[
         ("10, an unknown edition and nothing else at place 0", |s| s.answer == 10_000 && s.added_up() && !s.known()),
-        ("accepted, edition 2 without kinds above 4", |s| s.accepted(2) && s.later() == []),
         ("6, a soil type of 65,536", |s| s.row_refused(6, SOIL) && s.row.get(2) == Some(&65_536)),
-        ("accepted, edition 2 with all kinds above 4", |s| s.accepted(2) && s.later().len() == later_kinds().count()),
+    ],
+    of_editions: &[
+        ("accepted, edition @ without kinds above 4", |s, e| s.accepted(e) && s.later() == []),
+        ("accepted, edition @ with all kinds above 4", |s, e| s.accepted(e) && s.later().len() == later_kinds().count()),
     ],
     of_kinds: &[
         ("10, rows of kind # in edition 1", |s, kind| s.edition == 1 && s.list_refused(kind)),
-        ("10, more rows than there may be of kind # in edition 2", |s, kind| {
-            s.edition == 2 && s.list_refused(kind) && s.length(kind) > kind_of(kind).numbers * kind_of(kind).most_rows
-        }),
-        ("10, no whole number of rows of kind # in edition 2", |s, kind| {
-            s.edition == 2 && s.list_refused(kind) && !s.length(kind).is_multiple_of(kind_of(kind).numbers)
-        }),
         ("5, kind #", |s, kind| s.row_refused(5, kind)),
         ("6, kind #", |s, kind| s.row_refused(6, kind)),
-        ("accepted, edition 2 with kind # alone above 4", |s, kind| s.accepted(2) && s.later() == [kind]),
+    ],
+    of_both: &[
+        ("10, more rows than there may be of kind # in edition @", |s, e, kind| {
+            s.edition == e && s.list_refused(kind) && s.length(kind) > kind_of(kind).numbers * kind_of(kind).most_rows
+        }),
+        ("10, no whole number of rows of kind # in edition @", |s, e, kind| {
+            s.edition == e && s.list_refused(kind) && !s.length(kind).is_multiple_of(kind_of(kind).numbers)
+        }),
+        ("accepted, edition @ with kind # alone above 4", |s, e, kind| s.accepted(e) && s.later() == [kind]),
     ],
 };
 
@@ -129,29 +133,36 @@ mod tests {
     fn sentences_by_hand() {
         let unknown = "10, an unknown edition and nothing else at place 0";
         assert_eq!(met(77, &[(4, 6), (6, 14)], 10_000), [unknown]);
-        let without = "accepted, edition 2 without kinds above 4";
-        assert_eq!(met(2, &[(4, 6)], 0), [without]);
-        let mut all = vec![(4, 6)];
-        all.extend(later_kinds().map(|kind| (kind, kind_of(kind).numbers)));
-        let with = "accepted, edition 2 with all kinds above 4";
-        assert_eq!(met(2, &all, 0), [with]);
+        for edition in [2, 3] {
+            let met = |of: &[(u8, usize)], answer| met(edition, of, answer);
+            let in_edition = |name: &str| name.replace('@', &edition.to_string());
+            let without = in_edition("accepted, edition @ without kinds above 4");
+            assert_eq!(met(&[(4, 6)], 0), [without]);
+            let mut all = vec![(4, 6)];
+            all.extend(later_kinds().map(|kind| (kind, kind_of(kind).numbers)));
+            let with = in_edition("accepted, edition @ with all kinds above 4");
+            assert_eq!(met(&all, 0), [with]);
+            for kind in later_kinds() {
+                let named = |name: &str| [in_edition(name).replace('#', &kind.to_string())];
+                let (numbers, refused) = (kind_of(kind).numbers, 10_000 + u32::from(kind));
+                let with = |length: usize| [(4, 6), (kind, length)];
+                let more = named("10, more rows than there may be of kind # in edition @");
+                assert_eq!(met(&with(33 * numbers), refused), more);
+                let part = named("10, no whole number of rows of kind # in edition @");
+                assert_eq!(met(&with(numbers - 1), refused), part);
+                let alone = named("accepted, edition @ with kind # alone above 4");
+                assert_eq!(met(&with(numbers), 0), alone);
+                // Thirteen stock rows are blocks 0 and 1, the parameters 2, the kind 3.
+                let places = [(2, 65), (4, 6), (kind, 2 * numbers)];
+                assert_eq!(met(&places, 5036), named("5, kind #"));
+                assert_eq!(met(&places, 6037), named("6, kind #"));
+                assert!(met(&places, 6024).is_empty());
+            }
+        }
         for kind in later_kinds() {
-            let named = |name: &str| [name.replace('#', &kind.to_string())];
             let (numbers, refused) = (kind_of(kind).numbers, 10_000 + u32::from(kind));
-            let with = |length: usize| [(4, 6), (kind, length)];
-            let first = named("10, rows of kind # in edition 1");
-            assert_eq!(met(1, &with(numbers), refused), first);
-            let more = named("10, more rows than there may be of kind # in edition 2");
-            assert_eq!(met(2, &with(33 * numbers), refused), more);
-            let part = named("10, no whole number of rows of kind # in edition 2");
-            assert_eq!(met(2, &with(numbers - 1), refused), part);
-            let alone = named("accepted, edition 2 with kind # alone above 4");
-            assert_eq!(met(2, &with(numbers), 0), alone);
-            // Thirteen stock rows are blocks 0 and 1, the parameters 2, the kind 3.
-            let places = [(2, 65), (4, 6), (kind, 2 * numbers)];
-            assert_eq!(met(2, &places, 5036), named("5, kind #"));
-            assert_eq!(met(2, &places, 6037), named("6, kind #"));
-            assert!(met(2, &places, 6024).is_empty());
+            let first = format!("10, rows of kind {kind} in edition 1");
+            assert_eq!(met(1, &[(4, 6), (kind, numbers)], refused), [first]);
         }
     }
 

@@ -1,9 +1,8 @@
 -- `counted::put_counts` meets its contract. Assumes nothing.
-use Prim.Native.Nat.{suc, _-_}
+use Prim.Native.Nat.{_-_}
 use mathlib.Core.Path.{_≡_, _∙_}
 use lib.ListN.{length, getD}
-use Rattle.form.specs.Layout.{kinds}
-use Rattle.counted.specs.Counts.{held}
+use Rattle.counted.specs.Counts.{held, countsRoom}
 use Rattle.form.proofs.EachKind.{kinds-are, few-kinds}
 use Rattle.counted.proofs.Rooms.{Handing, handing-none, handing-more, handing-all}
 use borrow.Author.Needs.{needs}
@@ -15,7 +14,7 @@ abbrev Inv-loop : tie.InvT-loop
 Inv-loop c room₀ k₀ room k = Handing (held c) room₀ room k
 
 abbrev μ-loop : tie.MeasureT-loop
-μ-loop c room₀ k₀ room k = suc kinds - k
+μ-loop c room₀ k₀ room k = countsRoom - k
 
 loop-holds : tie.Need-loop-holds Inv-loop μ-loop
 loop-holds c = handing-none

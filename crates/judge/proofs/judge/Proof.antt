@@ -1,11 +1,10 @@
 -- `judge::judge` meets its contract. Assumes nothing.
-use mathlib.Core.Path.{sym, ap, _∙_}
+use mathlib.Core.Path.{refl, sym, ap, _∙_}
 use denote.Ref.{now}
 use Rattle.form.specs.Records.{filed}
 use Rattle.form.specs.Sums.{sumRules}
 use Rattle.form.specs.Verdict.{formRules, verdictBy, verdictOf}
 use Rattle.form.proofs.Order.{ruled-before}
-use Rattle.form.proofs.Lengths.{clean-length}
 use borrow.Author.Needs.{needs}
 use Rattle.judge.proofs.judge.Statement.{statement}
 use Rattle.judge.proofs.judge.Tie as tie
@@ -20,7 +19,7 @@ enum-told : tie.Need-enum-told
 enum-told c = search needs
 
 count-rows-requires : tie.Need-count-rows-requires
-count-rows-requires c κs = clean-length _ (sym (c .before .before .rule-form .ensures) ∙ c .enum-told .given .1)
+count-rows-requires c κs = record { clean = sym (c .before .before .rule-form .ensures) ∙ c .enum-told .given .1; counts = refl }
 
 returns : tie.Need-returns
 unfolding verdictOf

@@ -2,7 +2,7 @@
 use Prim.Native.Nat.{_-_, _≤_}
 use mathlib.Core.Path.{_≡_, refl}
 use denote.Ref.{now}
-use lib.ListN.{drop}
+use lib.ListN.{length, drop}
 use Rattle.form.specs.Ruling.{ruling}
 use Rattle.form.specs.Block.{edition}
 use Rattle.form.specs.Records.{filed, recordRules, recordNumbers, byNumber}
@@ -13,10 +13,10 @@ use Rattle.judge.proofs.rule_records.Statement.{statement}
 use Rattle.judge.proofs.rule_records.Tie as tie
 
 abbrev Inv-loop : tie.InvT-loop
-Inv-loop bytes i₀ i = (i ≤ 3) × (ruling (recordRules (edition bytes 0) (filed bytes)) ≡ ruling (byNumber (edition bytes 0) (filed bytes) (drop i recordNumbers)))
+Inv-loop bytes i₀ i = (i ≤ length recordNumbers) × (ruling (recordRules (edition bytes 0) (filed bytes)) ≡ ruling (byNumber (edition bytes 0) (filed bytes) (drop i recordNumbers)))
 
 abbrev μ-loop : tie.MeasureT-loop
-μ-loop bytes i₀ i = 3 - i
+μ-loop bytes i₀ i = length recordNumbers - i
 
 loop-holds : tie.Need-loop-holds Inv-loop μ-loop
 loop-holds c = (search needs, refl)

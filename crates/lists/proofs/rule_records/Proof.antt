@@ -2,7 +2,7 @@
 use Prim.Native.Nat.{_-_, _≤_}
 use mathlib.Core.Path.{_≡_, refl}
 use denote.Ref.{now}
-use lib.ListN.{drop}
+use lib.ListN.{length, drop}
 use Rattle.form.specs.Ruling.{ruling}
 use Rattle.form.specs.Records.{recordRules, recordNumbers, byNumber}
 use Rattle.filing.specs.Lists.{cut, filedLists}
@@ -15,10 +15,10 @@ use Rattle.lists.proofs.rule_records.Tie as tie
 abbrev Inv-loop : tie.InvT-loop
 Inv-loop edition lengths area i₀ i =
     let f = filedLists (cut lengths area) in
-    (i ≤ 3) × (ruling (recordRules edition f) ≡ ruling (byNumber edition f (drop i recordNumbers)))
+    (i ≤ length recordNumbers) × (ruling (recordRules edition f) ≡ ruling (byNumber edition f (drop i recordNumbers)))
 
 abbrev μ-loop : tie.MeasureT-loop
-μ-loop edition lengths area i₀ i = 3 - i
+μ-loop edition lengths area i₀ i = length recordNumbers - i
 
 loop-holds : tie.Need-loop-holds Inv-loop μ-loop
 loop-holds c = (search needs, refl)

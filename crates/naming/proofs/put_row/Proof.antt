@@ -5,7 +5,7 @@ use native.Mathlib.Nat.{add-zero}
 use Rattle.phrases.specs.Ascii.{codes}
 use Rattle.phrases.specs.Lines.{numberLine, spaces, linesText}
 use Rattle.phrases.proofs.LineTexts.{as-text, more-text, two-text}
-use Rattle.naming.specs.RowLines.{placeLines, namedLines, limitLines, fractionsLines, soilLines}
+use Rattle.naming.specs.RowLines.{placeLines, namedLines, limitLines, fractionsLines, soilLines, treesLines}
 use Rattle.naming.proofs.Texts.{no-lines}
 use native.Mathlib.Omega.{arith}
 use borrow.Author.Needs.{needs}
@@ -53,6 +53,21 @@ put-named-requires-3 c κs = search needs
 
 put-soil-requires : tie.Need-put-soil-requires
 put-soil-requires c κs = search needs
+
+enum-known-reason-5 : tie.Need-enum-known-reason-5
+enum-known-reason-5 c = search needs
+
+put-named-requires-4 : tie.Need-put-named-requires-4
+put-named-requires-4 c κs = search needs
+
+slice-aggregate-put-two-2 : tie.Need-slice-aggregate-put-two-2
+slice-aggregate-put-two-2 c = search needs
+
+put-two-requires-2 : tie.Need-put-two-requires-2
+unfolding spaces
+put-two-requires-2 c κs =
+    let p = c .before .before .before .before in
+    (search needs, omega (arith, p .put-named4 .ensures .1, p .before .before .before .before .before .before .pre))
 
 same-length : tie.Need-same-length
 same-length c = search needs
@@ -112,11 +127,27 @@ returns-4 c =
       omega (arith, p .put-named3 .ensures .1, w .put-soil .ensures .1),
     )
 
+same-length-5 : tie.Need-same-length-5
+same-length-5 c = search needs
+
 returns-5 : tie.Need-returns-5
-unfolding linesText
+unfolding spaces
 returns-5 c =
+    let w = c .before .before in
+    let p = w .before .before .before .before .before in
+    let r = p .before .before .before .reason5 .given in
+    let code = r .0 .1 .0 in
+    let edition = r .0 .1 .1 .0 in
+    let two = as-text (two-text (codes "unit_code") (codes "edition") code edition refl) (w .put-two2 .ensures .0) in (
+      rw (r .1) (more-text (namedLines (r .0 .0)) (treesLines code edition) (p .put-named4 .ensures .0) two),
+      omega (arith, p .put-named4 .ensures .1, w .put-two2 .ensures .1),
+    )
+
+returns-6 : tie.Need-returns-6
+unfolding linesText
+returns-6 c =
     let a = c .before .before .args in
-    (rw (no-lines (a .reason) (c .match .keys5)) (record { room = refl; place = sym (add-zero (a .at)) }), omega arith)
+    (rw (no-lines (a .reason) (c .match .keys6)) (record { room = refl; place = sym (add-zero (a .at)) }), omega arith)
 
 pub put-row-spec : {M : Type 1} → statement M
 put-row-spec =
@@ -135,6 +166,10 @@ put-row-spec =
     enum-known-reason-4
     put-named-requires-3
     put-soil-requires
+    enum-known-reason-5
+    put-named-requires-4
+    slice-aggregate-put-two-2
+    put-two-requires-2
     same-length
     returns
     same-length-2
@@ -143,4 +178,6 @@ put-row-spec =
     returns-3
     same-length-4
     returns-4
-    returns-5)
+    same-length-5
+    returns-5
+    returns-6)

@@ -1,13 +1,12 @@
 -- `reasons::cleared_above` meets its contract. Assumes nothing.
 use denote.Ref.{now}
-use Rattle.form.proofs.Lengths.{clean-length}
 use Rattle.reasons.proofs.Wood.{wood-there}
 use borrow.Author.Needs.{needs}
 use Rattle.reasons.proofs.cleared_above.Statement.{statement}
 use Rattle.reasons.proofs.cleared_above.Tie as tie
 
 count-rows-requires : tie.Need-count-rows-requires
-count-rows-requires c κs = clean-length _ (c .before .pre .clean)
+count-rows-requires c κs = c .before .pre
 
 weigh-wood-requires : tie.Need-weigh-wood-requires
 weigh-wood-requires c κs = search needs

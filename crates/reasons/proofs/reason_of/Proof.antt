@@ -5,11 +5,13 @@ use native.Mathlib.Omega.{arith}
 use lib.Dec.{eqb}
 use borrow.Author.Tests.{ne-eqb, eqb-true}
 use Rattle.form.specs.Records.{filed, brokenBy}
+use Rattle.form.specs.Block.{edition}
 use Rattle.form.proofs.Tests.{and-true}
+use Rattle.form.proofs.SecondEdition.{first-scattered}
 use Rattle.form.proofs.Meaning.{length-first}
 use Rattle.areas.proofs.Balanced.{place-told}
 use Rattle.reasons.specs.Reasons.{reasonOf}
-use Rattle.reasons.proofs.Refused.{at-check, at-header, at-block, at-id, at-field, at-fractions, at-soil, last-number, wood-formed, soil-formed}
+use Rattle.reasons.proofs.Refused.{at-check, at-header, at-block, at-id, at-field, at-fractions, at-soil, at-trees, last-number, wood-formed, soil-formed}
 use Rattle.reasons.proofs.reason_of.Statement.{statement}
 use Rattle.reasons.proofs.reason_of.Tie as tie
 
@@ -18,8 +20,8 @@ thirteen : (c : tie.At-match-rest) → c .before .before .args .number ≡ 13
 thirteen c =
     let t = c .before .before in
     let r = c .match .rest in
-    last-number (now (t .args .bytes)) (t .pre) (ne-eqb _ 1 (r .0 .0 .0 .0 .0 .0 .0 .1)) (ne-eqb _ 2 (r .0 .0 .0 .0 .0 .0 .1)) (ne-eqb _ 3 (r .0 .0 .0 .0 .0 .1))
-    (ne-eqb _ 4 (r .0 .0 .0 .0 .1)) (ne-eqb _ 5 (r .0 .0 .0 .1)) (ne-eqb _ 6 (r .0 .0 .1)) (ne-eqb _ 7 (r .0 .1)) (ne-eqb _ 12 (r .1))
+    last-number (now (t .args .bytes)) (t .pre) (ne-eqb _ 1 (r .0 .0 .0 .0 .0 .0 .0 .0 .1)) (ne-eqb _ 2 (r .0 .0 .0 .0 .0 .0 .0 .1)) (ne-eqb _ 3 (r .0 .0 .0 .0 .0 .0 .1))
+    (ne-eqb _ 4 (r .0 .0 .0 .0 .0 .1)) (ne-eqb _ 5 (r .0 .0 .0 .0 .1)) (ne-eqb _ 6 (r .0 .0 .0 .1)) (ne-eqb _ 7 (r .0 .0 .1)) (ne-eqb _ 12 (r .0 .1)) (ne-eqb _ 14 (r .1))
 
 bad-check-requires : tie.Need-bad-check-requires
 bad-check-requires c κs = let t = c .before .before in at-check (now (t .args .bytes)) (t .pre) (c .match .keys2) .inside
@@ -53,6 +55,13 @@ fractions-above-requires c κs =
 
 cleared-above-requires : tie.Need-cleared-above-requires
 cleared-above-requires c κs = let t = c .before .before in wood-formed (now (t .args .bytes)) (t .pre) (c .match .keys8)
+
+scattered-trees-requires : tie.Need-scattered-trees-requires
+scattered-trees-requires c κs =
+    let t = c .before .before in
+    let s = now (t .args .bytes) in
+    let w = first-scattered (edition s 0) (filed s) (t .args .place) (at-trees s (t .pre) (c .match .keys9)) in
+    (w .inside, w .stock-row)
 
 soil-uneven-requires : tie.Need-soil-uneven-requires
 soil-uneven-requires c κs =
@@ -95,7 +104,11 @@ returns-8 c = rw (c .before .match .keys8) (c .cleared-above .ensures)
 
 returns-9 : tie.Need-returns-9
 unfolding reasonOf
-returns-9 c = rw (thirteen (c .before)) (c .soil-uneven .ensures)
+returns-9 c = rw (c .before .match .keys9) (c .scattered-trees .ensures)
+
+returns-10 : tie.Need-returns-10
+unfolding reasonOf
+returns-10 c = rw (thirteen (c .before)) (c .soil-uneven .ensures)
 
 pub reason-of-spec : {M : Type 1} → statement M
 reason-of-spec =
@@ -108,6 +121,7 @@ reason-of-spec =
     field-above-requires
     fractions-above-requires
     cleared-above-requires
+    scattered-trees-requires
     soil-uneven-requires
     returns
     returns-2
@@ -117,4 +131,5 @@ reason-of-spec =
     returns-6
     returns-7
     returns-8
-    returns-9)
+    returns-9
+    returns-10)

@@ -20,11 +20,11 @@ abbrev μ-loop : tie.MeasureT-loop
 
 -- what `breaks` said in a turn is what the rule says of that record
 said : (c : tie.After-breaks Inv-loop μ-loop)
-    → rowTest (c .before .before .before .before .before .before .before .before .args .number) (now (c .before .before .before .before .before .before .before .before .args .bytes))
-    (12 * c .before .before .before .before .before .before .before .before .args .b + c .before .before .loop .r) ≡ c .breaks .result
+    → let a = c .before .before .before .before .before .before .before .before .before .args in
+    rowTest (a .number) (now (a .bytes)) (12 * a .b + c .before .before .loop .r) ≡ c .breaks .result
 said c =
     let u = c .before .before .before in
-    let k = u .before .before .before in
+    let k = u .before .before .before .before in
     let a = k .before .before .args in
     let s = now (a .bytes) in
     let r = c .before .before .loop .r in
@@ -37,14 +37,18 @@ mul-byte-at c = search needs
 byte-at-requires : tie.Need-byte-at-requires Inv-loop μ-loop
 byte-at-requires c κs = search needs
 
+two-at-requires : tie.Need-two-at-requires Inv-loop μ-loop
+two-at-requires c κs = search needs
+
 spares-requires : tie.Need-spares-requires Inv-loop μ-loop
 spares-requires c κs = search needs
 
 returns : tie.Need-returns Inv-loop μ-loop
 returns c =
-    let k = c .before .before in
+    let e = c .before .before in
+    let k = e .before in
     let a = k .before .before .args in
-    sym (spared (now (a .bytes)) (a .b) (a .number) (c .before .spares .ensures) (k .byte-at .ensures .0) (c .if1 .taken))
+    sym (spared (now (a .bytes)) (a .b) (a .number) (c .before .spares .ensures) (e .two-at .ensures .0) (k .byte-at .ensures .0) (c .if1 .taken))
 
 used-in-requires : tie.Need-used-in-requires Inv-loop μ-loop
 used-in-requires c κs = search needs
@@ -67,8 +71,8 @@ add-breaks-2 c = search needs
 breaks-requires : tie.Need-breaks-requires Inv-loop μ-loop
 breaks-requires c κs = search needs
 
-cast-t15 : tie.Need-cast-t15 Inv-loop μ-loop
-cast-t15 c = search needs
+cast-t16 : tie.Need-cast-t16 Inv-loop μ-loop
+cast-t16 c = search needs
 
 returns-2 : tie.Need-returns-2 Inv-loop μ-loop
 returns-2 c = sym (first-found _ _ 12 (c .before .before .before .loop .inv .1) (said (c .before) ∙ c .if2 .taken) (omega arith))
@@ -84,7 +88,7 @@ loop-again c = (search needs, first-more _ _ (c .before .before .before .loop .i
 
 returns-3 : tie.Need-returns-3 Inv-loop μ-loop
 returns-3 c =
-    let a = c .before .before .before .before .before .before .before .args in
+    let a = c .before .before .before .before .before .before .before .before .args in
     sym (first-rest _ _ 12 (c .before .loop .inv .1) (λ k m l. unused (now (a .bytes)) (a .b) (a .number) k l (omega (arith, c .before .before .used-in .ensures))))
 
 pub first-row-in-spec : {M : Type 1} → statement M
@@ -95,6 +99,7 @@ first-row-in-spec =
     μ-loop
     mul-byte-at
     byte-at-requires
+    two-at-requires
     spares-requires
     returns
     used-in-requires
@@ -104,7 +109,7 @@ first-row-in-spec =
     mul-breaks-2
     add-breaks-2
     breaks-requires
-    cast-t15
+    cast-t16
     returns-2
     add-r
     loop-less

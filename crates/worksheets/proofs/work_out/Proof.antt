@@ -4,6 +4,7 @@ use mathlib.Core.Path.{_≡_, sym, ap, subst, _∙_}
 use denote.Ref.{now}
 use native.Mathlib.Omega.{arith}
 use Rattle.form.specs.Verdict.{rows, Formed}
+use Rattle.form.specs.declared.Counts.{Counts}
 use Rattle.standing.proofs.Accepted.{formed}
 use Rattle.wide.specs.Numbers.{value}
 use Rattle.wide.proofs.Laws.{value-words}
@@ -15,8 +16,9 @@ use Rattle.totals.specs.declared.Totals.{Totals}
 use Rattle.totals.proofs.Accepted.{columns-small}
 use Rattle.ledger.specs.Ledger.{entered, ledgerOf, Bounded}
 use Rattle.ledger.specs.Derived.{stocksOf, conversionOf}
-use Rattle.worksheets.specs.Sheets.{Within, byKind, given, gasesBy, abandonedOf}
+use Rattle.worksheets.specs.Sheets.{Within, byKind, given, gasesBy, abandonedOf, stockRows}
 use Rattle.worksheets.proofs.Accepted.{ratios, bounded}
+use borrow.Author.Needs.{needs}
 use Rattle.worksheets.proofs.work_out.Statement.{statement}
 use Rattle.worksheets.proofs.work_out.Tie as tie
 
@@ -84,10 +86,14 @@ work-savannas-requires c κs = acc (c .before .before .before .before .before .b
 work-soils-requires : tie.Need-work-soils-requires
 work-soils-requires c κs = acc (c .before .before .before .before .before .before .before .before .before .before .before .before .before)
 
+scattered-rows-requires : tie.Need-scattered-rows-requires
+scattered-rows-requires c κs = search needs
+
 returns : tie.Need-returns
 unfolding entered totalsOf
 returns c =
-    let f = c .before in
+    let o = c .before in
+    let f = o .before in
     let a = f .before in
     let b = a .before .before in
     let v = b .before .before in
@@ -97,7 +103,8 @@ returns c =
     let conversion = v .work-conversion .ensures ∙ ap conversionOf (ledger g) in
     let gases = b .gases-of .ensures ∙ (λ i. gasesBy (ledger g i .onsite) (t .before .read-parameters .ensures i)) in
     let abandoned = a .work-abandoned .ensures ∙ ap abandonedOf (a .before .sum-abandoned .ensures) in
-    λ i. record { stocks = stocks i; conversion = conversion i; thinner = t .sum-conversion .ensures i .thinner; gases = gases i; abandoned = abandoned i; savannas = f .work-savannas .ensures i; soils = c .work-soils .ensures i }
+    let scattered = c .scattered-rows .ensures ∙ ap (λ (x : Counts). stockRows (x .scattered)) (acc (t .before .before .before) .counts) in
+    λ i. record { stocks = stocks i; conversion = conversion i; thinner = t .sum-conversion .ensures i .thinner; gases = gases i; abandoned = abandoned i; savannas = f .work-savannas .ensures i; soils = o .work-soils .ensures i; scattered = scattered i }
 
 pub work-out-spec : {M : Type 1} → statement M
 work-out-spec =
@@ -115,4 +122,5 @@ work-out-spec =
     work-abandoned-requires
     work-savannas-requires
     work-soils-requires
+    scattered-rows-requires
     returns)

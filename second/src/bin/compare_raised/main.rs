@@ -93,6 +93,7 @@ mod run {
             sorts: 100,
             balances: 0,
             uneven: 0,
+            retired: 0,
         };
         let make = |index: usize, rng: &mut Rng| {
             let broken = index % EVERY == EVERY - 1;

@@ -4,9 +4,12 @@ use crate::run::Found;
 use second::coverage::{Counters, Coverage, Due};
 use second::kinds::KINDS;
 use second::lists::Lists;
+use second::make::ALL_EDITIONS;
 use second::raised::{has_largest, has_thinner, only_raised, Pair, WAYS};
 
 pub const SUBTOTALS: [&str; 3] = ["on-site", "off-site", "decay"];
+/// The editions of a return.
+const EDITIONS: usize = ALL_EDITIONS.len();
 /// Of each sort of pairs that are common, and of each that is rare.
 const OFTEN: Due = Due::Times(1_000);
 const SOME: Due = Due::Times(100);
@@ -45,13 +48,16 @@ impl Tally {
                 .iter()
                 .flat_map(move |name| sorts.map(|sort| format!("{name} {sort}")))
         };
-        let editions = ["1 and 1", "1 and 2", "2 and 1", "2 and 2"];
+        let editions = (1..=EDITIONS).flat_map(|a| (1..=EDITIONS).map(move |b| [a, b]));
         let thinner = ["neither version", "the first", "both"];
         let rounded_away = SUBTOTALS.map(|name| format!("{name} higher, the double the same"));
         let fallen = each(["fallen by the double", "fallen by the exact total"]);
         Tally {
             ways: coverage.add(OFTEN, WAYS.map(|way| format!("more cleared, {way:?}"))),
-            editions: coverage.add(OFTEN, editions.map(|e| format!("editions {e}"))),
+            editions: coverage.add(
+                OFTEN,
+                editions.map(|[a, b]| format!("editions {a} and {b}")),
+            ),
             thinner: coverage.add(OFTEN, thinner.map(|sort| format!("thinner in {sort}"))),
             largest: coverage.add(OFTEN, ["a row at its limits"]),
             raised: coverage.add(OFTEN, fields("more in one field,")),
@@ -70,7 +76,7 @@ impl Tally {
         let way = WAYS.iter().position(|&way| way == pair.way);
         coverage.count(self.ways, way.expect("one of the ways"));
         let [first, second] = [&pair.first, &pair.second].map(|bytes| usize::from(bytes[6]) - 1);
-        coverage.count(self.editions, 2 * first + second);
+        coverage.count(self.editions, EDITIONS * first + second);
         let thinner = lists.iter().filter(|lists| has_thinner(lists));
         coverage.count(self.thinner, thinner.count());
         if has_largest(&lists[1]) {

@@ -33,10 +33,10 @@ mod run {
     /// Rooms that are tried beside the exact ones.
     const DRAWN: usize = 2;
     /// The numbers that the requests put just before 9.
-    const BEFORE_9: [u32; 2] = [12, 13];
+    const BEFORE_9: [u32; 3] = [12, 13, 14];
     /// Editions and row counts that are tried with rooms of every length: full
     /// returns, some with kinds left out, and the parameters alone.
-    const EVERY_LENGTH: [(u16, &[usize]); 10] = [
+    const EVERY_LENGTH: [(u16, &[usize]); 12] = [
         (1, &[32, 32, 32]),
         (1, &[2, 0, 3]),
         (1, &[0, 1, 12]),
@@ -47,6 +47,8 @@ mod run {
         (2, &[0, 0, 0, 2, 3]),
         (2, &[0, 1, 0, 0, 2, 13]),
         (2, &[]),
+        (3, &[0, 13, 2, 1, 0, 2]),
+        (3, &[]),
     ];
 
     pub fn main() -> ExitCode {

@@ -17,11 +17,12 @@ pub fn compare(arguments: Arguments) -> bool {
         name: "read",
         inputs: inputs::least(),
         least: inputs::least(),
-        often: &[0, 1, 2, 3, 4, 5, 6, 7, 9, 12, 13],
-        counted: &[(13, 2_000)],
+        often: &[0, 1, 2, 3, 4, 5, 6, 7, 9, 12, 13, 14],
+        counted: &[(13, 2_000), (14, 2_000)],
         sorts: 100,
         balances: 1_000,
         uneven: 100,
+        retired: 100,
     };
     let mut tally = Tally::new(9);
     let ran = run(&plan, arguments, inputs::with_figures, |case, rng| {
@@ -109,8 +110,8 @@ fn try_one(case: &Case, rng: &mut Rng, tally: &mut Tally) -> Outcome {
     let mut difference = None;
     for (turn, lent) in rooms.into_iter().enumerate() {
         let (expected, memory, found) = call(&before, bytes, lent);
-        // What is refused by 12 or 13 has a conversion row or a soil, and the parameters.
-        let rows = KINDS[6].numbers + KINDS[3].numbers;
+        // What is refused by 12, 13 or 14 has the parameters and a row more, of stock the shortest.
+        let rows = KINDS[1].numbers + KINDS[3].numbers;
         tally.note(expected, lent.counts < COUNTS_ROOM || lent.rows < rows);
         if turn == drawn {
             answer = expected;

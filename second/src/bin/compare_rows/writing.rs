@@ -6,8 +6,8 @@ use second::drive::{first_of, memory_difference, run, Arguments, Outcome, Plan};
 use second::ffi::rows::first_write;
 use second::kinds::{COUNTS_ROOM, KINDS, RETURN_ROOM};
 use second::lent::Lent;
-use second::lists::RowLists;
-use second::make::Rows;
+use second::lists::{rows_in, RowLists};
+use second::make::{Rows, TREES, UNIT_CODE};
 use second::rng::Rng;
 use second::row_sweeps;
 use second::rowlists;
@@ -24,11 +24,12 @@ pub fn compare(arguments: Arguments) -> bool {
         name: "write",
         inputs: least,
         least,
-        often: &[0, 5, 6, 7, 9, 10, 12, 13],
-        counted: &[(13, 2_000)],
+        often: &[0, 5, 6, 7, 9, 10, 12, 13, 14],
+        counted: &[(13, 2_000), (14, 2_000)],
         sorts: 100,
         balances: 1_000,
         uneven: 100,
+        retired: 100,
     };
     let make = |index: usize, rng: &mut Rng| {
         let turn = index / SWEEP_EVERY;
@@ -108,7 +109,7 @@ fn try_one(lists: &RowLists, rng: &mut Rng, tally: &mut Tally) -> Outcome {
     let mut difference = None;
     for (turn, lent) in rooms.into_iter().enumerate() {
         let (expected, paper, found) = call(&before, lists, lent);
-        // What is refused by 12 or 13 has conversion rows or soils, and the parameters.
+        // What is refused by 12, 13 or 14 has the parameters and a row more.
         tally.note(expected, lent.blocks < 2 * BLOCK || lent.sizes == 0);
         if turn == drawn {
             answer = expected;
@@ -166,7 +167,8 @@ fn every_room(rows: &Rows, rng: &mut Rng) -> Result<usize, String> {
     Ok(calls)
 }
 
-/// Written then read by the first program: the same edition and rows.
+/// Written then read by the first program: the same edition and rows, and the rows of trees
+/// counted.
 fn read_again(bytes: &[u8], lists: &RowLists, rng: &mut Rng) -> Option<String> {
     let before = Memory::random(rng);
     let mut due = before.clone();
@@ -175,6 +177,9 @@ fn read_again(bytes: &[u8], lists: &RowLists, rng: &mut Rng) -> Option<String> {
     for (at, kind) in KINDS.iter().enumerate() {
         due.counts[at + 1] = lists.lengths[at] / kind.numbers as u32;
     }
+    let stock = lists.lists();
+    let trees = rows_in::<5>(&stock, 2).iter();
+    due.counts[COUNTS_ROOM - 1] = trees.filter(|row| row[UNIT_CODE] == TREES).count() as u32;
     let mut memory = before;
     let answer = memory.first(bytes, lists.rows.len(), COUNTS_ROOM);
     let difference = first_of([

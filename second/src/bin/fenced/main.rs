@@ -53,8 +53,8 @@ mod run {
     pub const USAGE: &str = "fenced [heap] [SEED [INPUTS]], or \
         fenced cross [heap] [before|behind] [read|write]";
 
-    const JUDGED: &[u32] = &[0, 1, 2, 3, 4, 5, 6, 7, 9, 12];
-    const BY_CODE: &[u32] = &[0, 1, 2, 3, 4, 5, 6, 7, 9, 11, 12];
+    const JUDGED: &[u32] = &[0, 1, 2, 3, 4, 5, 6, 7, 9, 12, 13, 14];
+    const BY_CODE: &[u32] = &[0, 1, 2, 3, 4, 5, 6, 7, 9, 11, 12, 13, 14];
     /// Each function, with the answers that must come in each edition.
     const FUNCTIONS: [(&str, &[u32]); 11] = [
         ("judge", JUDGED),
@@ -64,7 +64,7 @@ mod run {
         ("explain", JUDGED),
         ("heaviest", BY_CODE),
         ("read", JUDGED),
-        ("write", &[0, 5, 6, 7, 9, 10, 12]),
+        ("write", &[0, 5, 6, 7, 9, 10, 12, 13, 14]),
         ("table52", &[0, 1, 2, 9]),
         ("defaults", &[0, 9]),
         ("nation", &[0, 1, 2, 9]),

@@ -1,6 +1,5 @@
 -- `reasons::records::soil_uneven` meets its contract. Assumes nothing.
 use denote.Ref.{now}
-use Rattle.form.proofs.Lengths.{clean-length}
 use Rattle.reasons.proofs.Rows.{soil-there}
 use native.Mathlib.Omega.{arith}
 use borrow.Author.Needs.{needs}
@@ -20,7 +19,7 @@ two-at-requires : tie.Need-two-at-requires
 two-at-requires c κs = search needs
 
 count-rows-requires : tie.Need-count-rows-requires
-count-rows-requires c κs = clean-length _ (c .before .before .before .before .pre .0 .clean)
+count-rows-requires c κs = c .before .before .before .before .pre .0
 
 areas-of-requires : tie.Need-areas-of-requires
 areas-of-requires c κs = search needs
