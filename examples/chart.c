@@ -1,18 +1,19 @@
-/* Draws the three carbon subtotals of a return as bars, an SVG picture; or those of two versions of a return side by side.
+/* Draws the three carbon subtotals of a return as bars, an SVG picture; or those of two versions of a return side by side; or where its cleared biomass went.
  *     chart [--title TEXT] FILE [PICTURE]                 to standard output, or to the file PICTURE; TEXT is a line above the bars
  *     chart [--title TEXT] --compare OLD NEW [PICTURE]    the same of two
+ *     chart [--title TEXT] --matter FILE [PICTURE]        one bar in five parts, which add up to the whole
  *     chart --check FILE                                  the comparison only, a line per subtotal: name, exact, double, distance, allowed
  *     chart --check OLD NEW                               of two: both exact totals, their difference, and whether as much is cleared or more
- * Before it draws, each double is held against the exact total, both as whole numbers of 10^-12 kt C. Status 0: done.
+ * Before it draws, each double is held against the exact total, both as whole numbers of 10^-12 kt C; and the five parts against the rows. Status 0: done.
  * 1: a return is refused, a double is off, or a file can't be read or written; nothing is drawn. 2: wrong use. */
 #define _POSIX_C_SOURCE 200809L
-#include "chart_draw.h"
+#include "chart_matter.h"
 #include <signal.h>
 
 /* ---- the words ---- */
 
 struct asked {
-    bool check;
+    bool check, matter;
     const char *title;
     int returns; /* one or two */
     char **paths;
@@ -27,7 +28,9 @@ static bool understand(char **word, char **end, struct asked *a) {
     for (int turn = 0; turn < 2 && !a->check && word < end; turn++) { /* in either order */
         if (strcmp(*word, "--title") == 0 && end - word > 1) a->title = word[1], word += 2;
         else if (strcmp(*word, "--compare") == 0) pair = true, word++;
+        else if (strcmp(*word, "--matter") == 0) a->matter = true, word++;
     }
+    if (pair && a->matter) return false;
     if (a->check && end - word == 2) pair = true;
     a->returns = pair ? 2 : 1;
     a->paths = word;
@@ -39,7 +42,7 @@ static bool understand(char **word, char **end, struct asked *a) {
 
 static int say_usage(void) {
     fprintf(stderr, "usage: chart [--title TEXT] FILE [PICTURE]\n       chart [--title TEXT] --compare OLD NEW [PICTURE]\n"
-                    "       chart --check FILE\n       chart --check OLD NEW\n");
+                    "       chart [--title TEXT] --matter FILE [PICTURE]\n       chart --check FILE\n       chart --check OLD NEW\n");
     return 2;
 }
 
@@ -91,6 +94,7 @@ static void put_answer(FILE *out, const struct asked *a, const struct version *v
     if (a->check && pair) print_pair(out, versions, found);
     else if (a->check) print_check(out, &versions->figures);
     else if (pair) draw_pair(out, versions, found, a->title);
+    else if (a->matter) draw_masses(out, versions, a->title);
     else draw_one(out, versions, a->title);
 }
 
@@ -125,7 +129,7 @@ int main(int count, char **words) {
     }
     if (status) return status;
     bool good = true;
-    for (int i = 0; i < asked.returns; i++) good = examine(&versions[i]) && good;
+    for (int i = 0; i < asked.returns; i++) good = (asked.matter ? adds_up(&versions[i]) : examine(&versions[i])) && good;
     struct finding found = {0};
     if (asked.returns == 2) {
         found = find_less(&versions[0].figures, &versions[1].figures);

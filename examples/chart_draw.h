@@ -37,7 +37,7 @@ static const char *last_part(const char *path) {
     return strcmp(path, "-") == 0 ? "standard input" : slash ? slash + 1 : path;
 }
 
-/* ---- what both pictures are made of ---- */
+/* ---- what the pictures are made of ---- */
 
 /* Where things stand, in the picture's units. */
 enum { WIDTH = 980, LEFT = 180, SPAN = 440, RIGHT = 940, BAR = 36 };
@@ -82,17 +82,33 @@ static void say(FILE *out, int x, int y, const char *look, const char *words) {
     fprintf(out, "<text x=\"%d\" y=\"%d\" %s>%s</text>\n", x, y, look, words);
 }
 
-/* The front of the picture, with the caller's own line where there is one. The answer is the height of the line below it. */
-static int begin_picture(FILE *out, int height, const char *title) {
+static void open_picture(FILE *out, int height, const char *more) {
     fprintf(out, "<?xml version=\"1.0\" encoding=\"UTF-8\"?>\n<svg xmlns=\"http://www.w3.org/2000/svg\" width=\"%d\" height=\"%d\" "
-            "viewBox=\"0 0 %d %d\" font-family=\"Arial, Helvetica, sans-serif\" font-size=\"14\" fill=\"#222\">\n"
-            "<rect width=\"%d\" height=\"%d\" fill=\"#fff\"/>\n", WIDTH, height, WIDTH, height, WIDTH, height);
-    say(out, 40, 46, "font-size=\"22\" font-weight=\"bold\"", "Carbon released by land conversion");
+            "viewBox=\"0 0 %d %d\" font-family=\"Arial, Helvetica, sans-serif\" font-size=\"14\" fill=\"#222\"%s>\n", WIDTH, height, WIDTH, height, more);
+}
+
+/* The heading, with the caller's own line where there is one. The answer is the height of the line below it. */
+static int put_heading(FILE *out, int height, const char *heading, const char *title) {
+    fprintf(out, "<rect width=\"%d\" height=\"%d\" fill=\"#fff\"/>\n", WIDTH, height);
+    say(out, 40, 46, "font-size=\"22\" font-weight=\"bold\"", heading);
     if (!title) return 76;
     fprintf(out, "<text x=\"40\" y=\"76\" font-size=\"18\">");
     put_text(out, title, 80);
     fprintf(out, "</text>\n");
     return 104;
+}
+
+/* The front of a picture of carbon, and the same answer. */
+static int begin_picture(FILE *out, int height, const char *title) {
+    open_picture(out, height, "");
+    return put_heading(out, height, "Carbon released by land conversion", title);
+}
+
+/* Which return it is. */
+static void put_file(FILE *out, int y, const struct version *v) {
+    fprintf(out, "<text x=\"40\" y=\"%d\" fill=\"#555\">File: ", y);
+    put_text(out, last_part(v->path), 60);
+    fprintf(out, "; conversion rows: %" PRIu32 "</text>\n", v->figures.n);
 }
 
 static void end_picture(FILE *out, int height) {
@@ -168,9 +184,7 @@ static void draw_one(FILE *out, const struct version *v, const char *title) {
     enum { HEIGHT = 480, TOP = 150, BAND = 70, BOTTOM = TOP + 3 * BAND };
     const struct figures *f = &v->figures;
     struct axis axis = make_axis(TOP, BOTTOM, largest(0, f));
-    fprintf(out, "<text x=\"40\" y=\"%d\" fill=\"#555\">File: ", begin_picture(out, HEIGHT, title));
-    put_text(out, last_part(v->path), 60);
-    fprintf(out, "; conversion rows: %" PRIu32 "</text>\n", f->n);
+    put_file(out, begin_picture(out, HEIGHT, title), v);
     say(out, RIGHT, TOP - 14, END "fill=\"#555\"", "Exact total");
     draw_steps(out, &axis);
     for (int i = 0; i < 3; i++) draw_subtotal(out, f, i, TOP + BAND * i + BAND / 2, &axis);

@@ -1,4 +1,4 @@
-/* The three carbon subtotals of a return, each exact and as the library's double, and whether the two agree. */
+/* The three carbon subtotals of a return, each exact and as the library's double, and whether the two agree; and the five masses of its cleared biomass. */
 #ifndef CHART_FIGURES_H
 #define CHART_FIGURES_H
 
@@ -13,6 +13,7 @@ __extension__ typedef unsigned __int128 whole;
 
 static const char *const names[3] = {"onsite", "offsite", "decay"};
 static const int places[3] = {8, 9, 11}; /* of the three among the figures, in the header's order */
+enum { MASSES = 5, FIRST_MASS = 28 };    /* the five masses, and the place of the first, behind which the others stand */
 
 struct verdict {
     bool holds;
@@ -27,6 +28,7 @@ struct figures {
     whole exact[3];
     uint64_t bits[3]; /* of the doubles */
     struct verdict verdict[3];
+    whole masses[MASSES]; /* exact, in 10^-9 kt */
 };
 
 /* A return and where it came from. Where two versions of it are compared, its role is "old" or "new", and otherwise NULL. */
@@ -106,6 +108,9 @@ static struct text shown(struct verdict v, uint64_t bits) {
 
 /* ---- from the return to the figures ---- */
 
+/* A figure that is never below zero, as every mass and every subtotal of carbon is. */
+static whole size_of(const uint64_t *numbers, int place) { return (whole)numbers[3 * place + 1] << 64 | numbers[3 * place + 2]; }
+
 /* Asks the library for the rows, the exact totals and the doubles. The answer is the library's: 0, or its refusal. */
 static uint32_t gather(const uint8_t *bytes, size_t length, struct figures *f) {
     uint32_t counts[NILOFERQ_COUNTS];
@@ -114,9 +119,9 @@ static uint32_t gather(const uint8_t *bytes, size_t length, struct figures *f) {
     f->n = counts[1]; /* kind 1 is conversion */
     uint64_t numbers[NILOFERQ_FIGURES_ROOM]; /* three for each figure: sign, upper and lower word */
     answer = niloferq_figures(bytes, length, numbers, NILOFERQ_FIGURES_ROOM);
+    for (int i = 0; i < MASSES && !answer; i++) f->masses[i] = size_of(numbers, FIRST_MASS + i);
     for (uint32_t code = 0; code < 3 && !answer; code++) {
-        const uint64_t *figure = numbers + 3 * places[code];
-        f->exact[code] = (whole)figure[1] << 64 | figure[2]; /* a subtotal of carbon is never below zero */
+        f->exact[code] = size_of(numbers, places[code]);
         uint8_t room[8];
         answer = niloferq_subtotal(bytes, length, code, room, sizeof room);
         f->bits[code] = 0;

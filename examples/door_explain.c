@@ -18,6 +18,7 @@ typedef uint32_t conversion[NILOFERQ_CONVERSION_NUMBERS];
 enum { ID = 0, AREA = 1, AFTER = 3, ONSITE = 4, OFFSITE = 7, TEN_YEAR_AFTER = 12, DECAY = 13 }; /* where they stand in it */
 static const conversion DAY_ROW = {7, 200, 1000, 100, 400, 900, 500, 200, 900, 500, 300, 1000, 100, 300, 500};
 static const uint64_t DAY_PARTS[3] = {32400000000000, 16200000000000, 40500000000000};
+static const masses DAY_MASSES = {64800000000, 7200000000, 32400000000, 3600000000, 72000000000}, NO_MASSES = {0};
 
 /* So many copies of it, with rising ids. */
 static void copy_rows(conversion *rows, uint32_t count) {
@@ -61,6 +62,13 @@ static void must_explain(const uint8_t *from, size_t length, const char *due, co
             must(answer == size && memcmp(room, due, size) == 0 && memcmp(room + size, kept, sizeof room - size) == 0, what);
     }
     must(niloferq_explain(from, length, NULL, 0) == 0, what);
+}
+
+/* A good return: these lines of its heaviest rows, and its masses. */
+static void must_explain_good(const uint8_t *from, size_t length, const char *heaviest, const masses m, const char *what) {
+    char due[2 * NILOFERQ_EXPLAIN_ROOM];
+    put_masses(strcpy(due, heaviest), m);
+    must_explain(from, length, due, what);
 }
 
 /* The day with a number in one of its blocks, whose check is then put right. */
@@ -165,10 +173,11 @@ static void wood_explained(const uint8_t *day, size_t length) {
     must_explain(bytes, length, "refused 12 0\nused 100\ncleared 101\n", "explain: one more cleared than used");
     put(bytes + 12, 100, 4);
     put_check(bytes);
-    must_explain(bytes, length,
-                 "heaviest_onsite 7\nheaviest_onsite_part 18000000000\nheaviest_offsite 7\nheaviest_offsite_part 45000000\n"
-                 "heaviest_decay 7\nheaviest_decay_part 40500000000000\n",
-                 "explain: as much cleared as used");
+    const masses equal = {36000000, 4000000, 90000, 10000, 59900000};
+    must_explain_good(bytes, length,
+                      "heaviest_onsite 7\nheaviest_onsite_part 18000000000\nheaviest_offsite 7\nheaviest_offsite_part 45000000\n"
+                      "heaviest_decay 7\nheaviest_decay_part 40500000000000\n",
+                      equal, "explain: as much cleared as used");
 }
 
 /* ---- the heaviest row */
@@ -230,10 +239,10 @@ static void refusals(const uint8_t *day, size_t length) {
 
 static void day_row(const uint8_t *day, size_t length) {
     for (uint32_t code = 0; code < 3; code++) must_weigh(day, length, code, 7, DAY_PARTS[code], "heaviest: the day's row");
-    must_explain(day, length,
-                 "heaviest_onsite 7\nheaviest_onsite_part 32400000000000\nheaviest_offsite 7\nheaviest_offsite_part 16200000000000\n"
-                 "heaviest_decay 7\nheaviest_decay_part 40500000000000\n",
-                 "explain: the day");
+    must_explain_good(day, length,
+                      "heaviest_onsite 7\nheaviest_onsite_part 32400000000000\nheaviest_offsite 7\nheaviest_offsite_part 16200000000000\n"
+                      "heaviest_decay 7\nheaviest_decay_part 40500000000000\n",
+                      DAY_MASSES, "explain: the day");
 }
 
 /* Rows of the same weight: the lowest id is named, until another row is a little heavier. A thousandth more of its fraction is
@@ -263,22 +272,23 @@ static void none(void) {
     conversion rows[2];
     size_t length = written_rows(rows, 0);
     for (uint32_t code = 0; code < 3; code++) must_weigh(bytes, length, code, 0, 0, "heaviest: no rows");
-    must_explain(bytes, length, all_none, "explain: no rows");
+    must_explain_good(bytes, length, all_none, NO_MASSES, "explain: no rows");
     copy_rows(rows, 2);
     rows[0][AREA] = 0, rows[0][DECAY] = 0;
     rows[1][AFTER] = 1001, rows[1][TEN_YEAR_AFTER] = 1001; /* thinner before than after: its difference counts as 0 */
     length = written_rows(rows, 2);
     for (uint32_t code = 0; code < 3; code++) must_weigh(bytes, length, code, 0, 0, "heaviest: rows with no part");
-    must_explain(bytes, length, all_none, "explain: rows with no part");
+    must_explain_good(bytes, length, all_none, NO_MASSES, "explain: rows with no part");
     copy_rows(rows, 1);
     rows[0][ID] = 0, rows[0][OFFSITE] = 0;
     length = written_rows(rows, 1);
     must_weigh(bytes, length, 0, 0, DAY_PARTS[0], "heaviest: id 0 on site");
     must_weigh(bytes, length, 1, 0, 0, "heaviest: none off site");
     must_weigh(bytes, length, 2, 0, DAY_PARTS[2], "heaviest: id 0 of decay");
-    must_explain(bytes, length,
-                 "heaviest_onsite 0\nheaviest_onsite_part 32400000000000\nheaviest_offsite none\nheaviest_decay 0\nheaviest_decay_part 40500000000000\n",
-                 "explain: id 0, and none off site");
+    const masses on_site = {64800000000, 7200000000, 0, 0, 108000000000};
+    must_explain_good(bytes, length,
+                      "heaviest_onsite 0\nheaviest_onsite_part 32400000000000\nheaviest_offsite none\nheaviest_decay 0\nheaviest_decay_part 40500000000000\n",
+                      on_site, "explain: id 0, and none off site");
 }
 
 /* 10^6 x 10^4 x 10^3 x 10^3 x 10^3 = 10^19 is the largest part, above 2^63; the highest id beside it makes the longest answers. */
@@ -295,10 +305,33 @@ static void largest(void) {
     must_weigh(bytes, length, 2, 3, most, "heaviest: the largest part of decay");
     rows[1][ONSITE] = 334, rows[1][OFFSITE] = 333, rows[1][DECAY] = 333; /* 1,000 together */
     length = written_rows(rows + 1, 1);
-    must_explain(bytes, length,
-                 "heaviest_onsite 4294967295\nheaviest_onsite_part 3340000000000000000\nheaviest_offsite 4294967295\n"
-                 "heaviest_offsite_part 3330000000000000000\nheaviest_decay 4294967295\nheaviest_decay_part 3330000000000000000\n",
-                 "explain: the highest id and large parts");
+    const masses thirds = {3340000000000000, 0, 3330000000000000, 0, 3330000000000000};
+    must_explain_good(bytes, length,
+                      "heaviest_onsite 4294967295\nheaviest_onsite_part 3340000000000000000\nheaviest_offsite 4294967295\n"
+                      "heaviest_offsite_part 3330000000000000000\nheaviest_decay 4294967295\nheaviest_decay_part 3330000000000000000\n",
+                      thirds, "explain: the highest id and large parts");
+}
+
+/* The longest text: ids of ten digits, parts of 10^19, three masses of 10^17 and two of 10^16. Ten rows each are all oxidised on site, all oxidised off site
+ * and all unburned; two are all charcoal, on site and off it. */
+static void longest(void) {
+    static struct rows r;
+    const uint32_t all = NILOFERQ_MOST_ROWS, first = UINT32_MAX - all + 1;
+    const masses due = {100000000000000000, 10000000000000000, 100000000000000000, 10000000000000000, 100000000000000000};
+    char text[2 * NILOFERQ_EXPLAIN_ROOM];
+    fill_rows(&r, (const shape){1, all, 0, all, 1});
+    for (uint32_t i = 0; i < all; i++) {
+        uint32_t on = i < 10 || i == 30 ? 1000 : 0, off = (i >= 10 && i < 20) || i == 31 ? 1000 : 0, oxidised = i < 30 ? 1000 : 0;
+        const conversion row = {first + i, 1000000, 10000, 0, on, oxidised, 1000, off, oxidised, 1000, 1000000, 10000, 0, 1000 - on - off, 1000};
+        memcpy(row_of(&r, CONVERSION, i), row, sizeof row);
+        memcpy(row_of(&r, HARVEST, i) + 1, ENOUGH + 1, sizeof ENOUGH - sizeof *ENOUGH);
+    }
+    size_t length = written(&r, bytes);
+    sprintf(text, "heaviest_onsite %u\nheaviest_onsite_part 10000000000000000000\nheaviest_offsite %u\nheaviest_offsite_part 10000000000000000000\n"
+            "heaviest_decay %u\nheaviest_decay_part 10000000000000000000\n", first, first + 10, first + 20);
+    must_explain_good(bytes, length, text, due, "explain: the longest text");
+    put_masses(text, due);
+    must(strlen(text) == 375, "its length");
 }
 
 void explanations(const uint8_t *day, size_t length) {
@@ -312,4 +345,5 @@ void explanations(const uint8_t *day, size_t length) {
     ties();
     none();
     largest();
+    longest();
 }

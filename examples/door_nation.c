@@ -54,9 +54,11 @@ static void must_print(const char *due, const char *what) {
 static void must_print_days(const char *lines, unsigned accepted, unsigned refused, unsigned days, long long q, const char *what) {
     static char due[NILOFERQ_NATION_ROOM + 1];
     const unsigned long long n = days;
-    sprintf(due, "%saccepted %u\nrefused %u\nE %llu\nK %llu\nL %llu\nM %llu\nP %llu\nQ %lld\nreport %lld\nonsite %llu\noffsite %llu\ndecay %llu\nco2 %llu\n", lines,
-            accepted, refused, 340000000 * n, 775000 * n, 36000000 * n, 41500000 * n, 13250000000 * n, q, -q, 32400000000000 * n, 16200000000000 * n,
-            40500000000000 * n, 326700 * n);
+    char *at = due;
+    at += sprintf(at, "%saccepted %u\nrefused %u\nE %llu\nK %llu\nL %llu\nM %llu\nP %llu\nQ %lld\nreport %lld\n", lines, accepted, refused, 340000000 * n,
+                  775000 * n, 36000000 * n, 41500000 * n, 13250000000 * n, q, -q);
+    sprintf(at, "onsite %llu\noffsite %llu\ndecay %llu\nco2 %llu\n", 32400000000000 * n, 16200000000000 * n, 40500000000000 * n, 326700 * n);
+    put_masses(due, (const masses){64800000000 * n, 7200000000 * n, 32400000000 * n, 3600000000 * n, 72000000000 * n});
     must_print(due, what);
 }
 static const long long Q_OF_DAYS[] = {0, 48583, 97167, 145750};
@@ -185,6 +187,8 @@ static void many(void) {
 
 /* ---- figures */
 
+#define NO_MASSES "oxidised_onsite 0\ncharcoal_onsite 0\noxidised_offsite 0\ncharcoal_offsite 0\nunburned 0\n"
+
 /* So many returns of one sort. */
 static void repeat(const struct rows *r, int times) {
     static uint8_t bytes[NILOFERQ_RETURN_ROOM];
@@ -213,7 +217,7 @@ static void halves(void) {
     memcpy(row_of(&down, HARVEST, 0), (const uint32_t[]){1, 15000, 1, 0, 0}, 4 * NILOFERQ_HARVEST_NUMBERS);
     row_of(&down, PARAMETERS, 0)[0] = 1;
     for (size_t i = 0; i < sizeof cases / sizeof *cases; i++) {
-        strcat(strcpy(due, cases[i].due), "onsite 0\noffsite 0\ndecay 0\nco2 0\n");
+        put_masses(strcat(strcpy(due, cases[i].due), "onsite 0\noffsite 0\ndecay 0\nco2 0\n"), (const masses){0});
         fill(""), repeat(&up, cases[i].ups), repeat(&down, cases[i].downs);
         must_print(due, cases[i].what);
         fill(""), repeat(&down, cases[i].downs), repeat(&up, cases[i].ups);
@@ -221,34 +225,55 @@ static void halves(void) {
     }
 }
 
-/* Everything at its limit in as many returns as a run takes: 16,000 rows of each kind. E is 16,000 x 10^14. K is 16,000 x 10^11 by F and G, L as many times
- * 10^13, which is as much as K, so that P is E. The off-site carbon is 16,000 x 10^19. With I and J as well, and no stock, M is 12 x 16,000 x 10^12. */
+/* Everything at its limit in as many returns as a run takes: 16,000 rows of each kind. E is 16,000 x 10^14. K is 16,000 x 10^11 by F and G, and the biomass
+ * as many times 10^10. Carried off whole, it makes L 16,000 x 10^13, as much as K, so that P is E; the off-site carbon is then 16,000 x 10^19, and what is
+ * oxidised 16,000 x 10^16, which no word holds. Half burned on site and half off it, half of either oxidised, each of the four is a quarter of that, more
+ * than a word holds too, and O is half of E. Unburned, it leaves M at K. With I and J as well, and no stock, M is 12 x 16,000 x 10^12. */
+static const struct {
+    uint32_t on, oxidised, off;
+    const char *due, *what;
+} LARGEST[] = {
+    {0, 1000, 1000, "L 160000000000000000\nM 0\nP 160000000000000000000\nQ 586666666666667\nreport -586666666666667\n"
+     "onsite 0\noffsite 160000000000000000000000\ndecay 0\nco2 586666666666667\noxidised_onsite 0\ncharcoal_onsite 0\n"
+     "oxidised_offsite 160000000000000000000\ncharcoal_offsite 0\nunburned 0\n",
+     "nation: the largest growth and clearing"},
+    {500, 500, 500, "L 80000000000000000\nM 80000000000000000\nP 80000000000000000000\nQ 293333333333333\nreport -293333333333333\n"
+     "onsite 40000000000000000000000\noffsite 40000000000000000000000\ndecay 0\nco2 293333333333333\noxidised_onsite 40000000000000000000\n"
+     "charcoal_onsite 40000000000000000000\noxidised_offsite 40000000000000000000\ncharcoal_offsite 40000000000000000000\nunburned 0\n",
+     "nation: the largest clearing, in four parts"},
+    {0, 0, 0, "L 0\nM 160000000000000000\nP 0\nQ 0\nreport 0\nonsite 0\noffsite 0\ndecay 0\nco2 0\noxidised_onsite 0\ncharcoal_onsite 0\n"
+     "oxidised_offsite 0\ncharcoal_offsite 0\nunburned 160000000000000000000\n", "nation: the largest clearing, unburned"},
+};
+
 static void largest(void) {
     static struct rows r;
+    static char due[NILOFERQ_NATION_ROOM];
     const uint32_t rows = NILOFERQ_MOST_ROWS;
-    fill_rows(&r, (const shape){1, rows, rows, rows, 1});
-    for (uint32_t i = 0; i < rows; i++) {
-        memcpy(row_of(&r, CONVERSION, i) + 1, (const uint32_t[]){1000000, 10000, 0, 0, 1000, 1000, 1000, 1000, 1000, 0, 0, 0, 0, 0}, 4 * 14);
-        memcpy(row_of(&r, STOCK, i) + 1, (const uint32_t[]){0, 10000, 10000000, 1000}, 4 * 4);
-        memcpy(row_of(&r, HARVEST, i) + 1, (const uint32_t[]){10000000, 10000, 0, 0}, 4 * 4);
+    for (size_t k = 0; k < sizeof LARGEST / sizeof *LARGEST; k++) {
+        const uint32_t on = LARGEST[k].on, oxidised = LARGEST[k].oxidised, off = LARGEST[k].off;
+        fill_rows(&r, (const shape){1, rows, rows, rows, 1});
+        for (uint32_t i = 0; i < rows; i++) {
+            memcpy(row_of(&r, CONVERSION, i) + 1, (const uint32_t[]){1000000, 10000, 0, on, oxidised, 1000, off, oxidised, 1000, 0, 0, 0, 0, 0}, 4 * 14);
+            memcpy(row_of(&r, STOCK, i) + 1, (const uint32_t[]){0, 10000, 10000000, 1000}, 4 * 4);
+            memcpy(row_of(&r, HARVEST, i) + 1, (const uint32_t[]){10000000, 10000, 0, 0}, 4 * 4);
+        }
+        row_of(&r, PARAMETERS, 0)[0] = 1000;
+        fill(""), repeat(&r, MOST);
+        strcat(strcpy(due, "accepted 500\nrefused 0\nE 1600000000000000000\nK 1600000000000000\n"), LARGEST[k].due);
+        must_print(due, LARGEST[k].what);
     }
-    row_of(&r, PARAMETERS, 0)[0] = 1000;
-    fill(""), repeat(&r, MOST);
-    must_print("accepted 500\nrefused 0\nE 1600000000000000000\nK 1600000000000000\nL 160000000000000000\nM 0\nP 160000000000000000000\nQ 586666666666667\n"
-               "report -586666666666667\nonsite 0\noffsite 160000000000000000000000\ndecay 0\nco2 586666666666667\n",
-               "nation: the largest growth and clearing");
     fill_rows(&r, (const shape){1, 0, 0, rows, 1});
     for (uint32_t i = 0; i < rows; i++) memcpy(row_of(&r, HARVEST, i) + 1, (const uint32_t[]){10000000, 10000, 10000000, 10000000}, 4 * 4);
     row_of(&r, PARAMETERS, 0)[0] = 1000;
     fill(""), repeat(&r, MOST);
     must_print("accepted 500\nrefused 0\nE 0\nK 1920000000000000\nL 0\nM 192000000000000000\nP -192000000000000000000\nQ -704000000000000\n"
-               "report 704000000000000\nonsite 0\noffsite 0\ndecay 0\nco2 0\n",
+               "report 704000000000000\nonsite 0\noffsite 0\ndecay 0\nco2 0\n" NO_MASSES,
                "nation: the largest harvest");
 }
 
 void nations(const uint8_t *day, size_t size) {
     uint8_t room[NILOFERQ_NATION_ROOM];
-    static const char none[] = "accepted 0\nrefused 0\nE 0\nK 0\nL 0\nM 0\nP 0\nQ 0\nreport 0\nonsite 0\noffsite 0\ndecay 0\nco2 0\n";
+    static const char none[] = "accepted 0\nrefused 0\nE 0\nK 0\nL 0\nM 0\nP 0\nQ 0\nreport 0\nonsite 0\noffsite 0\ndecay 0\nco2 0\n" NO_MASSES;
     must(niloferq_nation(NULL, 0, room, sizeof room) == strlen(none) && memcmp(room, none, strlen(none)) == 0, "nation: no bytes, NULL");
     must(niloferq_nation(NULL, 0, NULL, 0) == 0, "nation: no bytes and no room, NULL both");
     make_returns(day, size);

@@ -1,7 +1,8 @@
 /* Tries what the header says: areas of length 0, NULL among their pointers; each function on the worked day, and the figures of the day with thinner
  * rows, with scattered trees, with rows of each kind above 4 and with soils that changed. Reading and writing are in door_rows.c, returns byte by byte in
- * door_bytes.c, number 14 in door_trees.c, number 12 in door_wood.c, number 13 in door_soil.c, table 5-2 in door_table52.c, the explanation and the heaviest
- * rows in door_explain.c, the national line in door_nation.c; all of them take the kinds from the table in door_kinds.c. */
+ * door_bytes.c, number 14 in door_trees.c, number 12 in door_wood.c, number 13 in door_soil.c, the cleared biomass in door_matter.c, table 5-2 in
+ * door_table52.c, the explanation and the heaviest rows in door_explain.c, the national line in door_nation.c; all of them take the kinds from the table
+ * in door_kinds.c. */
 #include "door_test.h"
 #include <stdio.h>
 #include <string.h>
@@ -40,24 +41,24 @@ static void empty_areas(const uint8_t *day, size_t length) {
 
 /* ---- the figures */
 
-/* The worked day's lines, which no row behind it moves, and the names of the figures that the requests print behind them. */
+/* The worked day's lines, which no row behind it moves; and the figures that the requests print behind them, as the day itself has them. Of its biomass of
+ * 200 x 900 = 180,000, 400 thousandths are burned on site and 200 off site, 900 thousandths of either are oxidised, and 400 thousandths stay unburned. */
 static const char DAY_LINES[] = "E 340000000\nK 775000\nL 36000000\nM 41500000\nO 20750000000\nP 13250000000\nQ 48583\nreport -48583\n"
                                 "onsite 32400000000000\noffsite 16200000000000\nR 48600000000000\ndecay 40500000000000\nco2 326700\n"
                                 "ch4 518\nco 4536\nn2o 4\nnox 129\n";
-static const char *const REQUESTED[] = {"uptake", "uptake_co2", "thinner", "savanna_carbon", "savanna_ch4", "savanna_co", "savanna_n2o", "savanna_nox",
-                                        "soil", "soil_change", "scattered"};
+static const char *const REQUESTED[] = {"uptake 0\n", "uptake_co2 0\n", "thinner 0\n", "savanna_carbon 0\n", "savanna_ch4 0\n", "savanna_co 0\n",
+    "savanna_n2o 0\n", "savanna_nox 0\n", "soil 0\n", "soil_change 0\n", "scattered 0\n", "oxidised_onsite 64800000000\n", "charcoal_onsite 7200000000\n",
+    "oxidised_offsite 32400000000\n", "charcoal_offsite 3600000000\n", "unburned 72000000000\n"};
 
-/* The whole text of the day with these lines among the requested ones, each of the others being 0; the answer is its length. */
+/* The whole text of the day with these lines in place of those of the same names; the answer is its length. */
 static size_t text_of(char text[NILOFERQ_LINES_ROOM + 1], const char *lines) {
     strcpy(text, DAY_LINES);
     for (size_t i = 0; i < sizeof REQUESTED / sizeof *REQUESTED; i++) {
         const char *line = lines;
-        size_t name = strlen(REQUESTED[i]);
-        while (*line && !(strncmp(line, REQUESTED[i], name) == 0 && line[name] == ' ')) line = strchr(line, '\n') + 1;
-        if (*line)
-            strncat(text, line, (size_t)(strchr(line, '\n') + 1 - line));
-        else
-            strcat(strcat(text, REQUESTED[i]), " 0\n");
+        size_t name = strcspn(REQUESTED[i], " ") + 1;
+        while (*line && strncmp(line, REQUESTED[i], name) != 0) line = strchr(line, '\n') + 1;
+        if (!*line) line = REQUESTED[i];
+        strncat(text, line, (size_t)(strchr(line, '\n') + 1 - line));
     }
     return strlen(text);
 }
@@ -293,6 +294,7 @@ int main(int count, char **words) {
     trees();
     wood();
     soils();
+    matter();
     defaults();
     table52();
     explanations(day, length);

@@ -64,6 +64,12 @@ void put(uint8_t *at, uint32_t value, int width);
 void put_check(uint8_t *block);
 void put_editions(uint8_t *bytes, size_t length, uint32_t edition);
 
+/* What became of cleared biomass: five masses in 10^-9 kt, their names in the order of the lines, and the lines put behind a text. */
+enum { MASS_COUNT = 5 };
+typedef uint64_t masses[MASS_COUNT];
+extern const char *const MASSES[MASS_COUNT];
+void put_masses(char *text, const masses m);
+
 /* Accepted with this edition and these counts, in rooms of every length. */
 void must_judge(const uint8_t *bytes, size_t length, const shape due, const char *what);
 
@@ -79,14 +85,15 @@ void must_be_refused(const uint8_t *bytes, size_t length, uint32_t answer, const
 void must_write(const struct rows *r, size_t room_len, size_t size_len, size_t due, const char *what);
 void must_refuse(const struct rows *r, size_t room_len, size_t size_len, uint32_t answer, const char *what);
 
-/* The trials of reading and writing, of returns byte by byte, of scattered trees with number 14, of numbers 12 and 13, of niloferq_table52, of
- * niloferq_explain and niloferq_heaviest, and of niloferq_nation, with the worked day. */
+/* The trials of reading and writing, of returns byte by byte, of scattered trees with number 14, of numbers 12 and 13, of the cleared biomass, of
+ * niloferq_table52, of niloferq_explain and niloferq_heaviest, and of niloferq_nation, with the worked day. */
 void reading(const uint8_t *day, size_t length);
 void writing(const uint8_t *day, size_t length);
 void returns_in_bytes(const uint8_t *day, size_t length);
 void trees(void);
 void wood(void);
 void soils(void);
+void matter(void);
 void table52(void);
 void explanations(const uint8_t *day, size_t length);
 void nations(const uint8_t *day, size_t length);

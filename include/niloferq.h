@@ -117,10 +117,10 @@
 #include <stddef.h>
 #include <stdint.h>
 
-/* Of the functions below; 11 had two editions, no number 14 and no `scattered`, 10 six kinds and no number 13, 9 no national line, 8 no number 12,
- * 7 named no row in an explanation, 6 had no explanation, 5 no table, 4 had five kinds, 3 number 8 and no `thinner`, 2 four kinds and no edition,
- * 1 an area for each kind. */
-#define NILOFERQ_VERSION 12
+/* Of the functions below; 12 did not have the five figures of cleared biomass, 11 had two editions, no number 14 and no `scattered`, 10 six kinds and no
+ * number 13, 9 no national line, 8 no number 12, 7 named no row in an explanation, 6 had no explanation, 5 no table, 4 had five kinds, 3 number 8 and no
+ * `thinner`, 2 four kinds and no edition, 1 an area for each kind. */
+#define NILOFERQ_VERSION 13
 
 #define NILOFERQ_EDITIONS 3            /* the latest edition */
 #define NILOFERQ_KINDS 7               /* the kinds of rows */
@@ -135,7 +135,7 @@
 #define NILOFERQ_SAVANNA_NUMBERS 14    /* the numbers in a row of savanna */
 #define NILOFERQ_SOIL_NUMBERS 9        /* the numbers in a row of mineral soil */
 #define NILOFERQ_MOST_ROWS 32          /* the most rows of a kind in a return; of parameters there is always one */
-#define NILOFERQ_FIGURES 28            /* the figures of a return */
+#define NILOFERQ_FIGURES 33            /* the figures of a return */
 #define NILOFERQ_MOST_RETURNS 500      /* the most returns of a national line */
 
 /* Rooms that are always enough. */
@@ -146,9 +146,9 @@
      NILOFERQ_MOST_ROWS * NILOFERQ_SAVANNA_NUMBERS +                                                              \
      NILOFERQ_MOST_ROWS * NILOFERQ_SOIL_NUMBERS) /* elements for the rows of a return, 1,766 */
 #define NILOFERQ_RETURN_ROOM 9728                    /* bytes for a return */
-#define NILOFERQ_FIGURES_ROOM (3 * NILOFERQ_FIGURES) /* elements for the figures, 84 */
-#define NILOFERQ_LINES_ROOM 1680                     /* bytes for the lines */
-#define NILOFERQ_EXPLAIN_ROOM 300                    /* bytes for an explanation */
+#define NILOFERQ_FIGURES_ROOM (3 * NILOFERQ_FIGURES) /* elements for the figures, 99 */
+#define NILOFERQ_LINES_ROOM 1980                     /* bytes for the lines */
+#define NILOFERQ_EXPLAIN_ROOM 500                    /* bytes for an explanation */
 #define NILOFERQ_NATION_ROOM 16000                   /* bytes for a national line */
 #define NILOFERQ_HEAVIEST_ROOM 3                     /* elements for the heaviest row */
 
@@ -170,9 +170,11 @@ uint32_t niloferq_judge(const uint8_t *bytes, size_t bytes_len, uint32_t *counts
 
 /* The NILOFERQ_FIGURES figures as numbers, in the order in which `sheets` prints them: E, K, L, M, O, P, Q, report, onsite, offsite, R,
  * decay, co2, ch4, co, n2o, nox, uptake, uptake_co2, thinner, savanna_carbon, savanna_ch4, savanna_co, savanna_n2o, savanna_nox, soil,
- * soil_change, scattered. thinner is a count, of the periods of conversion rows whose density after is above that before, 0 to 64: such a period counts
- * with a difference of 0. soil is in 10^-4 t of carbon and soil_change in tonnes of carbon a year; both are above zero for a gain. scattered is a count, of
- * the stock rows that are scattered trees, 0 to 32.
+ * soil_change, scattered, oxidised_onsite, charcoal_onsite, oxidised_offsite, charcoal_offsite, unburned. thinner is a count, of the periods of
+ * conversion rows whose density after is above that before, 0 to 64: such a period counts with a difference of 0. soil is in 10^-4 t of carbon and
+ * soil_change in tonnes of carbon a year; both are above zero for a gain. scattered is a count, of the stock rows that are scattered trees, 0 to 32. The last
+ * five are dry matter in 10^-9 kt: what became of the cleared biomass. Together they are 1,000,000 times the sum over the conversion rows of area x (before -
+ * after, or 0 where after is above before).
  * 0: the first NILOFERQ_FIGURES_ROOM elements of room are three for each figure: 1 where it is below zero and else 0, then the upper
  *    and the lower word of its size, which is lower + 2^64 upper; later elements keep their values. Only P, Q, report, soil and
  *    soil_change may be below zero: the sign of M and O is always 0, since a return whose M would be below zero is refused.
@@ -187,8 +189,8 @@ size_t niloferq_lines(const uint8_t *bytes, size_t bytes_len, uint8_t *room, siz
 
 /* The text that the program `explain` prints: `refused`, number and place, then, where a row is refused, its block, its position there, its kind and its
  * id, and then the values that clash, a line each, for 12 `used`, which is 100 K, and `cleared`, which is L, for 13 `soil_type`, `area_now` and
- * `area_then`, its two sums, for 14 `unit_code` and `edition`; of a good return the heaviest conversion row of each of the three carbon subtotals.
- * docs/EXPLAIN.md has the lines.
+ * `area_then`, its two sums, for 14 `unit_code` and `edition`; of a good return the heaviest conversion row of each of the three carbon subtotals, and
+ * then the five figures of the cleared biomass. docs/EXPLAIN.md has the lines.
  * The text's length, and the text stands at the front of room, with no zero byte behind it; later bytes keep their values.
  * 0: room_len is below the text's length, and room is unchanged. NILOFERQ_EXPLAIN_ROOM bytes are always enough. */
 size_t niloferq_explain(const uint8_t *bytes, size_t bytes_len, uint8_t *room, size_t room_len);

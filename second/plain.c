@@ -3,7 +3,7 @@
 #include <unistd.h>
 
 int main(void) {
-    static char bytes[9729], text[354];
+    static char bytes[9729], text[487];
     size_t n = 0;
     ssize_t got;
     while (n < sizeof bytes && (got = read(0, bytes + n, sizeof bytes - n)) > 0)

@@ -4,7 +4,8 @@
 //! fractions". Where one row is refused, the row is named before them. With number 12
 //! it "then shows 100K and L" (02, §8), with 13 the soil type at fault and its two area
 //! sums (02, §11), with 14 the unit code and the edition, which has no such code (02,
-//! §12). Of a return that is accepted, the heaviest rows.
+//! §12). Of a return that is accepted, the heaviest rows and where its dry matter went
+//! (02, §13).
 
 use crate::heaviest;
 use crate::judge::RECORDS_PER_BLOCK;
@@ -13,18 +14,22 @@ use crate::judge::{two, uneven_of, unit_code, whole_blocks, wood_of};
 use crate::judge::{Block, Fault, Record, Refusal};
 use crate::kinds::{Kind, KINDS};
 use crate::land::Conversion;
+use crate::matter;
 use crate::text::Text;
 
-/// What is always enough for C. The longest text, three heaviest rows with ids
-/// of ten digits and parts of twenty, has 207 bytes; that of a refusal has 132, the
-/// off-site oxidised fraction of a row with an id of ten digits.
-pub const EXPLAIN_ROOM: usize = 300;
+/// More than the longest text has, which is 375 bytes: three heaviest rows with ids of ten
+/// digits and parts of twenty have 207, and the five totals behind them 168. That of a
+/// refusal has 132, the off-site oxidised fraction of a row with an id of ten digits.
+pub const EXPLAIN_ROOM: usize = 400;
 
 /// The text that the program `explain` prints for these bytes.
 pub fn text(bytes: &[u8]) -> Text {
     let mut text = Text::new();
     match check(bytes) {
-        Ok(checked) => heaviest::print(checked, &mut text),
+        Ok(checked) => {
+            heaviest::print(checked, &mut text);
+            matter::print(matter::matter(checked), &mut text);
+        }
         Err(refusal) => {
             text.refused(refusal);
             print_row(bytes, refusal, &mut text);

@@ -1,7 +1,7 @@
 //! The second program, written from the paper (01) and the requests on abandoned
 //! land, on halves, on thinner grass, on savannas, on table 5-2, on reasons, on
-//! fuelwood, on more cleared, on the national line, on soils and on scattered trees (02,
-//! §1 to §3 and §5 to §12) alone: a judge, a reader and a writer of returns, the worksheets, the doubles, the
+//! fuelwood, on more cleared, on the national line, on soils, on scattered trees and on
+//! dry matter (02, §1 to §3 and §5 to §13) alone: a judge, a reader and a writer of returns, the worksheets, the doubles, the
 //! table, the explanations, the heaviest rows and the national line, with makers of
 //! good and damaged inputs to compare all of it with the first program. The table is
 //! read from docs/TABLE52.csv.
@@ -41,6 +41,7 @@ pub mod land;
 pub mod lent;
 pub mod lists;
 pub mod make;
+pub mod matter;
 pub mod mix;
 pub mod nation;
 pub mod nations;
@@ -73,10 +74,13 @@ pub mod tree_sweeps;
 pub mod trees;
 pub mod uneven;
 pub mod weights;
+pub mod whereabouts;
 pub mod wood;
 pub mod wood_sweeps;
 pub mod worst;
 pub mod writer;
 
+#[cfg(test)]
+mod header_tests;
 #[cfg(test)]
 mod modules_tests;

@@ -3,9 +3,11 @@
 //! that are accepted.
 //!
 //! The largest sums at the limits: E 1.6 x 10^18, K 1.92 x 10^15, L 1.6 x 10^17 and M
-//! 1.92 x 10^17 would fit 64 bits; P, 1.6 x 10^20, and carbon, 1.6 x 10^23, don't.
+//! 1.92 x 10^17 would fit 64 bits; P, 1.6 x 10^20, carbon, 1.6 x 10^23, and dry matter,
+//! 1.6 x 10^20, don't.
 
 use crate::judge::{check, Refusal};
+use crate::matter::{Matter, NAMES};
 use crate::rounding::Tonnes;
 use crate::sheets::Sums;
 use std::fmt::Write;
@@ -16,7 +18,7 @@ pub const MOST_RETURNS: usize = 500;
 /// (02, §11).
 pub const MOST_BLOCKS: u16 = 19;
 /// What is always enough for C: at most 26 bytes for each of 500 refused returns, and
-/// less than 600 for the rest.
+/// less than 800 for the rest.
 pub const NATION_ROOM: usize = 16_000;
 
 const BLOCK: usize = 512;
@@ -66,6 +68,8 @@ pub struct Totals {
     pub onsite: u128,
     pub offsite: u128,
     pub decay: u128,
+    /// Where the dry matter went (02, §13).
+    pub matter: Matter<u128>,
 }
 
 impl Totals {
@@ -78,6 +82,9 @@ impl Totals {
         self.onsite += sums.onsite;
         self.offsite += sums.offsite;
         self.decay += sums.decay;
+        for (total, part) in self.matter.iter_mut().zip(sums.matter) {
+            *total += u128::from(part);
+        }
     }
 
     /// Q and co2 before they are "rounded once from them".
@@ -170,6 +177,9 @@ impl Nation {
         line(text, format_args!("offsite {}", totals.offsite));
         line(text, format_args!("decay {}", totals.decay));
         line(text, format_args!("co2 {co2}"));
+        for (name, total) in NAMES.iter().zip(totals.matter) {
+            line(text, format_args!("{name}{total}"));
+        }
     }
 }
 

@@ -18,6 +18,11 @@ onsite 32400000000000
 offsite 16200000000000
 decay 40500000000000
 co2 326700
+oxidised_onsite 64800000000
+charcoal_onsite 7200000000
+oxidised_offsite 32400000000
+charcoal_offsite 3600000000
+unburned 72000000000
 ";
 
 const NONE: &str = "\
@@ -34,6 +39,11 @@ onsite 0
 offsite 0
 decay 0
 co2 0
+oxidised_onsite 0
+charcoal_onsite 0
+oxidised_offsite 0
+charcoal_offsite 0
+unburned 0
 ";
 
 fn text_of(file: &[u8]) -> String {
@@ -81,7 +91,8 @@ fn one_return() {
 fn the_worked_day_twice() {
     let due = "accepted 2\nrefused 0\nE 680000000\nK 1550000\nL 72000000\nM 83000000\n\
         P 26500000000\nQ 97167\nreport -97167\nonsite 64800000000000\noffsite 32400000000000\n\
-        decay 81000000000000\nco2 653400\n";
+        decay 81000000000000\nco2 653400\noxidised_onsite 129600000000\ncharcoal_onsite 14400000000\n\
+        oxidised_offsite 64800000000\ncharcoal_offsite 7200000000\nunburned 144000000000\n";
     assert_eq!(text_of(&[day(), day()].concat()), due);
 }
 
@@ -247,6 +258,8 @@ fn the_largest_file() {
         (totals.p, totals.offsite),
         (16 * 10i128.pow(19), 16 * 10u128.pow(22))
     );
+    // All is burned off site, and oxidised: 500 times 3.2 x 10^17.
+    assert_eq!(totals.matter, [0, 0, 16 * 10u128.pow(19), 0, 0]);
     // 11/3 of 1.6 x 10^14 tonnes of carbon, both.
     assert_eq!(
         totals.tonnes().map(Tonnes::rounded),
@@ -313,7 +326,7 @@ fn the_longest_text_has_room() {
     assert!(text.starts_with("return 1 refused 13 223\n"));
     assert!(text.len() > 12_000, "{}", text.len());
     // All figures at most 40 bytes more.
-    assert!(text.len() + 11 * 40 < NATION_ROOM);
+    assert!(text.len() + 16 * 40 < NATION_ROOM);
 }
 
 /// "The totals equal those of the accepted returns in any order of the same returns."
@@ -365,6 +378,8 @@ fn the_sum_of_the_sheets() {
             due.onsite += s.onsite;
             due.offsite += s.offsite;
             due.decay += s.decay;
+            let parts = due.matter.iter_mut().zip(s.matter);
+            parts.for_each(|(total, part)| *total += u128::from(part));
         }
         assert_eq!(Nation::of(&returns.concat()).totals, due);
         assert_eq!(due.m, 100 * due.k as i128 - due.l as i128);

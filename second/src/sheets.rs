@@ -1,6 +1,7 @@
 //! Worksheets 5-1, 5-2 and 5-3 of the paper (01), 5-4 (02, §1), 4-3 (02, §5, in
 //! `savanna`) and 5-5 (02, §11, in `soil`), in whole numbers, with the count of thinner
-//! periods (02, §3) and that of scattered trees (02, §12).
+//! periods (02, §3) and that of scattered trees (02, §12), and where every tonne of dry
+//! matter went (02, §13, in `matter`).
 //!
 //! The largest values at the limits say how wide each figure must be:
 //! E 3.2 x 10^15, K 3.84 x 10^12, L 3.2 x 10^14, O 3.84 x 10^17, 11 P
@@ -11,6 +12,7 @@
 
 use crate::judge::{check, four, two, Checked, Record, Refusal};
 use crate::land::{Conversion, Period, Share};
+use crate::matter::{matter, Matter, NAMES};
 use crate::rounding::Tonnes;
 use crate::savanna::Savannas;
 use crate::soil;
@@ -45,6 +47,7 @@ pub struct Worksheets {
     pub soil: i64,
     pub soil_change: i64,
     pub scattered: u64,
+    pub matter: Matter,
 }
 
 /// The worksheets of a return, or its refusal.
@@ -107,6 +110,7 @@ pub(crate) struct Sums {
     soil: i64,
     /// Stock rows of scattered trees.
     scattered: u64,
+    pub(crate) matter: Matter,
     /// N, CH4, CO, N/C, N2O and NOx.
     parameters: [u64; 6],
 }
@@ -134,6 +138,7 @@ impl Sums {
             savannas: Savannas::of(checked.records(6)),
             soil: soil::gained(checked.records(7)),
             scattered: checked.counts.scattered.into(),
+            matter: matter(checked),
             parameters: [4, 6, 8, 10, 12, 14].map(|at| u64::from(two(parameters, at))),
         }
     }
@@ -242,6 +247,7 @@ impl Worksheets {
             soil: sums.soil,
             soil_change,
             scattered: sums.scattered,
+            matter: sums.matter,
         }
     }
 
@@ -289,6 +295,11 @@ impl Worksheets {
             ("soil ", Signed(self.soil)),
             ("soil_change ", Signed(self.soil_change)),
             ("scattered ", Above(self.scattered)),
+            (NAMES[0], Above(self.matter[0])),
+            (NAMES[1], Above(self.matter[1])),
+            (NAMES[2], Above(self.matter[2])),
+            (NAMES[3], Above(self.matter[3])),
+            (NAMES[4], Above(self.matter[4])),
         ]
     }
 

@@ -2,15 +2,20 @@
 
 use crate::coverage::{Coverage, Due, Sorts};
 use crate::lists::Lists;
-use crate::{burned, thinner, tilled};
+use crate::{burned, thinner, tilled, whereabouts};
 
 /// Counters for each of them.
-pub struct RowSorts([Sorts<Lists>; 3]);
+pub struct RowSorts([Sorts<Lists>; 4]);
 
 impl RowSorts {
     /// So many of each sort are due.
     pub fn new(due: Due, coverage: &mut Coverage) -> Self {
-        let tables = [&thinner::SORTS[..], &burned::SORTS, &tilled::SORTS];
+        let tables = [
+            &thinner::SORTS[..],
+            &burned::SORTS,
+            &tilled::SORTS,
+            &whereabouts::SORTS,
+        ];
         RowSorts(tables.map(|table| Sorts::new(table, due, coverage)))
     }
 

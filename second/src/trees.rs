@@ -35,10 +35,10 @@ fn drawn(rng: &mut Rng) -> (String, Rows) {
     if rng.one_in(8) && rows.edition > 1 {
         rows.edition = rng.pick(&ALL_EDITIONS[1..]);
     }
-    let other = match rng.below(20) {
+    let other = match rng.below(14) {
         0 | 1 => {
             let at = rng.below(rows.stock.len());
-            rows.stock[at][UNIT_CODE] = rng.pick(&[2, 2, 3, 128, 129, 254, 255]);
+            rows.stock[at][UNIT_CODE] = rng.pick(&[2, 2, 2, 3, 129, 255]);
             format!(", code {} at {at}", rows.stock[at][UNIT_CODE])
         }
         2 => above_limits(rng, &mut rows),
@@ -112,6 +112,6 @@ mod tests {
         for number in [0, 5, 6, 7, 12, 13, 14] {
             assert!(given[number] > 20, "{given:?}");
         }
-        assert!(given[0] > 1_500 && given[14] > 4_000, "{given:?}");
+        assert!(given[0] > 1_500 && given[14] > 3_000, "{given:?}");
     }
 }

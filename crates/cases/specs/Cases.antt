@@ -1,4 +1,4 @@
--- "Proved as a single table, under one claim about all of it": 01's cases (a) to (j), seven of edition 2, four of halves, one of a row thinner in both periods, one of the largest savannas, two of wood, three of mineral soils, two of number 13 and nine of scattered trees and number 14, each a whole return with its complete answer, every figure of it.
+-- "Proved as a single table, under one claim about all of it": 01's cases (a) to (j), seven of edition 2, four of halves, one of a row thinner in both periods, one of the largest savannas, two of wood, three of mineral soils, two of number 13, nine of scattered trees and number 14 and one of where every tonne went, each a whole return with its complete answer, every figure of it.
 -- Where the case is about rows, the return is made of them by the definition of writing; where it is about bytes, the bytes stand here. An accepted return of rows is answered from the rows (FromRows), any other from its bytes.
 use Prim.Native.Nat.{ℕ, zero, suc}
 use mathlib.Core.Path.{_≡_, refl, ap, ap₂, _∙_}
@@ -29,6 +29,8 @@ use Rattle.totals.specs.Masses.{dryMatter, carbon, periods}
 use Rattle.totals.specs.Sums.{totalsOf}
 use Rattle.totals.specs.declared.Periods.{Periods}
 use Rattle.units.specs.Columns.{netDryMatter, netCarbon, netCo2, co2}
+use Rattle.matter.specs.Matter.{lostBiomass, oxidisedOnsitePart, charcoalOnsitePart, oxidisedOffsitePart, charcoalOffsitePart, unburnedPart, burnedOf, matterOf}
+use Rattle.matter.specs.declared.Matter.{Matter}
 use Rattle.burning.specs.Released.{releasedOf, burnedBy}
 use Rattle.burning.specs.Gases.{gas, gasesOf}
 use Rattle.burning.specs.declared.Gases.{Gases}
@@ -75,11 +77,11 @@ abbrev pub caseOf : Entry → Case
 caseOf (of-rows edition l a) = record { bytes = written edition l; answer = a }
 caseOf (of-bytes s a) = record { bytes = s; answer = a }
 
-abbrev figured : Stocks → Conversion × Periods → Gases → Abandoned → Savannas → Soils → ℕ → List ℕ → Complete
-figured a b c l v s t d = record { sheets = worked (record { stocks = a; conversion = b .0; thinner = b .1; gases = c; abandoned = l; savannas = v; soils = s; scattered = stockRows t }); doubles = d }
+abbrev figured : Stocks → Conversion × Periods → Gases → Abandoned → Savannas → Soils → ℕ → Matter → List ℕ → Complete
+figured a b c l v s t m d = record { sheets = worked (record { stocks = a; conversion = b .0; thinner = b .1; gases = c; abandoned = l; savannas = v; soils = s; scattered = stockRows t; matter = m }); doubles = d }
 
-abbrev pub worked-all : ℕ → Lists → Stocks → Conversion × Periods → Gases → Abandoned → Savannas → Soils → ℕ → List ℕ → Entry
-worked-all edition rows a b c l v s t d = of-rows edition rows (figured a b c l v s t d)
+abbrev pub worked-all : ℕ → Lists → Stocks → Conversion × Periods → Gases → Abandoned → Savannas → Soils → ℕ → Matter → List ℕ → Entry
+worked-all edition rows a b c l v s t m d = of-rows edition rows (figured a b c l v s t m d)
 
 -- the lines of 01, in their order, and the thinner periods with 5-2
 abbrev pub sheet51 : ℕ → ℕ → ℕ → ℤ → ℤ → ℤ → ℤ → ℤ → Stocks
@@ -102,7 +104,14 @@ sheet43 b h c n x = record { carbon = carbon b; gases = sheet53 h c n x }
 abbrev pub sheet55 : ℤ → ℤ → Soils
 sheet55 g c = record { soil = soilGain g; change = soilChange c }
 
--- with neither, and no scattered trees
+-- what became of the cleared biomass, in the order of its lines
+abbrev pub masses : ℕ → ℕ → ℕ → ℕ → ℕ → Matter
+masses oxidised charcoal oxidisedOff charcoalOff unburned = record { onsite = burnedOf oxidised charcoal; offsite = burnedOf oxidisedOff charcoalOff; unburned = dryMatter unburned }
+
+-- with none of them: no cleared biomass, no savannas, no mineral soils
+abbrev none13 : Matter
+none13 = masses 0 0 0 0 0
+
 abbrev none43 : Savannas
 none43 = sheet43 0 0 0 0 0
 
@@ -110,7 +119,11 @@ abbrev none55 : Soils
 none55 = sheet55 (pos 0) (pos 0)
 
 abbrev pub worked-out : ℕ → Lists → Stocks → Conversion × Periods → Gases → Abandoned → List ℕ → Entry
-worked-out edition rows a b c l d = worked-all edition rows a b c l none43 none55 0 d
+worked-out edition rows a b c l d = worked-all edition rows a b c l none43 none55 0 none13 d
+
+-- with cleared biomass
+abbrev pub worked-cleared : ℕ → Lists → Stocks → Conversion × Periods → Gases → Abandoned → Matter → List ℕ → Entry
+worked-cleared edition rows a b c l m d = worked-all edition rows a b c l none43 none55 0 m d
 
 abbrev pub refused : List ℕ → ℕ → ℕ → Entry
 refused s n p = of-bytes s (record { sheets = refusal n p; doubles = [] })
@@ -221,30 +234,34 @@ burned area young = row 1 area 1 0 250 ∷ [] ∷ [] ∷ defaults ∷ (1 ∷ you
 abbrev table01 : List Entry
 table01 =
     -- (a) "this day"
-    worked-out 1 (cut dayLengths dayArea)
+    worked-cleared 1 (cut dayLengths dayArea)
     (sheet51 340000000 775000 36000000 (pos 41500000) (pos 20750000000) (pos 13250000000) (pos 48583) (negsuc 48582))
     (sheet52 32400000000000 16200000000000 48600000000000 40500000000000 326700 0)
     (sheet53 518 4536 4 129)
     none54
+    (masses 64800000000 7200000000 32400000000 3600000000 72000000000)
     (4809131602776948736 ∷ 4804628003149578240 ∷ 4810524802404319232 ∷ [])
     -- (b) "the lone parameter block of zero values, check 18: all figures 0"
-    ∷ of-bytes (lone 18) (figured none51 none52 none53 none54 none43 none55 0 zeros)
+    ∷ of-bytes (lone 18) (figured none51 none52 none53 none54 none43 none55 0 none13 zeros)
     -- (c) "P = 1,500,000 gives Q = 6": a stock row of 15 x 100 x 10
     ∷ worked-out 1 (grown (1 ∷ 0 ∷ 100 ∷ 15 ∷ 10 ∷ [])) (sheet51 15000 0 0 (pos 0) (pos 0) (pos 1500000) (pos 6) (negsuc 5)) none52 none53 none54 zeros
     -- (d) "P = -1,500,000 gives -6": wood used, 40, above the wood cleared, 10 x 10 x 10, at N 500
-    ∷ worked-out 1 (cleared (wood 10 10 0 10 0) (used 40)) (sheet51 0 40 1000 (pos 3000) (pos 1500000) (negsuc 1499999) (negsuc 5) (pos 6)) none52 none53 none54 zeros
+    ∷ worked-cleared 1 (cleared (wood 10 10 0 10 0) (used 40)) (sheet51 0 40 1000 (pos 3000) (pos 1500000) (negsuc 1499999) (negsuc 5) (pos 6)) none52 none53 none54
+    (masses 0 0 0 1000000 99000000) zeros
     -- (e) "1.5 x 10^9 units of conversion carbon give 6 tonnes": an area of 15, a difference of 100, a fraction of 1, all of it oxidised and carbon
-    ∷ worked-out 1 (converted (row 1 15 100 0 1)) none51 (sheet52 1500000000 0 1500000000 0 6 0) none53 none54 (4744078263993761792 ∷ 0 ∷ 0 ∷ [])
+    ∷ worked-cleared 1 (converted (row 1 15 100 0 1)) none51 (sheet52 1500000000 0 1500000000 0 6 0) none53 none54 (masses 1500000 0 0 0 1498500000) (4744078263993761792 ∷ 0 ∷ 0 ∷ [])
     -- (f) "32 largest on-site rows give 3.2 x 10^20"
-    ∷ worked-out 1 (converted (largest 1 32)) none51
+    ∷ worked-cleared 1 (converted (largest 1 32)) none51
     (sheet52 320000000000000000000 0 320000000000000000000 0 1173333333333 0)
     (sheet53 5120000000 44800000000 35200000 1272228571)
     none54
+    (masses 320000000000000000 0 0 0 0)
     (4913806406333840640 ∷ 0 ∷ 0 ∷ [])
     -- (g) "(b) with check 17 is refused 2, place 0"
     ∷ refused (lone 17) 2 0
     -- (h) "fractions 500, 300, 200 pass, and 500, 300, 201 are refused 7": both with wood used, 31, above the wood cleared, 1 x 10 x 300
-    ∷ worked-out 1 (cleared (wood 1 10 500 300 200) (used 31)) (sheet51 0 31 3000 (pos 100) (pos 50000) (negsuc 49999) (pos 0) (pos 0)) none52 none53 none54 zeros
+    ∷ worked-cleared 1 (cleared (wood 1 10 500 300 200) (used 31)) (sheet51 0 31 3000 (pos 100) (pos 50000) (negsuc 49999) (pos 0) (pos 0)) none52 none53 none54
+    (masses 0 5000000 0 3000000 2000000) zeros
     ∷ refused (written 1 (cleared (wood 1 10 500 300 201) (used 31))) 7 0
     -- (i) "before 100, after 100 passes with zero", and since "case (i) changes" so does after 101, counted as thinner
     ∷ worked-out 1 (converted (row 1 1 100 100 1000)) none51 none52 none53 none54 zeros
@@ -267,6 +284,7 @@ table-1 =
     (sheet43 11364500000000000 61 1591 1 27)
     (sheet55 (negsuc 340799999999) (negsuc 1703999))
     1
+    (masses 64800000000 7200000000 32400000000 3600000000 72000000000)
     (4809131602776948736 ∷ 4804628003149578240 ∷ 4810524802404319232 ∷ [])
     -- the same rows in edition 1: "3 for .. a kind above 4 in edition 1", at the block of abandoned land
     ∷ refused (written 1 with-land) 3 4
@@ -287,9 +305,9 @@ table-2 =
     worked-out 1 (grown (1 ∷ 0 ∷ 100 ∷ 45 ∷ 10 ∷ [])) (sheet51 45000 0 0 (pos 0) (pos 0) (pos 4500000) (pos 16) (negsuc 15)) none52 none53 none54 zeros
     ∷ worked-out 1 (cleared [] (used 90)) (sheet51 0 90 0 (pos 9000) (pos 4500000) (negsuc 4499999) (negsuc 15) (pos 16)) none52 none53 none54 zeros
     -- 0.5 tonnes of CH4 go down to 0, and an uptake of 5.5 up to 6
-    ∷ worked-out 2 (burned 125 15) none51 (sheet52 31250000000 0 31250000000 0 115 0) (sheet53 0 4 0 0) (sheet54 15000 6) (4763993206503243776 ∷ 0 ∷ 0 ∷ [])
+    ∷ worked-cleared 2 (burned 125 15) none51 (sheet52 31250000000 0 31250000000 0 115 0) (sheet53 0 4 0 0) (sheet54 15000 6) (masses 31250000 0 0 0 93750000) (4763993206503243776 ∷ 0 ∷ 0 ∷ [])
     -- 1.5 tonnes of CH4 go up to 2, and an uptake of 16.5 down to 16
-    ∷ worked-out 2 (burned 375 45) none51 (sheet52 93750000000 0 93750000000 0 344 0) (sheet53 2 13 0 0) (sheet54 45000 16) (4770952405757984768 ∷ 0 ∷ 0 ∷ [])
+    ∷ worked-cleared 2 (burned 375 45) none51 (sheet52 93750000000 0 93750000000 0 344 0) (sheet53 2 13 0 0) (sheet54 45000 16) (masses 93750000 0 0 0 281250000) (4770952405757984768 ∷ 0 ∷ 0 ∷ [])
     ∷ []
 
 -- a row thinner in both periods counts 2
@@ -303,13 +321,14 @@ table-5 =
     (sheet43 320000000000000000000000 426666666667 746666666667 502857142857 1051428571429)
     none55
     0
+    none13
     zeros
     ∷ []
 
 -- wood cleared as much as used passes, and M is 0; one more is refused 12
 abbrev table-8 : List Entry
 table-8 =
-    worked-out 1 (cleared (wood 100 1 0 1 0) (used 1)) (sheet51 0 1 100 (pos 0) (pos 0) (pos 0) (pos 0) (pos 0)) none52 none53 none54 zeros
+    worked-cleared 1 (cleared (wood 100 1 0 1 0) (used 1)) (sheet51 0 1 100 (pos 0) (pos 0) (pos 0) (pos 0) (pos 0)) none52 none53 none54 (masses 0 0 0 100000 99900000) zeros
     ∷ refused (written 1 (cleared (wood 101 1 0 1 0) (used 1))) 12 0
     ∷ []
 
@@ -318,7 +337,7 @@ abbrev soil-rows : List ℕ → Lists
 soil-rows rows = [] ∷ [] ∷ [] ∷ defaults ∷ [] ∷ [] ∷ rows ∷ []
 
 abbrev soiled : List ℕ → ℤ → ℤ → Entry
-soiled rows g c = worked-all 2 (soil-rows rows) none51 none52 none53 none54 none43 (sheet55 g c) 0 zeros
+soiled rows g c = worked-all 2 (soil-rows rows) none51 none52 none53 none54 none43 (sheet55 g c) 0 none13 zeros
 
 -- below zero too a half of a year's change goes to even: from -2.5 to -2, from -1.5 to -2, and from -0.5 to 0, which has no sign
 abbrev table-11 : List Entry
@@ -332,7 +351,7 @@ table-11 =
 abbrev table-12 : List Entry
 table-12 =
     worked-all 1 (grown (trees 1 ++ ((2 ∷ 0 ∷ 100 ∷ 15 ∷ 10 ∷ []) ++ trees 3)))
-    (sheet51 27015000 0 0 (pos 0) (pos 0) (pos 2701500000) (pos 9906) (negsuc 9905)) none52 none53 none54 none43 none55 2 zeros
+    (sheet51 27015000 0 0 (pos 0) (pos 0) (pos 2701500000) (pos 9906) (negsuc 9905)) none52 none53 none54 none43 none55 2 none13 zeros
     ∷ []
 
 -- one patch of a soil type, by its id and its areas now and twenty years ago
@@ -354,7 +373,7 @@ stock-of i code = i ∷ code ∷ 100 ∷ 15 ∷ 10 ∷ []
 -- such a row worked out, in an edition: code 1 is one row of scattered trees, and code 0 none
 abbrev growing : ℕ → ℕ → Entry
 growing edition code =
-    worked-all edition (grown (stock-of 1 code)) (sheet51 15000 0 0 (pos 0) (pos 0) (pos 1500000) (pos 6) (negsuc 5)) none52 none53 none54 none43 none55 code zeros
+    worked-all edition (grown (stock-of 1 code)) (sheet51 15000 0 0 (pos 0) (pos 0) (pos 1500000) (pos 6) (negsuc 5)) none52 none53 none54 none43 none55 code none13 zeros
 
 -- "Edition 3 has no unit code 1"
 abbrev table-14 : List Entry
@@ -374,8 +393,19 @@ table-14 =
     ∷ refused (written 4 (grown (stock-of 1 0))) 3 0
     ∷ []
 
+-- an area of 3 at a difference of 10, of which 0.5 is burned on site, 0.9 of it to gas, and 0.3 off site, 0.8 of it to gas; and a row that is thinner, of which nothing is left over to account for.
+-- No fraction of carbon is given, so that no carbon is worked out: the masses are of dry matter, and of the first period
+abbrev parted : List ℕ
+parted = 1 ∷ 3 ∷ 20 ∷ 10 ∷ 500 ∷ 900 ∷ 0 ∷ 300 ∷ 800 ∷ 0 ∷ 7 ∷ 9 ∷ 2 ∷ 100 ∷ 0 ∷ 2 ∷ 5 ∷ 49 ∷ 100 ∷ 500 ∷ 900 ∷ 0 ∷ 300 ∷ 800 ∷ 0 ∷ 0 ∷ 0 ∷ 0 ∷ 0 ∷ 0 ∷ []
+
+abbrev table-tonnes : List Entry
+table-tonnes =
+    worked-cleared 1 (cleared parted (used 90)) (sheet51 0 90 9000 (pos 0) (pos 0) (pos 0) (pos 0) (pos 0)) (thin52 1) none53 none54
+    (masses 13500000 1500000 7200000 1800000 6000000) zeros
+    ∷ []
+
 abbrev entries : List Entry
-entries = table01 ++ (table-1 ++ (table-2 ++ (table-3 ++ (table-5 ++ (table-8 ++ (table-11 ++ (table-12 ++ (table-13 ++ table-14))))))))
+entries = table01 ++ (table-1 ++ (table-2 ++ (table-3 ++ (table-5 ++ (table-8 ++ (table-11 ++ (table-12 ++ (table-13 ++ (table-14 ++ table-tonnes)))))))))
 
 abbrev pub table : List Case
 table = map caseOf entries
@@ -414,7 +444,7 @@ in-turn (e ∷ es) p =
     (in-turn es (ap (λ (l : List (Ruling × Complete)). drop 1 l) p))
 
 all-worked : map worksOut entries ≡ map wanted entries
-unfolding toBits ofInt mul add onsiteDouble offsiteDouble decayDouble addRows largest largestFires blocksFrom computed cut filedList behind filedFrom littleEndian recordFrom inTurn headOf sealed weighed recordOn usedFrom bodyOf blockOf bytesOf rowsBelow rowFrom number evenOf settled sumOf scatteredPart stockPart harvestPart clearedPart onsitePart offsitePart decayPart countedDifference thinnerPart stocksOf conversionOf gasesOf abandonedOf abandonedPart savannasOf rowsFrom flatten total badList badLengths notAllowed listRules carbonShare carbonPart value wordsOf totalsOf entered releasedOf burnedBy soilCarbon stockNow stockThen allStocks soilsOf
+unfolding toBits ofInt mul add onsiteDouble offsiteDouble decayDouble addRows largest largestFires blocksFrom computed cut filedList behind filedFrom littleEndian recordFrom inTurn headOf sealed weighed recordOn usedFrom bodyOf blockOf bytesOf rowsBelow rowFrom number evenOf settled sumOf scatteredPart stockPart harvestPart clearedPart onsitePart offsitePart decayPart countedDifference thinnerPart stocksOf conversionOf gasesOf abandonedOf abandonedPart savannasOf rowsFrom flatten total badList badLengths notAllowed listRules carbonShare carbonPart value wordsOf totalsOf entered releasedOf burnedBy soilCarbon stockNow stockThen allStocks soilsOf lostBiomass oxidisedOnsitePart charcoalOnsitePart oxidisedOffsitePart charcoalOffsitePart unburnedPart matterOf
 all-worked = refl
 
 -- every return of the table has the answer beside it, as the checker computes them

@@ -116,7 +116,9 @@ module _ {M : Type 1} (𝓤 : URA M) (H : Heap 𝓤) (A : Atoms 𝓤) (mem : Mem
 
   pub explain-lines-says : Says 𝓤 explain-lines.ended (explain-lines.clauses 𝓤 H A mem run) (λ κs r e. (r, now (e .1 .0)))
       (λ κs a. withRoom (putOf (explained (now (a .0))) (now (a .1 .0))) (textAfter (explained (now (a .0))) (now (a .1 .0))))
-  explain-lines-says = says 𝓤 _ _ _ _ (λ κs a g. id⊢ 𝓤 _) (λ κs a g r e. followed 𝓤 _ _ _ (textAfter (explained (now (a .0))) (now (a .1 .0))))
+  explain-lines-says =
+      says 𝓤 _ _ _ _ (λ κs a g. id⊢ 𝓤 _)
+      (λ κs a g r e. followed-and 𝓤 _ _ _ (textAfter (explained (now (a .0))) (now (a .1 .0))) _)
 
   pub nation-says : Says 𝓤 nation.ended (nation.clauses 𝓤 H A mem run) (λ κs r e. (r, now (e .1 .0)))
       (λ κs a. withRoom (putOf (printedNation (now (a .0))) (now (a .1 .0))) (textAfter (printedNation (now (a .0))) (now (a .1 .0))))
@@ -143,7 +145,7 @@ module _ {M : Type 1} (𝓤 : URA M) (H : Heap 𝓤) (A : Atoms 𝓤) (mem : Mem
 
   pub c-explain-says : Says 𝓤 c-explain.ended (c-explain.clauses 𝓤 H A mem run) (λ κs r e. (r, now (e .1 .0)))
       (λ κs a. sized (putOf (explained (now (a .0))) (now (a .1 .0))) (textAfter (explained (now (a .0))) (now (a .1 .0))))
-  c-explain-says = says 𝓤 _ _ _ _ (λ κs a g. id⊢ 𝓤 _) (λ κs a g r e. paired 𝓤 _ _ _ _ (id⊢ 𝓤 _))
+  c-explain-says = says 𝓤 _ _ _ _ (λ κs a g. id⊢ 𝓤 _) (λ κs a g r e. paired-and 𝓤 _ _ _ _ _)
 
   pub c-nation-says : Says 𝓤 c-nation.ended (c-nation.clauses 𝓤 H A mem run) (λ κs r e. (r, now (e .1 .0)))
       (λ κs a. sized (putOf (printedNation (now (a .0))) (now (a .1 .0))) (textAfter (printedNation (now (a .0))) (now (a .1 .0))))

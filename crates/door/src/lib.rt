@@ -5,7 +5,7 @@ ghost use mathlib.Core.Path.{_≡_};
 ghost use lib.ListN.{length};
 ghost use Rattle.phrases.specs.Room.{putOf};
 ghost use Rattle.report.specs.Lines.{linesRoom, printed};
-ghost use Rattle.explained.specs.Explained.{explained};
+ghost use Rattle.explained.specs.Explained.{explained, explainRoom};
 ghost use Rattle.national.specs.Nation.{printedNation};
 ghost use Rattle.national.specs.Steps.{nationRoom};
 ghost use Rattle.tabled.specs.Figures.{figuresAnswer, figuresTold};
@@ -141,6 +141,7 @@ pub extern "C" fn niloferq_lines(bytes: &[u8], room: &mut [u8]) -> usize
 pub extern "C" fn niloferq_explain(bytes: &[u8], room: &mut [u8]) -> usize
     ensures { λ r. ⌜ r ≡ sizeOf (putOf (explained (now (bytes .entry))) (now (room .entry))) ⌝ }
     ensures { λ _. ⌜ now (room .exit) ≡ explainAfter (now (bytes .entry)) (now (room .entry)) ⌝ }
+    ensures { λ _. ⌜ length (explained (now (bytes .entry))) ≤ explainRoom ⌝ }
 {
     size_of(explained::explain_lines(bytes, room))
 }

@@ -1,6 +1,7 @@
-// Reads a return on standard input and prints why it was refused, or which rows weigh most.
+// Reads a return on standard input and prints why it was refused, or which rows weigh most and where the cleared biomass went.
 ghost use Prim.Native.Nat.{_≤_};
 ghost use lib.ListN.{length};
+ghost use Rattle.explained.specs.Explained.{explainRoom};
 use console::take;
 use explained::EXPLAIN_ROOM;
 use explained::explain_lines;
@@ -8,7 +9,7 @@ use form::LONGEST;
 
 // Room of EXPLAIN_ROOM bytes is never too short for the text.
 fn print(bytes: &[u8], room: &mut [u8])
-    requires { ⌜ 300 ≤ length (now room) ⌝ }
+    requires { ⌜ explainRoom ≤ length (now room) ⌝ }
 {
     let done = explain_lines(bytes, room);
     console::print(

@@ -25,6 +25,7 @@ use Rattle.form.proofs.EachKind.{few-kinds}
 use Rattle.form.proofs.Meaning.{clean-of, refused-ruling, small}
 use Rattle.decimal.proofs.DigitLaws.{decimal-length}
 use Rattle.heaviest.specs.Heaviest.{heaviestOf}
+use Rattle.matter.specs.Matter.{matterOf}
 use Rattle.phrases.specs.Lines.{refusedLine, linesText}
 use Rattle.phrases.proofs.Room.{refused-length}
 use Rattle.areas.specs.Place.{FirstOfLowest}
@@ -42,7 +43,7 @@ use Rattle.explained.specs.Explained.{explainedBy, explanationOf, ruling
 use Rattle.explained.specs.declared.Explanation.the-variants.{Accepted, Refused}
 
 module _ (s : List ℕ) where
-  pub accepted-explained : {c : Counts} → verdictOf s ≡ verdict.Accepted c → explanationOf s ≡ Accepted (heaviestOf s)
+  pub accepted-explained : {c : Counts} → verdictOf s ≡ verdict.Accepted c → explanationOf s ≡ Accepted (heaviestOf s) (matterOf (rows 1 s))
   unfolding verdictOf explanationOf
   accepted-explained {c} e = ap (explainedBy s) (clean-of s (ruling (rules s)) c e .0)
 

@@ -21,7 +21,9 @@ use Rattle.decimal.specs.Digits.{digits}
 use Rattle.totals.specs.Columns.{stockPart, onsitePart, offsitePart, decayPart}
 use Rattle.totals.specs.Sums.{totalsOf}
 use Rattle.phrases.specs.Ascii.{codes}
-use Rattle.phrases.specs.Lines.{refusedLine}
+use Rattle.matter.specs.Matter.{lostBiomass, oxidisedOnsitePart, charcoalOnsitePart, oxidisedOffsitePart, charcoalOffsitePart, unburnedPart, matterOf, plusMatter}
+use Rattle.phrases.specs.Lines.{refusedLine, linesText}
+use Rattle.fates.specs.Fates.{matterLines}
 use Rattle.ledger.specs.Ledger.{entered, plus}
 use Rattle.ledger.specs.Derived.{stocksOf, conversionOf}
 use Rattle.cutting.specs.Cutting.{mostReturns, Cut, Piece, Pieces, endToEnd}
@@ -68,12 +70,12 @@ day-added rs = tally-front day rs ∙ ap (λ (v : Verdict). frontBy day v (tally
 
 -- the text of a tally, opened for computing: `unfolding computedText` opens all that this line names
 unfoldable computedText : Tally → List ℕ
-unfolding flatMap digits value wordsOf evenOf settled number kinds rowFrom countedDifference rowsBelow countBelow blocksBelow sumOf harvestPart clearedPart stockPart onsitePart offsitePart decayPart totalsOf entered plus stocksOf conversionOf acceptedOf refusedOf tallyOf refusalLine refusedLine stopText totalsBy refusalsFrom
+unfolding flatMap digits value wordsOf evenOf settled number kinds rowFrom countedDifference rowsBelow countBelow blocksBelow sumOf harvestPart clearedPart stockPart onsitePart offsitePart decayPart totalsOf lostBiomass oxidisedOnsitePart charcoalOnsitePart oxidisedOffsitePart charcoalOffsitePart unburnedPart matterOf plusMatter linesText matterLines entered plus stocksOf conversionOf acceptedOf refusedOf tallyOf refusalLine refusedLine stopText totalsBy refusalsFrom
 computedText t = endText t Whole
 
 -- its figures as `sheets` prints them
 single : List String
-single = "E 340000000" ∷ "K 775000" ∷ "L 36000000" ∷ "M 41500000" ∷ "P 13250000000" ∷ "Q 48583" ∷ "report -48583" ∷ "onsite 32400000000000" ∷ "offsite 16200000000000" ∷ "decay 40500000000000" ∷ "co2 326700" ∷ []
+single = "E 340000000" ∷ "K 775000" ∷ "L 36000000" ∷ "M 41500000" ∷ "P 13250000000" ∷ "Q 48583" ∷ "report -48583" ∷ "onsite 32400000000000" ∷ "offsite 16200000000000" ∷ "decay 40500000000000" ∷ "co2 326700" ∷ "oxidised_onsite 64800000000" ∷ "charcoal_onsite 7200000000" ∷ "oxidised_offsite 32400000000" ∷ "charcoal_offsite 3600000000" ∷ "unburned 72000000000" ∷ []
 
 one-computed : printedBy (refusalsFrom 2 []) (dayFront (tallyOf [])) ≡ text ("accepted 1" ∷ "refused 0" ∷ single)
 unfolding computedText text single
@@ -85,7 +87,7 @@ one = of-returns (day ∷ []) (day-piece, tt) (lit≤ tt) ∙ ap₂ printedBy (d
 
 -- "A return present twice counts twice": every exact total is doubled, and Q, 11 x 26,500,000,000 / 3,000,000 = 97,166.67, is rounded from the doubled P
 twice : List String
-twice = "E 680000000" ∷ "K 1550000" ∷ "L 72000000" ∷ "M 83000000" ∷ "P 26500000000" ∷ "Q 97167" ∷ "report -97167" ∷ "onsite 64800000000000" ∷ "offsite 32400000000000" ∷ "decay 81000000000000" ∷ "co2 653400" ∷ []
+twice = "E 680000000" ∷ "K 1550000" ∷ "L 72000000" ∷ "M 83000000" ∷ "P 26500000000" ∷ "Q 97167" ∷ "report -97167" ∷ "onsite 64800000000000" ∷ "offsite 32400000000000" ∷ "decay 81000000000000" ∷ "co2 653400" ∷ "oxidised_onsite 129600000000" ∷ "charcoal_onsite 14400000000" ∷ "oxidised_offsite 64800000000" ∷ "charcoal_offsite 7200000000" ∷ "unburned 144000000000" ∷ []
 
 twice-computed : printedBy (refusalsFrom 3 []) (dayFront (dayFront (tallyOf []))) ≡ text ("accepted 2" ∷ "refused 0" ∷ twice)
 unfolding computedText text twice
@@ -132,7 +134,7 @@ good-refused-good =
 
 -- ---- no return, and the stops, behind one good return that has no figures
 noFigures : List String
-noFigures = "E 0" ∷ "K 0" ∷ "L 0" ∷ "M 0" ∷ "P 0" ∷ "Q 0" ∷ "report 0" ∷ "onsite 0" ∷ "offsite 0" ∷ "decay 0" ∷ "co2 0" ∷ []
+noFigures = "E 0" ∷ "K 0" ∷ "L 0" ∷ "M 0" ∷ "P 0" ∷ "Q 0" ∷ "report 0" ∷ "onsite 0" ∷ "offsite 0" ∷ "decay 0" ∷ "co2 0" ∷ "oxidised_onsite 0" ∷ "charcoal_onsite 0" ∷ "oxidised_offsite 0" ∷ "charcoal_offsite 0" ∷ "unburned 0" ∷ []
 
 -- "An empty file is no return": counts and figures 0
 no-return : printedNation [] ≡ text ("accepted 0" ∷ "refused 0" ∷ noFigures)

@@ -1,20 +1,28 @@
 -- "Exact national totals": the ledger of several returns has in each column the sum of theirs, and so have M and P, which are derived from it. Assumes nothing.
 --     column-sum, signed-sum    of any column that adds up from return to return
 --     removed-sum, m-sum, p-sum    O, M and P
+--     matter-whole    the five masses together are a million times the biomass that was cleared, over the accepted returns
 use Prim.Native.Nat.{ℕ, _+_, _*_}
 use mathlib.Core.Path.{_≡_, refl, sym, ap, ap₂, _∙_}
 use mathlib.Core.List.{List, [], _∷_, map}
 use native.Mathlib.Omega.{arith}
 use lib.IntN.{ℤ, pos, negℤ, _+ℤ_, _-ℤ_, +ℤ-assoc, +ℤ-comm, negℤ-+ℤ, pos-+ℤ-pos}
 use Rattle.form.specs.Sums.{sumOf}
+use Rattle.form.specs.Verdict.{rows, verdictOf}
+use Rattle.form.specs.declared.Verdict.{Verdict}
+use Rattle.form.specs.declared.Verdict.the-variants.{Accepted, Refused}
+use Rattle.standing.proofs.Accepted.{formed}
 use Rattle.wide.specs.Numbers.{value, wordsOf}
 use Rattle.wide.specs.Signs.{amount, signedOf}
 use Rattle.wide.proofs.Laws.{value-words}
 use Rattle.wide.proofs.SignLaws.{form-holds}
-use Rattle.ledger.specs.Ledger.{none, plus, sumLedgers}
+use Rattle.matter.specs.Matter.{lostTotal, together}
+use Rattle.matter.proofs.Adding.{together-plus}
+use Rattle.matter.proofs.Whole.{return-together}
+use Rattle.ledger.specs.Ledger.{entered, none, plus, sumLedgers}
 use Rattle.ledger.specs.Derived.{stocksOf}
 use Rattle.ledger.specs.declared.Ledger.{Ledger}
-use Rattle.gathered.specs.Gathered.{ledgerIn, signedSum}
+use Rattle.gathered.specs.Gathered.{ledgerIn, ifAccepted, acceptedOf, signedSum}
 
 -- a column that is 0 of no return, and of two the sum of both
 pub column-sum : (col : Ledger → ℕ) → col none ≡ 0 → ((a b : Ledger) → col (plus a b) ≡ col a + col b)
@@ -86,3 +94,28 @@ p-both a b =
 pub p-sum : (rs : List (List ℕ)) → amount (stocksOf (sumLedgers (map ledgerIn rs)) .p .0) ≡ signedSum (λ r. amount (stocksOf (ledgerIn r) .p .0)) rs
 unfolding stocksOf value wordsOf
 p-sum = signed-sum (λ g. amount (stocksOf g .p .0)) refl p-both
+
+-- ---- where the cleared biomass went
+abbrev matterIn : List ℕ → ℕ
+matterIn r = together (ledgerIn r .matter)
+
+together-sum : (rs : List (List ℕ)) → together (sumLedgers (map ledgerIn rs) .matter) ≡ sumOf matterIn rs
+unfolding plus
+together-sum = column-sum (λ g. together (g .matter)) (omega (arith, v 0)) (λ a b. together-plus (a .matter) (b .matter))
+
+-- of accepted returns
+abbrev Parts : List (List ℕ) → Type 0
+Parts rs = sumOf matterIn rs ≡ 1000000 * sumOf (λ r. lostTotal (rows 1 r)) rs
+
+parts-by : (r : List ℕ) (v : Verdict) (xs : List (List ℕ)) → verdictOf r ≡ v → Parts xs → Parts (ifAccepted v (r ∷ xs) xs)
+unfolding sumOf entered
+parts-by r (Accepted c) xs e h = omega (arith, return-together r c (formed r c e))
+parts-by r (Refused n p) xs e h = h
+
+all-parts : (xs : List (List ℕ)) → Parts (acceptedOf xs)
+unfolding acceptedOf sumOf
+all-parts [] = omega arith
+all-parts (r ∷ xs) = parts-by r (verdictOf r) (acceptedOf xs) refl (all-parts xs)
+
+pub matter-whole : (xs : List (List ℕ)) → together (sumLedgers (map ledgerIn (acceptedOf xs)) .matter) ≡ 1000000 * sumOf (λ r. lostTotal (rows 1 r)) (acceptedOf xs)
+matter-whole xs = together-sum (acceptedOf xs) ∙ all-parts xs

@@ -10,8 +10,8 @@ use native.Mathlib.Nat.{ℕ-set}
 use native.Mathlib.Omega.{arith}
 use lib.ListN.{length}
 use Rattle.form.specs.Verdict.{verdictOf}
-use Rattle.wide.specs.declared.Wide.{Wide}
 use Rattle.wide.specs.declared.signed.Signed.{Signed}
+use Rattle.matter.proofs.Adding.{wide-set, matter-set}
 use Rattle.ledger.specs.declared.Ledger.{Ledger}
 use Rattle.cutting.specs.Cutting.{mostReturns, Cut, cutFile, Piece, Pieces, endToEnd}
 use Rattle.cutting.proofs.Files.{whole-file}
@@ -37,9 +37,6 @@ same-tally (List·Permᴰ·swap {a = a} {b = b} {a′ = c} {b′ = d} {l = l} e 
 same-tally (List·Permᴰ·trans d e) = same-tally d ∙ same-tally e
 
 -- two equations of tallies are one, so it does not matter how a permutation was come by
-wide-set : IsSet Wide
-wide-set x y p q = λ i j. record { lo = ℕ-set (x .lo) (y .lo) (λ k. p k .lo) (λ k. q k .lo) i j; hi = ℕ-set (x .hi) (y .hi) (λ k. p k .hi) (λ k. q k .hi) i j }
-
 signed-set : IsSet Signed
 signed-set x y p q = λ i j. record {
   below = Bool-set (x .below) (y .below) (λ k. p k .below) (λ k. q k .below) i j;
@@ -55,6 +52,7 @@ ledger-set x y p q = λ i j. record {
   onsite = record { 0 = wide-set (x .onsite .0) (y .onsite .0) (λ k. p k .onsite .0) (λ k. q k .onsite .0) i j };
   offsite = record { 0 = wide-set (x .offsite .0) (y .offsite .0) (λ k. p k .offsite .0) (λ k. q k .offsite .0) i j };
   decay = record { 0 = wide-set (x .decay .0) (y .decay .0) (λ k. p k .decay .0) (λ k. q k .decay .0) i j };
+  matter = matter-set (x .matter) (y .matter) (λ k. p k .matter) (λ k. q k .matter) i j;
 }
 
 tally-set : IsSet Tally

@@ -35,6 +35,7 @@ use Rattle.totals.specs.Sums.{totalsOf}
 use Rattle.totals.proofs.Accepted.{small}
 use Rattle.totals.proofs.Limits.{stock-below, harvest-below, cleared-below, onsite-below, offsite-below, decay-below}
 use Rattle.units.specs.Columns.{columnM, columnO}
+use Rattle.matter.proofs.Sizes.{most-le, return-most}
 use Rattle.ledger.specs.Ledger.{entered, none, plus, Bounded}
 use Rattle.ledger.specs.Several.{AtMost, Addable}
 use Rattle.ledger.proofs.Adding.{at-most-none, at-most-plus, at-most-bounded, at-most-addable}
@@ -83,6 +84,7 @@ module _ (s : List ℕ) (c : Counts) (acc : verdictOf s ≡ Accepted c) where
         onsite = omega (arith, small s c f 1 onsitePart (10 ^ 19) (lit≤ tt) one-kind onsite-below, value-words (onsiteTotal (rows 1 s)) .number);
         offsite = omega (arith, small s c f 1 offsitePart (10 ^ 19) (lit≤ tt) one-kind offsite-below, value-words (offsiteTotal (rows 1 s)) .number);
         decay = omega (arith, small s c f 1 decayPart (10 ^ 19) (lit≤ tt) one-kind decay-below, value-words (decayTotal (rows 1 s)) .number);
+        matter = most-le (return-most s c f) (lit≤ tt);
       }
 
   pub ledger-addable : Addable (ledgerIn s)

@@ -15,14 +15,13 @@ use Rattle.form.specs.Verdict.{rows, verdictOf}
 use Rattle.form.specs.declared.Counts.{Counts}
 use Rattle.form.specs.declared.Verdict.{Verdict}
 use Rattle.form.specs.declared.Verdict.the-variants.{Accepted, Refused}
-use Rattle.wide.specs.Numbers.{value, wordsOf}
 use Rattle.wide.specs.Signs.{amount, signedOf}
-use Rattle.wide.proofs.Laws.{value-words}
 use Rattle.wide.proofs.SignLaws.{form-holds}
 use Rattle.totals.specs.Columns.{columnE, onsiteTotal, offsiteTotal, decayTotal}
 use Rattle.totals.specs.Masses.{dryMatter}
 use Rattle.totals.specs.Sums.{totalsOf}
 use Rattle.units.specs.Columns.{columnM}
+use Rattle.matter.proofs.Adding.{words-alone, matter-alone}
 use Rattle.ledger.specs.Ledger.{entered, plus, none, sumLedgers}
 use Rattle.worksheets.specs.Sheets.{byKind, given}
 use Rattle.ledger.specs.declared.Ledger.{Ledger}
@@ -132,9 +131,6 @@ twice r rs e =
     ∙ ap (λ (v : Verdict). frontBy r v (frontBy r v (tallyOf rs))) e
 
 -- and one by itself has its own ledger, so its figures are its sheets'
-words-alone : (n : ℕ) → wordsOf (value (wordsOf n) + value (wordsOf 0)) ≡ wordsOf n
-words-alone n = let e : value (wordsOf n) + value (wordsOf 0) ≡ n = omega (arith, value-words n .number, value-words 0 .number) in ap wordsOf e
-
 signed-alone : (z : ℤ) → signedOf (amount (signedOf z) +ℤ amount (signedOf (pos 0))) ≡ signedOf z
 signed-alone z = ap₂ (λ (x y : ℤ). signedOf (x +ℤ y)) (form-holds z .number) (form-holds (pos 0) .number) ∙ ap signedOf (+ℤ-idr z)
 
@@ -148,6 +144,7 @@ ledger-alone r = λ i. record {
   onsite = record { 0 = words-alone (onsiteTotal (rows 1 r)) i };
   offsite = record { 0 = words-alone (offsiteTotal (rows 1 r)) i };
   decay = record { 0 = words-alone (decayTotal (rows 1 r)) i };
+  matter = matter-alone (rows 1 r) i;
 }
 
 pub lone : (r : List ℕ) {c : Counts} → verdictOf r ≡ Accepted c → tallyOf (r ∷ []) ≡ record { accepted = 1; refused = 0; ledger = ledgerIn r }

@@ -12,6 +12,7 @@ use ledger::Ledger;
 use ledger::enter;
 use ledger::several::add_ledgers;
 use ledger::several::no_returns;
+use matter::work_matter;
 use sums::sum_harvest;
 use sums::sum_stocks;
 use totals::sum_conversion;
@@ -50,7 +51,13 @@ fn ledger_in(bytes: &[u8], c: Counts) -> Ledger
 {
     let p = read_parameters(bytes, c);
     let t = sum_conversion(bytes, c);
-    enter(sum_stocks(bytes, c), sum_harvest(bytes, c), t, p.n)
+    enter(
+        sum_stocks(bytes, c),
+        sum_harvest(bytes, c),
+        t,
+        work_matter(bytes, c),
+        p.n,
+    )
 }
 
 // One return more, by its verdict: an accepted one is added, a refused one only counted.

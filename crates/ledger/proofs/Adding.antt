@@ -1,11 +1,11 @@
 -- The ledgers of several returns. Assumes nothing.
+--     entered-as      the ledger of one, by what is entered
 --     plus-swap, plus-last     the order of addition does not matter; one more behind the others
 --     at-most-none, at-most-plus, at-most-bounded, at-most-addable   how large a sum can be, and that five hundred have room
 use Prim.Native.Nat.{ℕ, _+_, _*_, _≤_, _<_, _^_}
 use mathlib.Core.Path.{_≡_, refl, sym, ap, ap₂, subst, _∙_}
 use mathlib.Core.Bool.{Bool, false}
 use mathlib.Core.List.{List, [], _∷_, _++_}
-use native.Mathlib.Nat.{add-comm, add-assoc}
 use native.Mathlib.Omega.{arith}
 use lib.IntN.{ℤ, pos, natAbs, _+ℤ_, +ℤ-assoc, +ℤ-comm, pos-+ℤ-pos}
 use Rattle.wide.specs.Numbers.{value, wordsOf}
@@ -15,22 +15,25 @@ use Rattle.wide.specs.declared.signed.Signed.{Signed}
 use Rattle.wide.proofs.Laws.{value-words}
 use Rattle.wide.proofs.SignLaws.{form-holds}
 use Rattle.totals.specs.Masses.{carbon, dryMatter}
+use Rattle.totals.specs.declared.Carbon.{Carbon}
+use Rattle.totals.specs.declared.DryMatter.{DryMatter}
+use Rattle.totals.specs.declared.Totals.{Totals}
 use Rattle.units.specs.Columns.{netCarbon}
-use Rattle.ledger.specs.Ledger.{none, plus, sumLedgers, Bounded}
+use Rattle.matter.specs.declared.Matter.{Matter}
+use Rattle.matter.proofs.Adding.{words-comm, words-assoc, matter-comm, matter-assoc}
+use Rattle.matter.proofs.Sizes.{most-le, most-none, most-plus}
+use Rattle.ledger.specs.Ledger.{entered, none, plus, sumLedgers, Bounded}
 use Rattle.ledger.specs.Several.{AtMost, Addable}
 use Rattle.ledger.specs.declared.Ledger.{Ledger}
+
+-- a return's entry, by equals
+pub entered-as : {g : Ledger} {e e′ : Carbon} {k k′ : DryMatter} {t t′ : Totals} {m m′ : Matter} {n n′ : ℕ}
+    → g ≡ entered e k t m n → e ≡ e′ → k ≡ k′ → t ≡ t′ → m ≡ m′ → n ≡ n′ → g ≡ entered e′ k′ t′ m′ n′
+entered-as g e k t m n = g ∙ (λ i. entered (e i) (k i) (t i) (m i) (n i))
 
 -- a number written in words and read again
 v : (n : ℕ) → value (wordsOf n) ≡ n
 v n = value-words n .number
-
-words-comm : (x y : ℕ) → wordsOf (x + y) ≡ wordsOf (y + x)
-words-comm x y = ap wordsOf (add-comm x y)
-
-words-assoc : (x y z : ℕ) → wordsOf (value (wordsOf (x + y)) + z) ≡ wordsOf (x + value (wordsOf (y + z)))
-words-assoc x y z =
-    let e : value (wordsOf (x + y)) + z ≡ x + value (wordsOf (y + z)) = omega (arith, v (x + y), v (y + z)) in
-    ap wordsOf e
 
 signed-comm : (x y : ℤ) → signedOf (x +ℤ y) ≡ signedOf (y +ℤ x)
 signed-comm x y = ap signedOf (+ℤ-comm x y)
@@ -49,6 +52,7 @@ plus-comm a b = λ i. record {
   onsite = record { 0 = words-comm (value (a .onsite .0)) (value (b .onsite .0)) i };
   offsite = record { 0 = words-comm (value (a .offsite .0)) (value (b .offsite .0)) i };
   decay = record { 0 = words-comm (value (a .decay .0)) (value (b .decay .0)) i };
+  matter = matter-comm (a .matter) (b .matter) i;
 }
 
 pub plus-assoc : (a b c : Ledger) → plus (plus a b) c ≡ plus a (plus b c)
@@ -61,6 +65,7 @@ plus-assoc a b c = λ i. record {
   onsite = record { 0 = words-assoc (value (a .onsite .0)) (value (b .onsite .0)) (value (c .onsite .0)) i };
   offsite = record { 0 = words-assoc (value (a .offsite .0)) (value (b .offsite .0)) (value (c .offsite .0)) i };
   decay = record { 0 = words-assoc (value (a .decay .0)) (value (b .decay .0)) (value (c .decay .0)) i };
+  matter = matter-assoc (a .matter) (b .matter) (c .matter) i;
 }
 
 pub plus-swap : (a b c : Ledger) → plus a (plus b c) ≡ plus b (plus a c)
@@ -81,6 +86,7 @@ at-most-none = record {
   onsite = omega (arith, v 0);
   offsite = omega (arith, v 0);
   decay = omega (arith, v 0);
+  matter = most-none;
 }
 
 -- two numbers that are not below zero
@@ -103,6 +109,7 @@ at-most-plus m n a b p q =
       onsite = omega (arith, v (value (a .onsite .0) + value (b .onsite .0)));
       offsite = omega (arith, v (value (a .offsite .0) + value (b .offsite .0)));
       decay = omega (arith, v (value (a .decay .0) + value (b .decay .0)));
+      matter = most-le (most-plus (a .matter) (b .matter) (p .matter) (q .matter)) (omega arith);
     }
 
 -- five hundred returns have room
@@ -115,6 +122,7 @@ at-most-bounded p h = record {
   onsite = omega (arith, p .onsite);
   offsite = omega (arith, p .offsite);
   decay = omega (arith, p .decay);
+  matter = most-le (p .matter) (omega (arith, h));
 }
 
 pub at-most-addable : {n : ℕ} {g : Ledger} → AtMost n g → n ≤ 500 → Addable g

@@ -12,11 +12,13 @@ use Rattle.totals.specs.declared.Carbon.{Carbon}
 use Rattle.totals.specs.declared.DryMatter.{DryMatter}
 use Rattle.totals.specs.declared.Totals.{Totals}
 use Rattle.units.specs.Columns.{netCarbon, columnM, columnO}
+use Rattle.matter.specs.Matter.{matterOf, noMatter, plusMatter, MatterMost}
+use Rattle.matter.specs.declared.Matter.{Matter}
 use Rattle.ledger.specs.declared.Ledger.{Ledger}
 
 -- a return's entry, from its sums and its N; O is by 01 "M x N"
-unfoldable pub entered : Carbon → DryMatter → Totals → ℕ → Ledger
-entered e k t n = record {
+unfoldable pub entered : Carbon → DryMatter → Totals → Matter → ℕ → Ledger
+entered e k t matter n = record {
   e = e;
   k = k;
   l = t .cleared;
@@ -24,15 +26,16 @@ entered e k t n = record {
   onsite = t .onsite;
   offsite = t .offsite;
   decay = t .decay;
+  matter = matter;
 }
 
 -- from its rows: E is of the stock rows, K of the harvest rows, the others of the conversion rows
 abbrev pub ledgerOf : (conversion stock harvest : List (List ℕ)) → ℕ → Ledger
-ledgerOf conversion stock harvest n = entered (carbon (columnE stock)) (dryMatter (columnK harvest)) (totalsOf conversion) n
+ledgerOf conversion stock harvest n = entered (carbon (columnE stock)) (dryMatter (columnK harvest)) (totalsOf conversion) (matterOf conversion) n
 
 -- of no return, of two, and of several
 abbrev pub none : Ledger
-none = record { e = carbon 0; k = dryMatter 0; l = dryMatter 0; o = netCarbon (pos 0); onsite = carbon 0; offsite = carbon 0; decay = carbon 0 }
+none = record { e = carbon 0; k = dryMatter 0; l = dryMatter 0; o = netCarbon (pos 0); onsite = carbon 0; offsite = carbon 0; decay = carbon 0; matter = noMatter }
 
 unfoldable pub plus : Ledger → Ledger → Ledger
 plus a b = record {
@@ -43,6 +46,7 @@ plus a b = record {
   onsite = carbon (value (a .onsite .0) + value (b .onsite .0));
   offsite = carbon (value (a .offsite .0) + value (b .offsite .0));
   decay = carbon (value (a .decay .0) + value (b .decay .0));
+  matter = plusMatter (a .matter) (b .matter);
 }
 
 abbrev pub sumLedgers : List Ledger → Ledger
@@ -58,3 +62,4 @@ pub record Bounded (g : Ledger) : Type 0 where
   pub onsite : value (g .onsite .0) < 2 ^ 80
   pub offsite : value (g .offsite .0) < 2 ^ 80
   pub decay : value (g .decay .0) < 2 ^ 80
+  pub matter : MatterMost (2 ^ 80) (g .matter)

@@ -1,21 +1,17 @@
 -- The ledger of several returns: how large it can be. Assumes nothing.
-use Prim.Native.Nat.{ℕ, _+_, _*_, _^_, _≤_}
+use Prim.Native.Nat.{ℕ, _*_, _^_, _≤_}
 use mathlib.Core.Path.{_≡_}
 use mathlib.Core.Bool.{false}
 use lib.IntN.{_+ℤ_}
 use Rattle.wide.specs.Numbers.{value}
 use Rattle.wide.specs.Signs.{amount}
-use Rattle.totals.specs.Masses.{dryMatter}
-use Rattle.totals.specs.declared.DryMatter.{DryMatter}
 use Rattle.units.specs.Columns.{netCarbon}
 use Rattle.units.specs.declared.NetCarbon.{NetCarbon}
+use Rattle.matter.specs.Matter.{MatterMost}
 use Rattle.ledger.specs.Ledger.{Bounded}
 use Rattle.ledger.specs.declared.Ledger.{Ledger}
 
--- a column of two returns: the wood, and O
-abbrev pub bothWoods : DryMatter → DryMatter → DryMatter
-bothWoods a b = dryMatter (value (a .0) + value (b .0))
-
+-- O of two returns
 abbrev pub bothRemoved : NetCarbon → NetCarbon → NetCarbon
 bothRemoved a b = netCarbon (amount (a .0) +ℤ amount (b .0))
 
@@ -29,6 +25,7 @@ pub record AtMost (n : ℕ) (g : Ledger) : Type 0 where
   pub onsite : value (g .onsite .0) ≤ n * (32 * 10 ^ 19)
   pub offsite : value (g .offsite .0) ≤ n * (32 * 10 ^ 19)
   pub decay : value (g .decay .0) ≤ n * (32 * 10 ^ 19)
+  pub matter : MatterMost (n * (32 * 10 ^ 16)) (g .matter)
 
 -- what two ledgers that are added up are known to be
 pub record Addable (g : Ledger) : Type 0 where

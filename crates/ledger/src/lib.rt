@@ -6,6 +6,7 @@ ghost use Prim.Native.Nat.{_^_, _<_, _≤_};
 ghost use Rattle.wide.specs.Numbers.{value};
 ghost use Rattle.ledger.specs.Ledger.{entered, Bounded};
 ghost use Rattle.ledger.specs.Derived.{stocksOf, conversionOf};
+use matter::Matter;
 use totals::Carbon;
 use totals::DryMatter;
 use totals::Totals;
@@ -30,6 +31,7 @@ pub struct Ledger {
     pub onsite: Carbon,
     pub offsite: Carbon,
     pub decay: Carbon,
+    pub matter: Matter,
 }
 
 // Worksheet 5-1.
@@ -54,9 +56,9 @@ pub struct Conversion {
 }
 
 // One return's entry: O goes by the return's own N, so it is entered and not derived.
-pub fn enter(e: Carbon, k: DryMatter, t: Totals, n: u32) -> Ledger
+pub fn enter(e: Carbon, k: DryMatter, t: Totals, matter: Matter, n: u32) -> Ledger
     requires { ⌜ (value (k .0) < 2 ^ 64) × (value (t .cleared .0) < 2 ^ 64) × (n ≤ 1000) ⌝ }
-    ensures { λ r. ⌜ r ≡ entered e k t n ⌝ }
+    ensures { λ r. ⌜ r ≡ entered e k t matter n ⌝ }
 {
     let l = t.cleared;
     let onsite = t.onsite;
@@ -71,6 +73,7 @@ pub fn enter(e: Carbon, k: DryMatter, t: Totals, n: u32) -> Ledger
         onsite,
         offsite,
         decay,
+        matter,
     }
 }
 

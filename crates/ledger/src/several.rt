@@ -4,8 +4,11 @@ ghost use mathlib.Core.Bool.{false};
 ghost use Prim.Native.Nat.{_^_, _<_};
 ghost use Rattle.wide.specs.Numbers.{value};
 ghost use Rattle.ledger.specs.Ledger.{none, plus};
-ghost use Rattle.ledger.specs.Several.{bothWoods, bothRemoved, Addable};
+ghost use Rattle.ledger.specs.Several.{bothRemoved, Addable};
 use crate::Ledger;
+use matter::several::add_matter;
+use matter::several::both_masses;
+use matter::several::no_matter;
 use totals::Carbon;
 use totals::DryMatter;
 use units::NetCarbon;
@@ -31,14 +34,8 @@ pub fn no_returns() -> Ledger
         onsite: Carbon(zero),
         offsite: Carbon(zero),
         decay: Carbon(zero),
+        matter: no_matter(),
     }
-}
-
-fn both_woods(a: DryMatter, b: DryMatter) -> DryMatter
-    requires { ⌜ (value (a .0) < 2 ^ 64) × (value (b .0) < 2 ^ 64) ⌝ }
-    ensures { λ r. ⌜ r ≡ bothWoods a b ⌝ }
-{
-    DryMatter(add(a.0, b.0))
 }
 
 // O of both: neither is below zero, so their sizes are added.
@@ -58,11 +55,12 @@ pub fn add_ledgers(a: Ledger, b: Ledger) -> Ledger
 {
     Ledger {
         e: both(a.e, b.e),
-        k: both_woods(a.k, b.k),
-        l: both_woods(a.l, b.l),
+        k: both_masses(a.k, b.k),
+        l: both_masses(a.l, b.l),
         o: both_removed(a.o, b.o),
         onsite: both(a.onsite, b.onsite),
         offsite: both(a.offsite, b.offsite),
         decay: both(a.decay, b.decay),
+        matter: add_matter(a.matter, b.matter),
     }
 }

@@ -52,11 +52,16 @@ listed f =
     ∷ net (codes "soil") (f .soils .soil .0)
     ∷ net (codes "soil_change") (f .soils .change .0)
     ∷ figure (codes "scattered") (f .scattered .0)
+    ∷ figure (codes "oxidised_onsite") (f .matter .onsite .oxidised .0)
+    ∷ figure (codes "charcoal_onsite") (f .matter .onsite .charcoal .0)
+    ∷ figure (codes "oxidised_offsite") (f .matter .offsite .oxidised .0)
+    ∷ figure (codes "charcoal_offsite") (f .matter .offsite .charcoal .0)
+    ∷ figure (codes "unburned") (f .matter .unburned .0)
     ∷ []
 
 -- how many there are: the same of every return (`counted`)
 abbrev pub figureCount : ℕ
-figureCount = 28
+figureCount = 33
 
 -- the values of a list of figures
 abbrev pub valuesOf : List Figure → List Signed

@@ -9,7 +9,7 @@ use wide::signed::Signed;
 use worksheets::sheets::Figures;
 
 // How many figures there are, and how many numbers they are.
-pub const FIGURES: usize = 28;
+pub const FIGURES: usize = 33;
 
 pub const NUMBERS: usize = 3 * FIGURES;
 
@@ -66,6 +66,16 @@ fn list(f: Figures) -> [Signed; FIGURES]
     let soil_change = f.soils.change.0;
     let size = f.scattered.0;
     let scattered = Signed { below: false, size };
+    let size = f.matter.onsite.oxidised.0;
+    let oxidised_onsite = Signed { below: false, size };
+    let size = f.matter.onsite.charcoal.0;
+    let charcoal_onsite = Signed { below: false, size };
+    let size = f.matter.offsite.oxidised.0;
+    let oxidised_offsite = Signed { below: false, size };
+    let size = f.matter.offsite.charcoal.0;
+    let charcoal_offsite = Signed { below: false, size };
+    let size = f.matter.unburned.0;
+    let unburned = Signed { below: false, size };
     [
         e,
         k,
@@ -95,6 +105,11 @@ fn list(f: Figures) -> [Signed; FIGURES]
         soil,
         soil_change,
         scattered,
+        oxidised_onsite,
+        charcoal_onsite,
+        oxidised_offsite,
+        charcoal_offsite,
+        unburned,
     ]
 }
 

@@ -56,10 +56,10 @@ accepted-alone rs p l =
 
 -- one return by itself
 pub one-return-figures : (r : List ℕ) {c : Counts} → Piece r → verdictOf r ≡ Accepted c
-    → let t = nationOf r .tally in (stocksOf (t .ledger) ≡ figuresOf (byKind r) .stocks) × (conversionOf (t .ledger) ≡ figuresOf (byKind r) .conversion)
+    → let t = nationOf r .tally in let f = figuresOf (byKind r) in (stocksOf (t .ledger) ≡ f .stocks) × (conversionOf (t .ledger) ≡ f .conversion) × (t .ledger .matter ≡ f .matter)
 unfolding endToEnd Pieces
 one-return-figures r p e =
     let whole : nationOf r .tally ≡ tallyOf (r ∷ []) =
     ap (λ (s : List ℕ). nationOf s .tally) (sym (append-nil r)) ∙ ap tallyOf (cut-pieces (r ∷ []) (p, tt) (lit≤ tt)) in
     let q = whole ∙ lone r e in
-    (ap (λ (t : Tally). stocksOf (t .ledger)) q, ap (λ (t : Tally). conversionOf (t .ledger)) q)
+    (ap (λ (t : Tally). stocksOf (t .ledger)) q, ap (λ (t : Tally). conversionOf (t .ledger)) q, ap (λ (t : Tally). t .ledger .matter) q)

@@ -26,7 +26,7 @@ use Rattle.phrases.proofs.Filled.{filled-flat}
 use Rattle.ledger.specs.declared.Stocks.{Stocks}
 use Rattle.ledger.specs.declared.Conversion.{Conversion}
 use Rattle.national.specs.Lines.{Total, totalLine, totalsBy}
-use Rattle.national.specs.Steps.{totalsRoom, totalNumbers}
+use Rattle.national.specs.Steps.{totalNumbers}
 
 numberOf : Total → ℤ
 numberOf x = x .number

@@ -1,5 +1,5 @@
 -- How long the lines are. Assumes nothing.
---     totals-short     the totals of a ledger that has room: every value has at most 36 digits and a sign
+--     columns-short     the totals of a ledger that has room: every value has at most 36 digits and a sign
 use Prim.Native.Nat.{ℕ, _+_, _*_, _/_, _%_, _^_, _<_, _≤_}
 use mathlib.Core.Path.{_≡_, refl, sym, ap, subst, _∙_}
 use mathlib.Core.Bool.{Bool, true, false, cond}
@@ -27,8 +27,8 @@ use Rattle.ledger.specs.declared.Ledger.{Ledger}
 use Rattle.ledger.proofs.Sizes.{size-M, size-P}
 use Rattle.gathered.specs.Gathered.{countOf}
 use Rattle.gathered.specs.declared.Tally.{Tally}
-use Rattle.national.specs.Lines.{Total, totalLine, totalsBy, totalsIn, totalsText}
-use Rattle.national.specs.Steps.{totalsRoom}
+use Rattle.national.specs.Lines.{Total, totalLine, totalsBy, totalsIn, columnsText}
+use Rattle.national.specs.Steps.{columnsRoom}
 
 -- numbers of at most 36 digits
 plain-short : (n : ℕ) → n < 10 ^ 36 → length (decimal n) ≤ 40
@@ -131,9 +131,9 @@ module _ (t : Tally) (few : countOf t ≤ 500) (b : Bounded (t .ledger)) where
         ),
       )
 
-  names-length : length (flatMap (λ (x : Total). x .name) (totalsIn t)) + 42 * length (totalsIn t) ≤ totalsRoom
+  names-length : length (flatMap (λ (x : Total). x .name) (totalsIn t)) + 42 * length (totalsIn t) ≤ columnsRoom
   unfolding flatMap totalsBy
   names-length = lit≤ tt
 
-  pub totals-short : length (totalsText t) ≤ totalsRoom
-  totals-short = le-trans (lines-short (totalsIn t) values-short) names-length
+  pub columns-short : length (columnsText t) ≤ columnsRoom
+  columns-short = le-trans (lines-short (totalsIn t) values-short) names-length

@@ -14,6 +14,7 @@ use Rattle.form.specs.declared.Verdict.the-variants.{Accepted, Refused}
 use Rattle.ledger.specs.Derived.{stocksOf, conversionOf}
 use Rattle.ledger.specs.declared.Stocks.{Stocks}
 use Rattle.ledger.specs.declared.Conversion.{Conversion}
+use Rattle.fates.specs.Fates.{matterText}
 use Rattle.cutting.specs.declared.Stop.{Stop}
 use Rattle.cutting.specs.declared.Stop.the-variants.{Whole, Blocks, Short, Many}
 use Rattle.gathered.specs.declared.Tally.{Tally}
@@ -79,5 +80,9 @@ totalsIn t = totalsBy (t .accepted) (t .refused) (stocksOf (t .ledger)) (convers
 abbrev pub totalLine : Total → List ℕ
 totalLine x = line (x .name) (x .number)
 
+abbrev pub columnsText : Tally → List ℕ
+columnsText t = flatMap totalLine (totalsIn t)
+
+-- behind `co2` what became of the cleared biomass, of the sum of the ledgers too
 abbrev pub totalsText : Tally → List ℕ
-totalsText t = flatMap totalLine (totalsIn t)
+totalsText t = columnsText t ++ matterText (t .ledger .matter)

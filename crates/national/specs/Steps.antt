@@ -11,6 +11,7 @@ use Rattle.wide.specs.declared.signed.Signed.{Signed}
 use Rattle.ledger.specs.Several.{AtMost}
 use Rattle.ledger.specs.declared.Stocks.{Stocks}
 use Rattle.ledger.specs.declared.Conversion.{Conversion}
+use Rattle.fates.specs.Fates.{matterRoom}
 use Rattle.cutting.specs.Cutting.{mostReturns, nextAfter, cutFile}
 use Rattle.cutting.specs.declared.Stop.{Stop}
 use Rattle.cutting.specs.declared.Stop.the-variants.{Whole}
@@ -22,15 +23,18 @@ use Rattle.national.specs.declared.Run.{Run}
 use Rattle.national.specs.declared.Turn.{Turn}
 use Rattle.national.specs.Nation.{refusalBy, refusalsFrom, refusalsText}
 
--- room for a refusal's line, for a stop's, and for the totals; and room that is always enough for the whole text, with some for lines to come
+-- room for a refusal's line, for a stop's, and for the totals, columns first; and room that is always enough for the whole text, with some for lines to come
 abbrev pub lineRoom : ℕ
 lineRoom = 26
 
 abbrev pub stopRoom : ℕ
 stopRoom = 30
 
+abbrev pub columnsRoom : ℕ
+columnsRoom = 600
+
 abbrev pub totalsRoom : ℕ
-totalsRoom = 600
+totalsRoom = columnsRoom + matterRoom
 
 abbrev pub endRoom : ℕ
 endRoom = stopRoom + totalsRoom

@@ -9,10 +9,11 @@ ghost use Rattle.ledger.specs.Ledger.{Bounded};
 ghost use Rattle.cutting.specs.Cutting.{mostReturns};
 ghost use Rattle.cutting.specs.declared.Stop.the-variants.{Blocks};
 ghost use Rattle.gathered.specs.Gathered.{countOf};
-ghost use Rattle.national.specs.Lines.{refusalLine, stopLine, stopText, totalsText};
+ghost use Rattle.national.specs.Lines.{refusalLine, stopLine, stopText, columnsText, totalsText};
 ghost use Rattle.national.specs.Nation.{refusalBy, refusalsText};
-ghost use Rattle.national.specs.Steps.{stopRoom, totalsRoom, totalNumbers};
+ghost use Rattle.national.specs.Steps.{stopRoom, columnsRoom, totalsRoom, totalNumbers};
 use cutting::Stop;
+use fates::put_matter;
 use form::Verdict;
 use gathered::Tally;
 use ledger::Conversion;
@@ -132,10 +133,10 @@ fn list_totals(accepted: u32, refused: u32, s: Stocks, c: Conversion) -> [u64; 3
     ]
 }
 
-// The counts, and the figures of the ledger.
-pub fn put_totals(t: Tally, out: &mut [u8], at: usize) -> usize
-    requires { ⌜ (countOf t ≤ mostReturns) × Bounded (t .ledger) × (at + totalsRoom ≤ length (now out)) ⌝ }
-    ensures { λ r. ⌜ WrittenIn totalsRoom (totalsText t) (now (out .entry)) (now (out .exit)) at r ⌝ }
+// The counts, and the columns of the ledger.
+fn put_columns(t: Tally, out: &mut [u8], at: usize) -> usize
+    requires { ⌜ (countOf t ≤ mostReturns) × Bounded (t .ledger) × (at + columnsRoom ≤ length (now out)) ⌝ }
+    ensures { λ r. ⌜ WrittenIn columnsRoom (columnsText t) (now (out .entry)) (now (out .exit)) at r ⌝ }
 {
     let g = t.ledger;
     let numbers = list_totals(t.accepted, t.refused, work_stocks(g), work_conversion(g));
@@ -145,4 +146,13 @@ pub fn put_totals(t: Tally, out: &mut [u8], at: usize) -> usize
         out,
         at,
     )
+}
+
+// And behind them what became of the cleared biomass.
+pub fn put_totals(t: Tally, out: &mut [u8], at: usize) -> usize
+    requires { ⌜ (countOf t ≤ mostReturns) × Bounded (t .ledger) × (at + totalsRoom ≤ length (now out)) ⌝ }
+    ensures { λ r. ⌜ WrittenIn totalsRoom (totalsText t) (now (out .entry)) (now (out .exit)) at r ⌝ }
+{
+    let next = put_columns(t, out, at);
+    put_matter(t.ledger.matter, out, next)
 }

@@ -17,6 +17,7 @@ use Rattle.form.specs.declared.Ruling.{Ruling}
 use Rattle.form.specs.declared.Ruling.the-variants.{Clean, Broken}
 use Rattle.form.specs.declared.Verdict.the-variants as verdict
 use Rattle.totals.specs.Columns.{onsitePart, offsitePart, decayPart}
+use Rattle.matter.specs.Matter.{matterOf}
 use Rattle.heaviest.specs.Heaviest.{heaviestOf}
 use Rattle.heaviest.specs.Largest.{Weighs}
 use Rattle.standing.proofs.Accepted.{formed}
@@ -24,6 +25,7 @@ use Rattle.heaviest.proofs.Largest.{onsite-weighs, offsite-weighs, decay-weighs
 use Rattle.phrases.specs.Lines.{refusedLine, linesText}
 use Rattle.phrases.specs.Room.{putOf, textAfter}
 use Rattle.phrases.specs.declared.Put.the-variants.{Done}
+use Rattle.fates.specs.Fates.{matterLines}
 use Rattle.areas.specs.Place.{FirstOfLowest}
 use Rattle.reasons.specs.Reasons.{refusalOf, rowNamed, reasonOf}
 use Rattle.reasons.specs.Explains.{Explains}
@@ -60,7 +62,7 @@ never-fourth s b h e = fourth-never s b h e
 
 -- of an accepted return, the three rows: "the row with the largest exact part, the lower id on a tie, 'none' where the subtotal is zero"
 pub record ThreeRows (s : List ℕ) : Type 0 where
-  pub named : explanationOf s ≡ Accepted (heaviestOf s)
+  pub named : explanationOf s ≡ Accepted (heaviestOf s) (matterOf (rows 1 s))
   pub onsite-row : Weighs s onsitePart (heaviestOf s .onsite)
   pub offsite-row : Weighs s offsitePart (heaviestOf s .offsite)
   pub decay-row : Weighs s decayPart (heaviestOf s .decay)
@@ -90,8 +92,8 @@ explained-refusal s n p e = record {
 pub accepted-unexplained : (s : List ℕ) (c : Counts) → verdictOf s ≡ verdict.Accepted c → (r : Reason) → Explains s r → ⊥
 accepted-unexplained s c e r w = unexplained s e w
 
--- or the lines of the three rows
-pub explained-heaviest : (s : List ℕ) (c : Counts) → verdictOf s ≡ verdict.Accepted c → explained s ≡ linesText (weightsLines (heaviestOf s))
+-- or the lines of the three rows, and behind them those of what became of the cleared biomass (Matter)
+pub explained-heaviest : (s : List ℕ) (c : Counts) → verdictOf s ≡ verdict.Accepted c → explained s ≡ linesText (weightsLines (heaviestOf s) ++ matterLines (matterOf (rows 1 s)))
 explained-heaviest s c e = ap explainedText (accepted-explained s e)
 
 -- where 12 is given, it is at place 0, L is above 100 K, and behind `refused 12 0` the text has the two lines of these and no other

@@ -15,6 +15,7 @@
 --     Explained   why a return was refused: the refusal's number and place by the order, and the values that clash there
 --     Cleared     a return that clears no less than another has no subtotal that is lower, exactly or as a double
 --     National    the returns of a file add up to the national line, in any order; where a run stops, and what it prints then
+--     Matter      where every tonne of the cleared biomass went: five totals that together are all of it, of a row, a return and a nation
 --     ShutOut     wrong answers that the contracts refuse
 -- These pages speak of the definitions. That whatever meets an entry point's contract is the answer they speak of, that each contract admits one answer and asks
 -- nothing of its caller, and that each entry point meets its contract, is the crate `contracts`.
@@ -35,4 +36,5 @@ pub mod Heaviest
 pub mod Explained
 pub mod Cleared
 pub mod National
+pub mod Matter
 pub mod ShutOut

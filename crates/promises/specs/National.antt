@@ -1,5 +1,5 @@
 -- §10: "A program reads a file of returns end to end, up to 500, .. and prints exact national totals of E, K, L, M, P, on-site, off-site and decay carbon, with Q, the report
--- and co2 rounded once from them." The answer is `nationOf` of the bytes of the file, and what is printed `printedNation` (national/specs): of every file there is one.
+-- and co2 rounded once from them." (What §13 adds is in Matter.) The answer is `nationOf` of the bytes of the file, and what is printed `printedNation` (national/specs): of every file there is one.
 use Prim.Native.Nat.{ℕ, suc, _+_, _*_, _^_, _<_, _≤_}
 use mathlib.Core.Path.{_≡_, sym, ap, subst, _∙_}
 use mathlib.Core.List.{List, [], _∷_, _++_, map, Perm}
@@ -99,7 +99,7 @@ accepted-alone = order.accepted-alone
 
 -- one return by itself has the figures of its sheets
 pub one-return-figures : (r : List ℕ) {c : Counts} → Pieces (r ∷ []) → verdictOf r ≡ Accepted c
-    → let g = nationOf r .tally .ledger in (stocksOf g ≡ figuresOf (byKind r) .stocks) × (conversionOf g ≡ figuresOf (byKind r) .conversion)
+    → let g = nationOf r .tally .ledger in let f = figuresOf (byKind r) in (stocksOf g ≡ f .stocks) × (conversionOf g ≡ f .conversion) × (g .matter ≡ f .matter)
 unfolding Pieces
 one-return-figures r p e = order.one-return-figures r (p .0) e
 

@@ -1,2 +1,3 @@
 mod Filled
 mod Short
+pub mod Ending

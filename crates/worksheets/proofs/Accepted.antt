@@ -24,6 +24,7 @@ use Rattle.totals.specs.Masses.{dryMatter}
 use Rattle.totals.specs.Sums.{totalsOf}
 use Rattle.totals.proofs.Accepted.{columns-small}
 use Rattle.units.specs.Columns.{columnM}
+use Rattle.matter.proofs.Sizes.{most-le, return-most}
 use Rattle.ledger.specs.Ledger.{entered, ledgerOf, Bounded}
 use Rattle.ledger.proofs.Sizes.{size-M, size-O}
 use Rattle.worksheets.specs.Sheets.{Within, Rows, byKind, given, figuresOf}
@@ -52,6 +53,7 @@ module _ (s : List ℕ) (c : Counts) (acc : Formed s c) where
         onsite = omega (arith, w .3, value-words (onsiteTotal (rows 1 s)) .number);
         offsite = omega (arith, w .4, value-words (offsiteTotal (rows 1 s)) .number);
         decay = omega (arith, w .5, value-words (decayTotal (rows 1 s)) .number);
+        matter = most-le (return-most s c acc) (lit≤ tt);
       }
 
 outcome-told : (o : Outcome) → said (answered o) ≡ o

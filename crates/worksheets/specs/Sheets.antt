@@ -1,4 +1,4 @@
--- The figures of a return, sheet by sheet, from its rows: 5-1 and 5-2 from the crate ledger, 4-3 from savannas, 5-5 from soils, 5-3 and 5-4 here, in the unit of 01's "Worksheet rules".
+-- The figures of a return, sheet by sheet, from its rows: 5-1, 5-2 and where the cleared biomass went from the crate ledger, 4-3 from savannas, 5-5 from soils, 5-3 and 5-4 here, in the unit of 01's "Worksheet rules".
 use Prim.Native.Nat.{ℕ, _≤_}
 use mathlib.Core.List.{List, [], _∷_}
 use lib.ListN.{getD}
@@ -81,4 +81,5 @@ figuresOf by =
       savannas = savannasOf (by 6);
       soils = soilsOf (by 7);
       scattered = stockRows (scatteredIn (by 2));
+      matter = g .matter;
     }

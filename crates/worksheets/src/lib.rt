@@ -1,4 +1,4 @@
-// Worksheets 5-1 to 5-5 and 4-3: the figures of a return, or its refusal.
+// Worksheets 5-1 to 5-5 and 4-3, and where the cleared biomass went: the figures of a return, or its refusal.
 pub mod sheets;
 
 ghost use mathlib.Core.Path.{_≡_};
@@ -18,6 +18,7 @@ use held::Checked;
 use ledger::enter;
 use ledger::work_conversion;
 use ledger::work_stocks;
+use matter::work_matter;
 use savannas::work_savannas;
 use soils::work_soils;
 use sums::sum_abandoned;
@@ -32,7 +33,13 @@ pub fn work_out(bytes: &[u8], c: Counts) -> Figures
 {
     let p = read_parameters(bytes, c);
     let t = sum_conversion(bytes, c);
-    let g = enter(sum_stocks(bytes, c), sum_harvest(bytes, c), t, p.n);
+    let g = enter(
+        sum_stocks(bytes, c),
+        sum_harvest(bytes, c),
+        t,
+        work_matter(bytes, c),
+        p.n,
+    );
     let stocks = work_stocks(g);
     let conversion = work_conversion(g);
     let thinner = t.thinner;
@@ -41,6 +48,7 @@ pub fn work_out(bytes: &[u8], c: Counts) -> Figures
     let savannas = work_savannas(bytes, c);
     let soils = work_soils(bytes, c);
     let scattered = scattered_rows(c);
+    let matter = g.matter;
     Figures {
         stocks,
         conversion,
@@ -50,6 +58,7 @@ pub fn work_out(bytes: &[u8], c: Counts) -> Figures
         savannas,
         soils,
         scattered,
+        matter,
     }
 }
 

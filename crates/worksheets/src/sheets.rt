@@ -17,6 +17,7 @@ use form::row_start;
 use form::two_at;
 use ledger::Conversion;
 use ledger::Stocks;
+use matter::Matter;
 use savannas::Savannas;
 use soils::Soils;
 use totals::Carbon;
@@ -135,6 +136,7 @@ pub struct Figures {
     pub savannas: Savannas,
     pub soils: Soils,
     pub scattered: StockRows,
+    pub matter: Matter,
 }
 
 // The figures, or a refusal's number and place.

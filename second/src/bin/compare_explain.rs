@@ -22,12 +22,14 @@ mod run {
     use second::explain::{text, EXPLAIN_ROOM};
     use second::ffi::explain::{first_explain, first_heaviest};
     use second::heaviest::{heaviest, HEAVIEST_ROOM};
+    use second::input::Input;
     use second::inputs;
     use second::judge::judge;
     use second::lent::{Lent, Placed};
     use second::reasons::Reasons;
     use second::rng::Rng;
     use second::text::Text;
+    use second::whereabouts::{cleared, missing_in};
     use std::process::ExitCode;
 
     const GUARD: usize = 24;
@@ -157,10 +159,15 @@ mod run {
         let expected = due.put_into(&mut room_due[..lent]);
         let mut room = before;
         let answer = first_explain(bytes, Lent::front(&mut room, lent));
+        let text = String::from_utf8_lossy(&room[..answer.min(lent)]);
+        let accepted = answer > 0 && !text.starts_with("refused");
         let difference = first_of([
             (answer != expected).then_some("another length".to_string()),
             memory_difference("the room", &room, &room_due),
             memory_difference("the input itself", bytes, &case.bytes),
+            accepted
+                .then(|| missing_in(&text, cleared(&case.lists())))
+                .flatten(),
         ])?;
         let shown = |text: &[u8]| text.escape_ascii().to_string().replace("\\n", "\n");
         Some(format!(

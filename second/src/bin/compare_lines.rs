@@ -21,15 +21,20 @@ mod run {
     use second::drive::{exit, first_of, memory_difference, run, Arguments, Outcome, Plan};
     use second::ffi::lines::{first_figures, first_lines};
     use second::halves::Halves;
+    use second::input::Input;
     use second::inputs;
     use second::judge::judge;
     use second::lent::{Lent, Placed};
+    use second::matter::NAMES;
     use second::rng::Rng;
     use second::sheets::{figures, lines, NUMBERS};
     use second::text::LINES_ROOM;
+    use second::whereabouts::{cleared, missing, missing_in};
     use std::process::ExitCode;
 
     const GUARD: usize = 24;
+    /// Where the totals of dry matter begin among the figures.
+    const MATTER_AT: usize = 28;
     /// More than is always enough.
     const MOST_LENT: usize = LINES_ROOM + 50;
     const MEMORY: usize = MOST_LENT + GUARD;
@@ -117,9 +122,18 @@ mod run {
                 (answer != expected).then(|| format!("answer {answer}, due {expected}")),
                 memory_difference("the room", &room, &due),
                 memory_difference("the input itself", bytes, &case.bytes),
+                (answer == 0).then(|| lost(case, &room)).flatten(),
             ])?;
             Some(format!("figures: {difference}; room of {lent}"))
         }))
+    }
+
+    /// Whether the first program's five totals of dry matter come to what is cleared.
+    fn lost(case: &Case, room: &[u64]) -> Option<String> {
+        let figures = room[..NUMBERS].chunks(3).skip(MATTER_AT);
+        let five = figures.take(NAMES.len());
+        let wide = |figure: &[u64]| u128::from(figure[1]) << 64 | u128::from(figure[2]);
+        missing(five.map(wide), cleared(&case.lists()))
     }
 
     /// The text in a room, with the answer and the memory that are due.
@@ -131,10 +145,15 @@ mod run {
     ) -> Option<String> {
         let mut room = before;
         let answer = first_lines(bytes, Lent::front(&mut room, lent));
+        let text = String::from_utf8_lossy(&room[..answer.min(lent)]);
+        let figures = answer > 0 && !text.starts_with("refused");
         let difference = first_of([
             (answer != expected).then_some("another length".to_string()),
             memory_difference("the room", &room, due),
             memory_difference("the input itself", bytes, &case.bytes),
+            figures
+                .then(|| missing_in(&text, cleared(&case.lists())))
+                .flatten(),
         ])?;
         // Line feeds as they are, anything else that isn't text by its code.
         let shown = |room: &[u8], length: usize| {

@@ -20,10 +20,12 @@ mod run {
     use second::drive::{exit, first_of, memory_difference, Arguments};
     use second::ffi::nation::first_nation;
     use second::lent::{Lent, Placed};
+    use second::lists::rows_of;
     use second::nation::{Nation, Stop, MOST_RETURNS, NATION_ROOM};
     use second::nations::{crowd, few, shuffle, End, File};
     use second::program::Program;
     use second::rng::Rng;
+    use second::whereabouts::{cleared, missing_in};
     use std::process::ExitCode;
     use std::time::Instant;
 
@@ -220,9 +222,10 @@ mod run {
         if other > 0 {
             rooms.push((other, lent));
         }
+        let cleared = cleared_in(file, &due);
         let from_c = first_of(rooms.into_iter().map(|(room, lent)| {
             tally.coverage.count(tally.rooms, room);
-            ask(&bytes, &text, lent, rng)
+            ask(&bytes, (&text, cleared), lent, rng)
         }));
         let difference = from_c.or_else(|| in_another_order(file, &text, rng, tally));
         let (counted, of_program) = (&mut tally.coverage, tally.stops_of_program);
@@ -232,6 +235,15 @@ mod run {
         }
         counted.count(of_program, sort);
         ask_program(program, &bytes, &text, rng.one_in(8))
+    }
+
+    /// What the accepted returns of a file clear, where its returns are those that are cut.
+    fn cleared_in(file: &File, due: &Nation) -> Option<u128> {
+        let refused = |position: usize| due.refused.iter().any(|&(at, _)| at == position);
+        let returns = file.returns.iter().zip(1..);
+        let accepted = returns.filter(|&(_, position)| !refused(position));
+        let cleared = accepted.map(|(bytes, _)| cleared(&rows_of(bytes)));
+        (file.end != End::Lost).then(|| cleared.sum())
     }
 
     /// A whole file's returns in another order: the text that the second program has for
@@ -262,7 +274,12 @@ mod run {
     }
 
     /// The text in a room of this length, with all of our memory looked at afterwards.
-    fn ask(bytes: &[u8], text: &str, lent: usize, rng: &mut Rng) -> Option<String> {
+    fn ask(
+        bytes: &[u8],
+        (text, cleared): (&str, Option<u128>),
+        lent: usize,
+        rng: &mut Rng,
+    ) -> Option<String> {
         let placed = Placed::new(bytes, rng);
         let mut before = vec![0; lent + GUARD];
         rng.fill(&mut before);
@@ -274,10 +291,15 @@ mod run {
         let expected = if fits { text.len() } else { 0 };
         let mut room = before;
         let answer = first_nation(placed.bytes(), Lent::front(&mut room, lent));
+        let found = String::from_utf8_lossy(&room[..answer.min(lent)]);
+        let lost = cleared
+            .filter(|_| answer > 0)
+            .and_then(|cleared| missing_in(&found, cleared));
         let difference = first_of([
             (answer != expected).then(|| format!("length {answer}, due {expected}")),
             memory_difference("the room", &room, &room_due),
             memory_difference("the file itself", placed.bytes(), bytes),
+            lost,
         ])?;
         let found = room[..answer.min(lent)].escape_ascii().to_string();
         let found = found.replace("\\n", "\n");

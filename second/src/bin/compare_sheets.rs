@@ -11,6 +11,7 @@ use second::coverage::{Coverage, Due};
 use second::drive::{exit, memory_difference, run, Arguments, Outcome, Plan};
 use second::explain::text as explain_text;
 use second::halves::Halves;
+use second::input::Input;
 use second::inputs;
 use second::judge::judge;
 use second::kinds::RETURN_ROOM;
@@ -19,6 +20,7 @@ use second::program::Program;
 use second::rng::Rng;
 use second::sheets::text as sheets_text;
 use second::text::Text;
+use second::whereabouts::{cleared, missing_in};
 use second::{mix, request};
 use std::process::ExitCode;
 
@@ -123,13 +125,23 @@ fn try_one(program: &Program, case: &Case, rng: &mut Rng, text: fn(&[u8]) -> Tex
     let due = text(taken);
     let difference = match program.output(&case.bytes, rng.one_in(8)) {
         Err(error) => Some(error),
-        Ok(found) => memory_difference("the output", &found, due.as_bytes()).map(|text| {
-            let [found, due] = [&found[..], due.as_bytes()].map(String::from_utf8_lossy);
-            format!("{text}\nfirst program:\n{found}second program:\n{due}")
-        }),
+        Ok(found) => memory_difference("the output", &found, due.as_bytes())
+            .map(|text| {
+                let [found, due] = [&found[..], due.as_bytes()].map(String::from_utf8_lossy);
+                format!("{text}\nfirst program:\n{found}second program:\n{due}")
+            })
+            .or_else(|| lost(case, &String::from_utf8_lossy(&found))),
     };
     Outcome {
         answer: judge(taken).answer(),
         difference,
+    }
+}
+
+/// Whether the five totals of dry matter come to what is cleared, where there are figures.
+fn lost(case: &Case, found: &str) -> Option<String> {
+    match found.starts_with("refused") {
+        true => None,
+        false => missing_in(found, cleared(&case.lists())),
     }
 }

@@ -15,6 +15,10 @@ fn text_of(bytes: &[u8]) -> String {
     String::from_utf8(text(bytes).as_bytes().to_vec()).expect("the text is ASCII")
 }
 
+/// Of a return without conversion rows.
+const NONE: &str = "heaviest_onsite none\nheaviest_offsite none\nheaviest_decay none\n\
+    oxidised_onsite 0\ncharcoal_onsite 0\noxidised_offsite 0\ncharcoal_offsite 0\nunburned 0\n";
+
 fn explained(hand: Hand) -> String {
     text_of(&hand.checked())
 }
@@ -23,7 +27,9 @@ fn explained(hand: Hand) -> String {
 fn the_worked_day() {
     let due = "heaviest_onsite 7\nheaviest_onsite_part 32400000000000\n\
         heaviest_offsite 7\nheaviest_offsite_part 16200000000000\n\
-        heaviest_decay 7\nheaviest_decay_part 40500000000000\n";
+        heaviest_decay 7\nheaviest_decay_part 40500000000000\n\
+        oxidised_onsite 64800000000\ncharcoal_onsite 7200000000\n\
+        oxidised_offsite 32400000000\ncharcoal_offsite 3600000000\nunburned 72000000000\n";
     assert_eq!(text_of(&worked_day().to_bytes()), due);
 }
 
@@ -31,8 +37,7 @@ fn the_worked_day() {
 #[test]
 fn the_papers_cases() {
     let mut bytes = Hand::new(&[(4, 1)]).checked();
-    let none = "heaviest_onsite none\nheaviest_offsite none\nheaviest_decay none\n";
-    assert_eq!(text_of(&bytes), none);
+    assert_eq!(text_of(&bytes), NONE);
     assert_eq!(text_of(&bytes[..511]), "refused 1 0\nlength 511\n");
     bytes[508] = 17;
     assert_eq!(text_of(&bytes), "refused 2 0\nstored 17\ncomputed 18\n");
@@ -96,7 +101,7 @@ fn headers() {
 #[test]
 fn rooms() {
     let bytes = Hand::new(&[(4, 1)]).checked();
-    let due = b"heaviest_onsite none\nheaviest_offsite none\nheaviest_decay none\n";
+    let due = NONE.as_bytes();
     for lent in [0, 1, due.len() - 1, due.len(), due.len() + 1, EXPLAIN_ROOM] {
         let mut room = vec![0xAA; lent];
         let fits = lent >= due.len();

@@ -36,8 +36,10 @@ impl Rows {
         }
         // What else is asked of a kind, or wanted.
         let thinner = rng.pick(&THINNER);
+        let burned = rng.pick(&BURNED);
         for row in &mut rows.conversion {
             good_conversion(rng, row, thinner);
+            burned.iter().for_each(|&style| burn(rng, row, style));
         }
         style_stock(rng, edition, &mut rows.stock);
         style_savannas(rng, &mut rows.savanna);
@@ -146,6 +148,35 @@ fn any_count(rng: &mut Rng) -> usize {
 /// In which periods some of a return's rows have more after than before: in
 /// neither, in one alone, or in both.
 const THINNER: [[bool; 2]; 4] = [[false, false], [true, false], [false, true], [true, true]];
+
+/// In which of the five ways all dry matter of a return goes (02, §13), where it is one:
+/// the share that burns, and what is oxidised of it.
+type Style = Option<(usize, u32)>;
+const BURNED: [Option<Style>; 16] = {
+    let mut styles = [None; 16];
+    styles[0] = Some(Some((0, 1_000)));
+    styles[1] = Some(Some((0, 0)));
+    styles[2] = Some(Some((1, 1_000)));
+    styles[3] = Some(Some((1, 0)));
+    styles[4] = Some(None);
+    styles
+};
+
+/// All of a row burns in this way, or none of it.
+fn burn(rng: &mut Rng, row: &mut [u32; 15], style: Style) {
+    SUMMED[..2].iter().for_each(|&at| row[at] = 0);
+    if let Some((share, oxidised)) = style {
+        SUMMED.iter().for_each(|&at| row[at] = 0);
+        row[SUMMED[share]] = 1_000;
+        row[SUMMED[share] + 1] = oxidised;
+    }
+    // Something to burn, mostly.
+    if !rng.one_in(4) {
+        row[1] = row[1].max(1);
+        row[BEFORE[0]] = row[BEFORE[0]].max(1);
+        row[AFTER[0]] = row[AFTER[0]].min(row[BEFORE[0]] - 1);
+    }
+}
 
 /// Periods that are thinner or not, and fractions that hold.
 fn good_conversion(rng: &mut Rng, row: &mut [u32; 15], thinner: [bool; 2]) {

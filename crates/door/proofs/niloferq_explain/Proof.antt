@@ -22,7 +22,7 @@ returns c =
     let t = c .before .before .before in
     let a = t .before .before .before .before .args in (
       c .size-of .ensures ∙ ap sizeOf (t .explain-lines .ensures .0),
-      t .explain-lines .ensures .1 ∙ ap (textAfter (explained (now (a .bytes))) (now (a .room))) (t .explain-lines .ensures .0),
+      (t .explain-lines .ensures .1 .0 ∙ ap (textAfter (explained (now (a .bytes))) (now (a .room))) (t .explain-lines .ensures .0), t .explain-lines .ensures .1 .1),
     )
 
 pub niloferq-explain-spec : {M : Type 1} → statement M

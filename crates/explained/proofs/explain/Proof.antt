@@ -17,6 +17,9 @@ enum-known-c c = search needs
 weigh-rows-requires : tie.Need-weigh-rows-requires
 weigh-rows-requires c κs = formed _ _ (sym (c .before .before .before .judge .ensures) ∙ c .before .c .given .1)
 
+work-matter-requires : tie.Need-work-matter-requires
+work-matter-requires c κs = let k = c .before .before in formed _ _ (sym (k .before .before .judge .ensures) ∙ k .c .given .1)
+
 enum-known-number : tie.Need-enum-known-number
 enum-known-number c = search needs
 
@@ -25,9 +28,10 @@ reason-of-requires c κs = sym (c .before .before .before .judge .ensures) ∙ c
 
 returns : tie.Need-returns
 returns c =
-    let k = c .before .before in
+    let w = c .before in
+    let k = w .before .before in
     let j = k .before .before in
-    ap Accepted (c .weigh-rows .ensures) ∙ sym (accepted-explained (now (j .before .before .args .bytes)) (sym (j .judge .ensures) ∙ k .c .given .1))
+    (λ i. Accepted (w .weigh-rows .ensures i) (c .work-matter .ensures i)) ∙ sym (accepted-explained (now (j .before .before .args .bytes)) (sym (j .judge .ensures) ∙ k .c .given .1))
 
 returns-2 : tie.Need-returns-2
 returns-2 c =
@@ -42,6 +46,7 @@ explain-spec =
     judge-requires
     enum-known-c
     weigh-rows-requires
+    work-matter-requires
     enum-known-number
     reason-of-requires
     returns

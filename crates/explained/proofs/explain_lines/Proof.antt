@@ -1,7 +1,9 @@
 -- The text straight in the lent room, or first in room of our own: each is enough for any text. Assumes nothing.
+use Prim.Native.Nat.{_≤_}
 use denote.Ref.{now}
+use lib.ListN.{length}
 use Rattle.phrases.proofs.Room.{straight-out, elsewhere-out}
-use Rattle.explained.specs.Explained.{explained}
+use Rattle.explained.specs.Explained.{explained, explainRoom}
 use native.Mathlib.Omega.{arith}
 use borrow.Author.Needs.{needs}
 use Rattle.explained.proofs.explain_lines.Statement.{statement}
@@ -18,7 +20,10 @@ returns c =
     let w = c .before .before in
     let i = w .before .before in
     let a = i .before .before .before .args in
-    straight-out (explained (now (a .bytes))) (now (a .room)) _ _ (w .write-text .ensures .0) (omega (arith, i .if1 .taken, w .write-text .ensures .0 .place, w .write-text .ensures .1))
+    let v = w .write-text .ensures in
+    let fits : length (explained (now (a .bytes))) ≤ explainRoom = omega (arith, v .0 .place, v .1) in
+    let p = straight-out (explained (now (a .bytes))) (now (a .room)) _ _ (v .0) (omega (arith, i .if1 .taken, fits)) in
+    (p .0, (p .1, fits))
 
 slice-aggregate-write-text : tie.Need-slice-aggregate-write-text
 slice-aggregate-write-text c = search needs
@@ -40,7 +45,10 @@ returns-2 c =
     let p = c .before .before in
     let w = p .before .before .before .before in
     let a = w .before .before .before .before .before .args in
-    elsewhere-out (explained (now (a .bytes))) _ _ (now (a .room)) _ _ _ (w .write-text2 .ensures .0) (omega (arith, w .write-text2 .ensures .1)) (p .put-short .ensures)
+    let v = w .write-text2 .ensures in
+    let fits : length (explained (now (a .bytes))) ≤ explainRoom = omega (arith, v .0 .place, v .1) in
+    let q = elsewhere-out (explained (now (a .bytes))) _ _ (now (a .room)) _ _ _ (v .0) (omega (arith, v .1)) (p .put-short .ensures) in
+    (q .0, (q .1, fits))
 
 pub explain-lines-spec : {M : Type 1} → statement M
 explain-lines-spec =

@@ -1,6 +1,6 @@
 -- `gathered::ledger_in` meets its contract. Assumes nothing.
 use Prim.Native.Nat.{_^_, _<_}
-use mathlib.Core.Path.{sym, subst, _∙_}
+use mathlib.Core.Path.{sym, subst}
 use denote.Ref.{now}
 use Rattle.form.specs.Verdict.{Formed}
 use Rattle.standing.proofs.Accepted.{formed}
@@ -9,6 +9,7 @@ use Rattle.totals.specs.Sums.{totalsOf}
 use Rattle.totals.specs.declared.DryMatter.{DryMatter}
 use Rattle.totals.specs.declared.Totals.{Totals}
 use Rattle.ledger.specs.Ledger.{entered}
+use Rattle.ledger.proofs.Adding.{entered-as}
 use Rattle.worksheets.specs.Sheets.{Within}
 use Rattle.worksheets.proofs.Accepted.{ratios, bounded}
 use Rattle.gathered.proofs.ledger_in.Statement.{statement}
@@ -29,22 +30,27 @@ sum-stocks-requires c κs = acc (c .before .before .before)
 sum-harvest-requires : tie.Need-sum-harvest-requires
 sum-harvest-requires c κs = acc (c .before .before .before .before)
 
+work-matter-requires : tie.Need-work-matter-requires
+work-matter-requires c κs = acc (c .before .before .before .before .before)
+
 enter-requires : tie.Need-enter-requires
 unfolding entered totalsOf
 enter-requires c κs =
-    let t = c .before .before in
+    let h = c .before in
+    let t = h .before .before in
     let s = t .before .before .before in
     let n = now (s .args .bytes) in
     let w = bounded n (s .args .c) (acc s) in
     let r = subst Within (sym (t .before .read-parameters .ensures)) (ratios n (s .args .c) (acc s)) in
-    (subst (λ (x : DryMatter). value (x .0) < 2 ^ 64) (sym (c .sum-harvest .ensures)) (w .k), subst (λ (x : Totals). value (x .cleared .0) < 2 ^ 64) (sym (t .sum-conversion .ensures)) (w .l), r .n)
+    (subst (λ (x : DryMatter). value (x .0) < 2 ^ 64) (sym (h .sum-harvest .ensures)) (w .k), subst (λ (x : Totals). value (x .cleared .0) < 2 ^ 64) (sym (t .sum-conversion .ensures)) (w .l), r .n)
 
 returns : tie.Need-returns
 returns c =
-    let h = c .before in
+    let m = c .before in
+    let h = m .before in
     let e = h .before in
     let t = e .before in
-    c .enter .ensures ∙ (λ i. entered (e .sum-stocks .ensures i) (h .sum-harvest .ensures i) (t .sum-conversion .ensures i) (t .before .read-parameters .ensures i .n))
+    entered-as (c .enter .ensures) (e .sum-stocks .ensures) (h .sum-harvest .ensures) (t .sum-conversion .ensures) (m .work-matter .ensures) (λ i. t .before .read-parameters .ensures i .n)
 
 pub ledger-in-spec : {M : Type 1} → statement M
 ledger-in-spec =
@@ -54,5 +60,6 @@ ledger-in-spec =
     sum-conversion-requires
     sum-stocks-requires
     sum-harvest-requires
+    work-matter-requires
     enter-requires
     returns)

@@ -29,7 +29,7 @@ add-ledgers-requires c κs =
     (at-most-addable (s .pre .0 .ledger) (omega (arith, s .pre .0 .count)), g)
 
 add-t9 : tie.Need-add-t9
-add-t9 c = search needs
+add-t9 c = let h = c .before .before .before .before .before .before .before .pre .0 .count in search needs
 
 enum-told : tie.Need-enum-told
 enum-told c = search needs

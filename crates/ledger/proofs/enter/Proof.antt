@@ -28,7 +28,7 @@ returns c =
     let s = w .before .before .before .before .before in
     let a = s .args in
     let o = c .carbon-in .ensures ∙ ap (λ (m : NetDryMatter). columnO m (a .n)) (w .net-wood .ensures) in
-    λ i. record { e = a .e; k = a .k; l = a .t .cleared; o = o i; onsite = a .t .onsite; offsite = a .t .offsite; decay = a .t .decay }
+    λ i. record { e = a .e; k = a .k; l = a .t .cleared; o = o i; onsite = a .t .onsite; offsite = a .t .offsite; decay = a .t .decay; matter = a .matter }
 
 pub enter-spec : {M : Type 1} → statement M
 enter-spec = tie.close (tie.spec net-wood-requires carbon-in-requires returns)

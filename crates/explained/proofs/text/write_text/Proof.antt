@@ -1,12 +1,18 @@
--- By the judge's verdict: the heaviest rows, or the refusal's line and the values. Assumes nothing.
-use mathlib.Core.Path.{_≡_, sym, ap, _∙_}
+-- By the judge's verdict: the heaviest rows and the five masses, or the refusal's line and the values. Assumes nothing.
+use Prim.Native.Nat.{_^_}
+use mathlib.Core.Path.{_≡_, sym, ap, ap₂, subst, _∙_}
 use mathlib.Core.List.{_++_}
 use denote.Ref.{now}
+use lib.Dec.{lit≤}
 use Rattle.standing.proofs.Accepted.{formed}
 use Rattle.form.specs.Verdict.{verdictOf}
 use Rattle.form.specs.declared.Verdict.the-variants.{Accepted, Refused}
 use Rattle.decimal.proofs.DigitLaws.{written-more}
 use Rattle.heaviest.specs.declared.Weights.{Weights}
+use Rattle.matter.specs.Matter.{MatterMost}
+use Rattle.matter.specs.declared.Matter.{Matter}
+use Rattle.matter.proofs.Sizes.{most-le, return-most}
+use Rattle.fates.specs.Fates.{matterLines}
 use Rattle.phrases.specs.Lines.{refusedLine, linesText}
 use Rattle.reasons.specs.declared.Reason.{Reason}
 use Rattle.wording.specs.Wording.{valueLines}
@@ -27,8 +33,17 @@ enum-known-c c = search needs
 weigh-rows-requires : tie.Need-weigh-rows-requires
 weigh-rows-requires c κs = formed _ _ (sym (c .before .before .before .judge .ensures) ∙ c .before .c .given .1)
 
-put-weights-requires : tie.Need-put-weights-requires
-put-weights-requires c κs = search needs
+work-matter-requires : tie.Need-work-matter-requires
+work-matter-requires c κs = let k = c .before .before in formed _ _ (sym (k .before .before .judge .ensures) ∙ k .c .given .1)
+
+put-accepted-requires : tie.Need-put-accepted-requires
+put-accepted-requires c κs =
+    let m = c .before in
+    let k = m .before .before .before in
+    let j = k .before .before in
+    let s = j .before .before .before in
+    let f = formed (now (s .args .bytes)) _ (sym (j .judge .ensures) ∙ k .c .given .1) in
+    (subst (MatterMost (2 ^ 80)) (sym (m .work-matter .ensures)) (most-le (return-most (now (s .args .bytes)) _ f) (lit≤ tt)), omega (arith, s .pre))
 
 enum-known-number : tie.Need-enum-known-number
 enum-known-number c = search needs
@@ -57,12 +72,14 @@ same-length c = search needs
 returns : tie.Need-returns
 returns c =
     let w = c .before .before in
-    let h = w .before .before in
+    let m = w .before .before in
+    let h = m .before in
     let k = h .before .before in
     let j = k .before .before in
     let s = j .before .before .before in
     let e : verdictOf (now (s .args .bytes)) ≡ Accepted (k .c .given .0 .0) = sym (j .judge .ensures) ∙ k .c .given .1 in
-    (as-text (ap (λ (x : Weights). linesText (weightsLines x)) (h .weigh-rows .ensures) ∙ sym (ap explainedText (accepted-explained (now (s .args .bytes)) e))) (w .put-weights .ensures .0), w .put-weights .ensures .1)
+    let t = ap₂ (λ (x : Weights) (y : Matter). linesText (weightsLines x ++ matterLines y)) (h .weigh-rows .ensures) (m .work-matter .ensures) in
+    (as-text (t ∙ sym (ap explainedText (accepted-explained (now (s .args .bytes)) e))) (w .put-accepted .ensures .0), w .put-accepted .ensures .1)
 
 same-length-2 : tie.Need-same-length-2
 same-length-2 c = search needs
@@ -88,7 +105,8 @@ write-text-spec =
     judge-requires
     enum-known-c
     weigh-rows-requires
-    put-weights-requires
+    work-matter-requires
+    put-accepted-requires
     enum-known-number
     put-refused-requires
     reason-of-requires

@@ -1,0 +1,2 @@
+-- Where every tonne of cleared biomass went.
+pub mod Matter
