@@ -23,12 +23,15 @@ static const uint32_t rows[] = {
     /* mineral soil: id, land system, soil type, area now and twenty years ago, native soil carbon, base, tillage and input factor */
     1, 1, 3, 4000, 5000, 600, 100, 100, 100, /* forest: 1 Mha of it, 60 t/ha, became a field, on one soil type */
     2, 2, 3, 2000, 1000, 600, 60, 90, 80,
+    /* crop residues: id, production, residue ratio, dry matter, burned and oxidised fraction, carbon fraction, N/C, CH4, CO, N2O, NOx */
+    1, 10000, 130, 850, 250, 900, 4853, 12, 5, 60, 7, 121, /* 1,000 kt of wheat, a quarter of whose straw is burned in the field */
 };
 
 /* How many elements of the area are the rows of each kind. */
 static const uint32_t lengths[NILOFERQ_KINDS] = {
     2 * NILOFERQ_CONVERSION_NUMBERS, 2 * NILOFERQ_STOCK_NUMBERS, NILOFERQ_HARVEST_NUMBERS,
-    NILOFERQ_PARAMETERS_NUMBERS,     NILOFERQ_ABANDONED_NUMBERS, NILOFERQ_SAVANNA_NUMBERS, 2 * NILOFERQ_SOIL_NUMBERS,
+    NILOFERQ_PARAMETERS_NUMBERS,     NILOFERQ_ABANDONED_NUMBERS, NILOFERQ_SAVANNA_NUMBERS,
+    2 * NILOFERQ_SOIL_NUMBERS,       NILOFERQ_CROP_NUMBERS,
 };
 
 int main(void) {

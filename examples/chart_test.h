@@ -62,15 +62,16 @@ typedef uint32_t row[FIELDS];
 
 /* What a return has besides its conversion rows that no subtotal takes: so many of the largest rows. */
 struct besides {
-    uint32_t edition, land, savanna;
+    uint32_t edition, land, savanna, crops;
 };
 
-/* From none to all rows of abandoned land and of savanna, by turns that differ; edition 1 has none. */
+/* From none to all rows of abandoned land, of savanna and of crop residues, by turns that differ; edition 1 has none. */
 static inline struct besides in_edition(uint32_t edition, unsigned long which) {
-    struct besides more = {edition, 0, 0};
+    struct besides more = {edition, 0, 0, 0};
     if (edition == 1) return more;
     more.land = (uint32_t)(which % (NILOFERQ_MOST_ROWS + 1));
     more.savanna = (uint32_t)(which / 2 % (NILOFERQ_MOST_ROWS + 1));
+    more.crops = (uint32_t)(which / 3 % (NILOFERQ_MOST_ROWS + 1));
     return more;
 }
 
@@ -89,15 +90,18 @@ static inline void make(struct bytes *r, row *rows, uint32_t n, struct besides m
     static const uint32_t harvest[NILOFERQ_HARVEST_NUMBERS] = {0, 10000000, 10000, 10000000, 10000000};
     static const uint32_t land[NILOFERQ_ABANDONED_NUMBERS] = {0, 10000000, 10000, 1000, 10000000, 10000, 1000};
     static const uint32_t grass[NILOFERQ_SAVANNA_NUMBERS] = {0, 1000000, 10000, 1000, 500, 1000, 1000, 1000, 1000, 1000, 1000, 1000, 1000, 1000};
+    static const uint32_t straw[NILOFERQ_CROP_NUMBERS] = {0, 10000000, 1000, 1000, 1000, 1000, 10000, 1000, 1000, 1000, 1000, 1000};
     static const uint32_t defaults[NILOFERQ_PARAMETERS_NUMBERS] = {500, 12, 60, 10, 7, 121};
     const uint32_t lengths[NILOFERQ_KINDS] = {n * FIELDS, 0, n * NILOFERQ_HARVEST_NUMBERS, NILOFERQ_PARAMETERS_NUMBERS,
-                                              more.land * NILOFERQ_ABANDONED_NUMBERS, more.savanna * NILOFERQ_SAVANNA_NUMBERS};
+                                              more.land * NILOFERQ_ABANDONED_NUMBERS, more.savanna * NILOFERQ_SAVANNA_NUMBERS, 0,
+                                              more.crops * NILOFERQ_CROP_NUMBERS};
     static uint32_t area[NILOFERQ_ROWS_ROOM];
     memcpy(area, rows, n * sizeof *rows);
     uint32_t *at = put_rows(area + n * FIELDS, harvest, NILOFERQ_HARVEST_NUMBERS, n);
     memcpy(at, defaults, sizeof defaults);
     at = put_rows(at + NILOFERQ_PARAMETERS_NUMBERS, land, NILOFERQ_ABANDONED_NUMBERS, more.land);
     at = put_rows(at, grass, NILOFERQ_SAVANNA_NUMBERS, more.savanna);
+    at = put_rows(at, straw, NILOFERQ_CROP_NUMBERS, more.crops);
     uint32_t size = 0;
     uint32_t answer = niloferq_write(more.edition, area, (size_t)(at - area), lengths, NILOFERQ_KINDS, r->b, sizeof r->b, &size, 1);
     must(answer == 0, "the test's own rows are good", answer);

@@ -2,7 +2,7 @@
 #include "door_test.h"
 #include <string.h>
 
-/* Limits have the id's, which is any number, in front. In a record an id and an area have four bytes, anything else two, then there are zeros. */
+/* Limits have the id's, which is any number, in front. In a record an id, an area and a production have four bytes, anything else two, then there are zeros. */
 const struct kind KINDS[NILOFERQ_KINDS + 1] = {
     [CONVERSION] = {1, NILOFERQ_CONVERSION_NUMBERS, NILOFERQ_MOST_ROWS, .row = {7, 200, 1000, 100, 400, 900, 500, 200, 900, 500, 300, 1000, 100, 300, 500}},
     [STOCK] = {1, NILOFERQ_STOCK_NUMBERS, NILOFERQ_MOST_ROWS, .row = {1, 0, 680, 1000, 500}},
@@ -17,6 +17,9 @@ const struct kind KINDS[NILOFERQ_KINDS + 1] = {
     [SOIL] = {2, NILOFERQ_SOIL_NUMBERS, NILOFERQ_MOST_ROWS, .row = {1, 258, 772, 4000, 4000, 600, 60, 90, 80},
         .limits = {UINT32_MAX, 65535, 65535, 100000, 100000, 10000, 300, 300, 300},
         .record = {1, 0, 0, 0, 2, 1, 4, 3, 0xa0, 0x0f, 0, 0, 0xa0, 0x0f, 0, 0, 0x58, 2, 60, 0, 90, 0, 80, 0}},
+    [CROP] = {2, NILOFERQ_CROP_NUMBERS, NILOFERQ_MOST_ROWS, .row = {1, 10000, 130, 850, 250, 900, 4853, 12, 5, 60, 7, 121},
+        .limits = {UINT32_MAX, 10000000, 1000, 1000, 1000, 1000, 10000, 1000, 1000, 1000, 1000, 1000},
+        .record = {1, 0, 0, 0, 0x10, 0x27, 0, 0, 130, 0, 0x52, 3, 250, 0, 0x84, 3, 0xf5, 0x12, 12, 0, 5, 0, 60, 0, 7, 0, 121, 0}},
 };
 
 void fill_shape(shape counts, uint32_t edition, uint32_t rows) {

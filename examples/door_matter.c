@@ -69,7 +69,7 @@ static void fill_clearing(struct rows *r, const struct clearing *c, uint32_t edi
 
 /* ---- wherever they are told */
 
-/* The text that a function tells of these bytes ends with the masses so many times over. */
+/* The text that a function tells of these bytes ends with the masses so many times over; the lines of a return have those of its crops behind. */
 static void must_end(size_t (*tell)(const uint8_t *, size_t, uint8_t *, size_t), const uint8_t *bytes, size_t length, const masses m, uint64_t times,
                      const char *what) {
     static uint8_t room[NILOFERQ_NATION_ROOM];
@@ -77,6 +77,7 @@ static void must_end(size_t (*tell)(const uint8_t *, size_t, uint8_t *, size_t),
     char due[256] = "";
     for (int i = 0; i < MASS_COUNT; i++) all[i] = times * m[i];
     put_masses(due, all);
+    if (tell == niloferq_lines) strcat(due, NO_CROPS);
     size_t size = tell(bytes, length, room, sizeof room), end = strlen(due);
     must(size > end && memcmp(room + size - end, due, end) == 0 && room[size - end - 1] == '\n', what);
 }

@@ -67,10 +67,10 @@ void reading(const uint8_t *day, size_t length) {
     fill_shape(one_each, NILOFERQ_EDITIONS, 1);
     fill_rows(&r, one_each);
     read_every_length(bytes, written(&r, bytes), &r, "read: a row of each kind into rooms of every length");
-    /* by hand: its abandoned land ends at 38, its savanna at 52, its soil at 61 */
+    /* by hand: its abandoned land ends at 38, its savanna at 52, its soil at 61, its crop at 73 */
     must(due_of(&r, 38, ALL) == 9006 && due_of(&r, 37, ALL) == 9005 && due_of(&r, 31, ALL) == 9005 && due_of(&r, 30, ALL) == 9004, "the places due");
     must(due_of(&r, 51, ALL) == 9006 && due_of(&r, 52, ALL) == 9007 && due_of(&r, 51, ALL - 1) == 9000, "the places due");
-    must(due_of(&r, 60, ALL) == 9007 && due_of(&r, 61, ALL) == 0, "the places due");
+    must(due_of(&r, 60, ALL) == 9007 && due_of(&r, 61, ALL) == 9008 && due_of(&r, 72, ALL) == 9008 && due_of(&r, 73, ALL) == 0, "the places due");
     must(due_of(&r, r.area_len, ALL) == 0 && due_of(&r, r.area_len - 1, ALL) == 9000 + NILOFERQ_KINDS, "the places due");
     for (uint32_t kind = PARAMETERS + 1; kind <= NILOFERQ_KINDS; kind++) {
         shape alone = {2 + kind % 2, 1, 1, 1, 1};

@@ -1,8 +1,8 @@
 /* Tries what the header says: areas of length 0, NULL among their pointers; each function on the worked day, and the figures of the day with thinner
  * rows, with scattered trees, with rows of each kind above 4 and with soils that changed. Reading and writing are in door_rows.c, returns byte by byte in
- * door_bytes.c, number 14 in door_trees.c, number 12 in door_wood.c, number 13 in door_soil.c, the cleared biomass in door_matter.c, table 5-2 in
- * door_table52.c, the explanation and the heaviest rows in door_explain.c, the national line in door_nation.c; all of them take the kinds from the table
- * in door_kinds.c. */
+ * door_bytes.c, number 14 in door_trees.c, number 12 in door_wood.c, number 13 in door_soil.c, the cleared biomass in door_matter.c, what crop residues leave
+ * as it is in door_crop.c, table 5-2 in door_table52.c, the explanation and the heaviest rows in door_explain.c, the national line in door_nation.c; all of
+ * them take the kinds from the table in door_kinds.c. */
 #include "door_test.h"
 #include <stdio.h>
 #include <string.h>
@@ -48,7 +48,8 @@ static const char DAY_LINES[] = "E 340000000\nK 775000\nL 36000000\nM 41500000\n
                                 "ch4 518\nco 4536\nn2o 4\nnox 129\n";
 static const char *const REQUESTED[] = {"uptake 0\n", "uptake_co2 0\n", "thinner 0\n", "savanna_carbon 0\n", "savanna_ch4 0\n", "savanna_co 0\n",
     "savanna_n2o 0\n", "savanna_nox 0\n", "soil 0\n", "soil_change 0\n", "scattered 0\n", "oxidised_onsite 64800000000\n", "charcoal_onsite 7200000000\n",
-    "oxidised_offsite 32400000000\n", "charcoal_offsite 3600000000\n", "unburned 72000000000\n"};
+    "oxidised_offsite 32400000000\n", "charcoal_offsite 3600000000\n", "unburned 72000000000\n", "crop_carbon 0\n", "crop_ch4 0\n", "crop_co 0\n",
+    "crop_n2o 0\n", "crop_nox 0\n"};
 
 /* The whole text of the day with these lines in place of those of the same names; the answer is its length. */
 static size_t text_of(char text[NILOFERQ_LINES_ROOM + 1], const char *lines) {
@@ -184,6 +185,25 @@ static const struct {
     {SAVANNA, 32, AT_LIMITS, {4, 500}, LARGEST_SAVANNAS, "the largest savannas, half of them live"},
     {SAVANNA, 32, AT_LIMITS, {4, 1}, LARGEST_SAVANNAS, "the largest savannas, hardly any live"},
     {SAVANNA, 32, AT_LIMITS, {4, 0}, LARGEST_SAVANNAS, "the largest savannas, all dead"},
+    /* Crop residues, by hand. 10,000 x 130 x 850 = 1,105,000,000 of a row are dry residues, of which 250 x 900 are burned and oxidised, and 4,853 are carbon,
+     * so its carbon is 1,206,577,125,000,000,000 of 10^-16 kt C. CH4: 4 x 5 x 120.6577125 / 3 = 804.4 t. CO: 7 x 60 x 120.6577125 / 3 = 16,892.08 t. N2O:
+     * 11 x 12 x 7 x 120.6577125 / 7,000 = 15.9 t. NOx: 23 x 12 x 121 x 120.6577125 / 7,000 = 575.6 t. Two rows give 1,608.8, 33,784.2, 31.9 and 1,151.3 t:
+     * of CH4 1,609, not twice 804, and of NOx 1,151, not twice 576. Residues that are burned are no CO2. */
+    {CROP, 1, AS_THEY_ARE, {0}, "crop_carbon 1206577125000000000\ncrop_ch4 804\ncrop_co 16892\ncrop_n2o 16\ncrop_nox 576\n",
+     "the day with a row of wheat"},
+    {CROP, 2, AS_THEY_ARE, {0}, "crop_carbon 2413154250000000000\ncrop_ch4 1609\ncrop_co 33784\ncrop_n2o 32\ncrop_nox 1151\n",
+     "two rows of wheat are rounded once"},
+    /* A row whose gases are all halves, with savanna's ratios above: 375 x 1 of residues, all of them dry, burned, oxidised and carbon, are 0.375 x 10^16 of
+     * 10^-16 kt C. Behind the table's row it makes 805.9, 16,902.58, 32.4 and 610.1 t. */
+    {CROP, 1, LAST_IS, {2, 375, 1, 1000, 1000, 1000, 10000, 70, 3, 12, 400, 400},
+     "crop_carbon 3750000000000000\ncrop_ch4 2\ncrop_co 10\ncrop_n2o 16\ncrop_nox 34\n", "halves of crops go to even"},
+    {CROP, 2, LAST_IS, {2, 375, 1, 1000, 1000, 1000, 10000, 70, 3, 12, 400, 400},
+     "crop_carbon 1210327125000000000\ncrop_ch4 806\ncrop_co 16903\ncrop_n2o 32\ncrop_nox 610\n", "each crop by its own ratios"},
+    {CROP, 1, LAST_IS, {2, 1, 1, 1, 1, 1, 1, 1, 1, 1, 1, 1}, "crop_carbon 1\n", "the least carbon of a crop"},
+    /* The largest row has 10^7 x 10^3 x 10^9 x 10^4 = 10^23 of carbon, which no word holds, and 32 of them 3.2 x 10^24. */
+    {CROP, 32, AT_LIMITS, {1, 10000000},
+     "crop_carbon 3200000000000000000000000\ncrop_ch4 426666666667\ncrop_co 746666666667\ncrop_n2o 502857142857\ncrop_nox 1051428571429\n",
+     "the largest crops"},
 };
 
 /* Each case alone, and the first of each kind side by side. */
@@ -295,6 +315,7 @@ int main(int count, char **words) {
     wood();
     soils();
     matter();
+    crops();
     defaults();
     table52();
     explanations(day, length);

@@ -15,8 +15,8 @@ static const uint32_t UNTOUCHED = 0xdeadbeef;
 
 /* Kinds are numbered as in the paper. A shape is what a read counts: the edition, how many rows of each kind, and how many of the stock rows are scattered
  * trees. */
-enum { EDITION, CONVERSION, STOCK, HARVEST, PARAMETERS, ABANDONED, SAVANNA, SOIL, SCATTERED };
-_Static_assert(SOIL == NILOFERQ_KINDS && SCATTERED == NILOFERQ_SCATTERED && SCATTERED == NILOFERQ_COUNTS - 1, "the counts' order");
+enum { EDITION, CONVERSION, STOCK, HARVEST, PARAMETERS, ABANDONED, SAVANNA, SOIL, CROP, SCATTERED };
+_Static_assert(CROP == NILOFERQ_KINDS && SCATTERED == NILOFERQ_SCATTERED && SCATTERED == NILOFERQ_COUNTS - 1, "the counts' order");
 typedef uint32_t shape[NILOFERQ_COUNTS];
 /* The unit code of a stock row, where it stands in a record, and the edition that has no scattered trees. */
 enum { UNIT_CODE = 1, UNIT_AT = 4, TREELESS = 3 };
@@ -85,8 +85,11 @@ void must_be_refused(const uint8_t *bytes, size_t length, uint32_t answer, const
 void must_write(const struct rows *r, size_t room_len, size_t size_len, size_t due, const char *what);
 void must_refuse(const struct rows *r, size_t room_len, size_t size_len, uint32_t answer, const char *what);
 
-/* The trials of reading and writing, of returns byte by byte, of scattered trees with number 14, of numbers 12 and 13, of the cleared biomass, of
- * niloferq_table52, of niloferq_explain and niloferq_heaviest, and of niloferq_nation, with the worked day. */
+/* The figures of crop residues where there are none, which are the last lines. */
+#define NO_CROPS "crop_carbon 0\ncrop_ch4 0\ncrop_co 0\ncrop_n2o 0\ncrop_nox 0\n"
+
+/* The trials of reading and writing, of returns byte by byte, of scattered trees with number 14, of numbers 12 and 13, of the cleared biomass, of crop
+ * residues, of niloferq_table52, of niloferq_explain and niloferq_heaviest, and of niloferq_nation, with the worked day. */
 void reading(const uint8_t *day, size_t length);
 void writing(const uint8_t *day, size_t length);
 void returns_in_bytes(const uint8_t *day, size_t length);
@@ -94,6 +97,7 @@ void trees(void);
 void wood(void);
 void soils(void);
 void matter(void);
+void crops(void);
 void table52(void);
 void explanations(const uint8_t *day, size_t length);
 void nations(const uint8_t *day, size_t length);

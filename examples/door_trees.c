@@ -172,7 +172,7 @@ static const struct {
 } BESIDE_READING[] = {
     {2004, 4, 508, 0, 4, "a check comes before 14"},
     {3001, 1, 6, 2, 2, "an edition unlike block 0's comes before 14"},
-    {3004, 4, 0, 8, 1, "a kind comes before 14"},
+    {3004, 4, 0, NILOFERQ_KINDS + 1, 1, "a kind comes before 14"},
     {4001, 1, 8 + UNIT_AT + 1, 1, 1, "the byte behind the unit code comes before 14"},
     {4004, 4, 507, 1, 1, "a stray byte comes before 14"},
     {5001, 0, 48, 7, 4, "an id comes before 14"},

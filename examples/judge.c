@@ -25,8 +25,9 @@ int main(int count, char **words) {
     if (answer != 0)
         printf("refused %u %u\n", answer / 1000, answer % 1000);
     else
-        printf("accepted: edition %u, conversion %u, stock %u, harvest %u, parameters %u, abandoned %u, savanna %u, soil %u, scattered %u\n",
-               counts[0], counts[1], counts[2], counts[3], counts[4], counts[5], counts[6], counts[7], counts[NILOFERQ_SCATTERED]);
+        printf("accepted: edition %u, conversion %u, stock %u, harvest %u, parameters %u, abandoned %u, savanna %u, soil %u, crop %u, "
+               "scattered %u\n",
+               counts[0], counts[1], counts[2], counts[3], counts[4], counts[5], counts[6], counts[7], counts[8], counts[NILOFERQ_SCATTERED]);
     if (fflush(stdout) != 0) {
         fprintf(stderr, "judge: cannot write standard output: %s\n", strerror(errno));
         return 1;

@@ -6,7 +6,7 @@
 
 static const uint32_t numbers[NILOFERQ_KINDS + 1] = {0, NILOFERQ_CONVERSION_NUMBERS, NILOFERQ_STOCK_NUMBERS, NILOFERQ_HARVEST_NUMBERS,
                                                      NILOFERQ_PARAMETERS_NUMBERS, NILOFERQ_ABANDONED_NUMBERS, NILOFERQ_SAVANNA_NUMBERS,
-                                                     NILOFERQ_SOIL_NUMBERS};
+                                                     NILOFERQ_SOIL_NUMBERS, NILOFERQ_CROP_NUMBERS};
 
 /* The answer to rows of zeros, n[k] of each kind with rising ids, where the first field behind the id of one row is wrong. */
 static uint32_t answer_to(uint32_t edition, const uint32_t *n, uint32_t wrong_kind, uint32_t wrong_row, uint32_t wrong) {

@@ -9,7 +9,7 @@
  * examples/door_test and works, though the compiler's guide does not promise it.
  *
  * A refusal is 1,000 times its number plus its place, by the paper's table; number 8 is not given any more; two of niloferq_table52 have
- * no number there and are 1 and 2; the refusal of a room that is too short, 9000 and when reading also 9001 to 9007, comes last. On a refusal no lent
+ * no number there and are 1 and 2; the refusal of a room that is too short, 9000 and when reading also 9001 to 9008, comes last. On a refusal no lent
  * element has changed, but for niloferq_lines, niloferq_explain and niloferq_nation: the text of a refusal is its lines, and it is written like any other.
  *
  * The numbers of a return are tried in this order: 1 to 6, 14, 7, 12, 13; those of rows to be written: 10, 5, 6, 14, 7, 12, 13. Each is tried over the
@@ -26,13 +26,14 @@
  * first row of the lowest soil type of which this is so.
  *
  * Rows in lent memory: a row is its fields in the order below, each a uint32_t, with no zero bytes between. The rows of all kinds
- * lie in one area, kind after kind: conversion, stock, harvest, parameters, abandoned land, savanna, mineral soil, which are kinds 1 to 7.
+ * lie in one area, kind after kind: conversion, stock, harvest, parameters, abandoned land, savanna, mineral soil, crop residues, which are kinds 1 to 8.
  *
  * A return is of edition 1, 2 or 3. Edition 1 has kinds 1 to 4 alone, edition 2 all kinds; edition 3 is edition 2 without scattered trees. The judge and a
  * read tell the edition, and a write is told it.
  *
  * The fields of a row, from 0, each with its limit and its unit: a value is a whole number of the unit, from 0 up to the limit. An id may be any
- * number; within a kind the ids rise from row to row. On-site, off-site and decay fraction of a conversion row add up to at most 1,000.
+ * number; within a kind the ids rise from row to row. On-site, off-site and decay fraction of a conversion row add up to at most 1,000. A carbon
+ * fraction counts in 0.001, that of kind 8 alone in 0.0001.
  *
  *   kind 1, conversion
  *      0  id                                  any
@@ -102,6 +103,19 @@
  *      6  base (factor)                       300  0.01
  *      7  tillage (factor)                    300  0.01
  *      8  input (factor)                      300  0.01
+ *   kind 8, crop residues
+ *      0  id                                  any
+ *      1  production (of the crop)     10,000,000  0.1 kt
+ *      2  residue_ratio (residue to crop)   1,000  0.01
+ *      3  dry_matter (fraction)             1,000  0.001
+ *      4  burned_fraction (in the field)    1,000  0.001
+ *      5  oxidised_fraction                 1,000  0.001
+ *      6  carbon_fraction                  10,000  0.0001
+ *      7  N/C                               1,000  0.001
+ *      8  CH4                               1,000  0.001
+ *      9  CO                                1,000  0.001
+ *     10  N2O                               1,000  0.001
+ *     11  NOx                               1,000  0.001
  *
  * The place of a refusal by the numbers 5, 6, 7, 13 and 14 is that of a row: 12 times its block plus its position in the block, both from 0. A kind of n rows
  * takes (n + 11) / 12 blocks, twelve rows in each but the last, and the kinds stand one after the other. So, when writing, where n[k] rows of each
@@ -117,13 +131,13 @@
 #include <stddef.h>
 #include <stdint.h>
 
-/* Of the functions below; 12 did not have the five figures of cleared biomass, 11 had two editions, no number 14 and no `scattered`, 10 six kinds and no
- * number 13, 9 no national line, 8 no number 12, 7 named no row in an explanation, 6 had no explanation, 5 no table, 4 had five kinds, 3 number 8 and no
- * `thinner`, 2 four kinds and no edition, 1 an area for each kind. */
-#define NILOFERQ_VERSION 13
+/* Of the functions below; 13 had seven kinds, 12 did not have the five figures of cleared biomass, 11 had two editions, no number 14 and no `scattered`, 10
+ * six kinds and no number 13, 9 no national line, 8 no number 12, 7 named no row in an explanation, 6 had no explanation, 5 no table, 4 had five kinds, 3
+ * number 8 and no `thinner`, 2 four kinds and no edition, 1 an area for each kind. */
+#define NILOFERQ_VERSION 14
 
 #define NILOFERQ_EDITIONS 3            /* the latest edition */
-#define NILOFERQ_KINDS 7               /* the kinds of rows */
+#define NILOFERQ_KINDS 8               /* the kinds of rows */
 /* The counts: counts[0] is the edition, counts[k] the rows of kind k, counts[NILOFERQ_SCATTERED] how many of the stock rows are scattered trees. */
 #define NILOFERQ_SCATTERED (NILOFERQ_KINDS + 1)
 #define NILOFERQ_COUNTS (NILOFERQ_KINDS + 2)
@@ -134,8 +148,9 @@
 #define NILOFERQ_ABANDONED_NUMBERS 7   /* the numbers in a row of abandoned land */
 #define NILOFERQ_SAVANNA_NUMBERS 14    /* the numbers in a row of savanna */
 #define NILOFERQ_SOIL_NUMBERS 9        /* the numbers in a row of mineral soil */
+#define NILOFERQ_CROP_NUMBERS 12       /* the numbers in a row of crop residues */
 #define NILOFERQ_MOST_ROWS 32          /* the most rows of a kind in a return; of parameters there is always one */
-#define NILOFERQ_FIGURES 33            /* the figures of a return */
+#define NILOFERQ_FIGURES 38            /* the figures of a return */
 #define NILOFERQ_MOST_RETURNS 500      /* the most returns of a national line */
 
 /* Rooms that are always enough. */
@@ -144,10 +159,11 @@
      NILOFERQ_MOST_ROWS * NILOFERQ_HARVEST_NUMBERS + NILOFERQ_PARAMETERS_NUMBERS +                                \
      NILOFERQ_MOST_ROWS * NILOFERQ_ABANDONED_NUMBERS +                                                            \
      NILOFERQ_MOST_ROWS * NILOFERQ_SAVANNA_NUMBERS +                                                              \
-     NILOFERQ_MOST_ROWS * NILOFERQ_SOIL_NUMBERS) /* elements for the rows of a return, 1,766 */
-#define NILOFERQ_RETURN_ROOM 9728                    /* bytes for a return */
-#define NILOFERQ_FIGURES_ROOM (3 * NILOFERQ_FIGURES) /* elements for the figures, 99 */
-#define NILOFERQ_LINES_ROOM 1980                     /* bytes for the lines */
+     NILOFERQ_MOST_ROWS * NILOFERQ_SOIL_NUMBERS +                                                                 \
+     NILOFERQ_MOST_ROWS * NILOFERQ_CROP_NUMBERS) /* elements for the rows of a return, 2,150 */
+#define NILOFERQ_RETURN_ROOM 11264                   /* bytes for a return */
+#define NILOFERQ_FIGURES_ROOM (3 * NILOFERQ_FIGURES) /* elements for the figures, 114 */
+#define NILOFERQ_LINES_ROOM 2280                     /* bytes for the lines */
 #define NILOFERQ_EXPLAIN_ROOM 500                    /* bytes for an explanation */
 #define NILOFERQ_NATION_ROOM 16000                   /* bytes for a national line */
 #define NILOFERQ_HEAVIEST_ROOM 3                     /* elements for the heaviest row */
@@ -162,23 +178,24 @@ extern "C" {
 
 /* Judges a return: any bytes of any length.
  * 0: accepted, and the first NILOFERQ_COUNTS elements of counts are the edition, the numbers of conversion, stock, harvest, parameter,
- *    abandoned land, savanna and soil rows, and how many of the stock rows are scattered trees, which is 0 in edition 3; later elements
- *    keep their values.
- * 1000 to 7227, 12000, 13000 to 13227, 14000 to 14227: refused, by the numbers of a return in their order, above. 9000: a good return, and
+ *    abandoned land, savanna, soil and crop rows, and how many of the stock rows are scattered trees, which is 0 in edition 3; later
+ *    elements keep their values.
+ * 1000 to 7263, 12000, 13000 to 13263, 14000 to 14263: refused, by the numbers of a return in their order, above. 9000: a good return, and
  *    counts_len is below NILOFERQ_COUNTS. */
 uint32_t niloferq_judge(const uint8_t *bytes, size_t bytes_len, uint32_t *counts, size_t counts_len);
 
 /* The NILOFERQ_FIGURES figures as numbers, in the order in which `sheets` prints them: E, K, L, M, O, P, Q, report, onsite, offsite, R,
  * decay, co2, ch4, co, n2o, nox, uptake, uptake_co2, thinner, savanna_carbon, savanna_ch4, savanna_co, savanna_n2o, savanna_nox, soil,
- * soil_change, scattered, oxidised_onsite, charcoal_onsite, oxidised_offsite, charcoal_offsite, unburned. thinner is a count, of the periods of
- * conversion rows whose density after is above that before, 0 to 64: such a period counts with a difference of 0. soil is in 10^-4 t of carbon and
- * soil_change in tonnes of carbon a year; both are above zero for a gain. scattered is a count, of the stock rows that are scattered trees, 0 to 32. The last
- * five are dry matter in 10^-9 kt: what became of the cleared biomass. Together they are 1,000,000 times the sum over the conversion rows of area x (before -
- * after, or 0 where after is above before).
+ * soil_change, scattered, oxidised_onsite, charcoal_onsite, oxidised_offsite, charcoal_offsite, unburned, crop_carbon, crop_ch4, crop_co, crop_n2o,
+ * crop_nox. thinner is a count, of the periods of conversion rows whose density after is above that before, 0 to 64: such a period counts with a difference
+ * of 0. soil is in 10^-4 t of carbon and soil_change in tonnes of carbon a year; both are above zero for a gain. scattered is a count, of the stock rows that
+ * are scattered trees, 0 to 32. The five from oxidised_onsite on are dry matter in 10^-9 kt: what became of the cleared biomass. Together they are 1,000,000
+ * times the sum over the conversion rows of area x (before - after, or 0 where after is above before). crop_carbon is in 10^-16 kt of carbon: the sum over
+ * the crop rows of the product of their fields 1 to 6. The four behind it are tonnes of gas. Crop rows move no other figure.
  * 0: the first NILOFERQ_FIGURES_ROOM elements of room are three for each figure: 1 where it is below zero and else 0, then the upper
  *    and the lower word of its size, which is lower + 2^64 upper; later elements keep their values. Only P, Q, report, soil and
  *    soil_change may be below zero: the sign of M and O is always 0, since a return whose M would be below zero is refused.
- * 1000 to 7227, 12000, 13000 to 13227, 14000 to 14227: refused, by the numbers of a return in their order, above. 9000: a good return, and
+ * 1000 to 7263, 12000, 13000 to 13263, 14000 to 14263: refused, by the numbers of a return in their order, above. 9000: a good return, and
  *    room_len is below NILOFERQ_FIGURES_ROOM. */
 uint32_t niloferq_figures(const uint8_t *bytes, size_t bytes_len, uint64_t *room, size_t room_len);
 
@@ -199,7 +216,7 @@ size_t niloferq_explain(const uint8_t *bytes, size_t bytes_len, uint8_t *room, s
  * with the lower id on a tie; where the subtotal is zero there is none.
  * 0: the first NILOFERQ_HEAVIEST_ROOM elements of room are 1, the row's id and its part in 10^-12 kt C; or 0, 0, 0 where there is none, so that a
  *    row with id 0 is told apart from none. Later elements keep their values.
- * 1000 to 7227, 12000, 13000 to 13227, 14000 to 14227: refused, by the numbers of a return in their order, above. 11000: a good return
+ * 1000 to 7263, 12000, 13000 to 13263, 14000 to 14263: refused, by the numbers of a return in their order, above. 11000: a good return
  *    and a code above 2. Last 9000: room_len is below NILOFERQ_HEAVIEST_ROOM. */
 uint32_t niloferq_heaviest(const uint8_t *bytes, size_t bytes_len, uint32_t code, uint64_t *room, size_t room_len);
 
@@ -207,7 +224,7 @@ uint32_t niloferq_heaviest(const uint8_t *bytes, size_t bytes_len, uint32_t code
  * 0: the first eight bytes of room are the double's bits, the lowest byte first; later bytes keep their values. The double is a
  *    whole number of 10^-12 kt C, and its distance from the exact subtotal, times 2^53, is at most n + 2 times the exact subtotal,
  *    where n is the number of conversion rows.
- * 1000 to 7227, 12000, 13000 to 13227, 14000 to 14227: refused, by the numbers of a return in their order, above. 11000: a good return
+ * 1000 to 7263, 12000, 13000 to 13263, 14000 to 14263: refused, by the numbers of a return in their order, above. 11000: a good return
  *    and a code above 2. Last 9000: room_len is below 8. */
 uint32_t niloferq_subtotal(const uint8_t *bytes, size_t bytes_len, uint32_t code, uint8_t *room, size_t room_len);
 
@@ -222,8 +239,8 @@ size_t niloferq_nation(const uint8_t *bytes, size_t bytes_len, uint8_t *room, si
 /* The rows of a return, kind after kind. NILOFERQ_ROWS_ROOM and NILOFERQ_COUNTS elements are always enough.
  * 0: the rows of all kinds stand at the front of rows, and the first NILOFERQ_COUNTS elements of counts are what niloferq_judge tells; later
  *    elements of both keep their values.
- * 1000 to 7227, 12000, 13000 to 13227, 14000 to 14227: refused, by the numbers of a return in their order, above. Last, of a good return,
- *    the lowest place: 9000, counts_len is below NILOFERQ_COUNTS; 9001 to 9007, the lowest kind whose rows no longer fit: the rows of the kinds up to it
+ * 1000 to 7263, 12000, 13000 to 13263, 14000 to 14263: refused, by the numbers of a return in their order, above. Last, of a good return,
+ *    the lowest place: 9000, counts_len is below NILOFERQ_COUNTS; 9001 to 9008, the lowest kind whose rows no longer fit: the rows of the kinds up to it
  *    have more numbers than rows_len. */
 uint32_t niloferq_read(const uint8_t *bytes, size_t bytes_len, uint32_t *rows, size_t rows_len, uint32_t *counts, size_t counts_len);
 
@@ -238,9 +255,9 @@ uint32_t niloferq_defaults(uint32_t *room, size_t room_len);
  * 0: the blocks stand at the front of room, and the first element of size is their number of bytes; later elements of both keep
  *    their values. niloferq_read gives the same rows and the edition back.
  * First the lowest place of the number 10: 10000, there is no such edition, or lengths_len is not NILOFERQ_KINDS, or the lengths do not
- *    add up to rows_len; 10001 to 10007, the length of this kind is no whole number of its rows, or is more than NILOFERQ_MOST_ROWS of
+ *    add up to rows_len; 10001 to 10008, the length of this kind is no whole number of its rows, or is more than NILOFERQ_MOST_ROWS of
  *    them, or for parameters isn't exactly one row, or isn't 0 though the edition does not have the kind. Then 5000 to
- *    7227, 12000, 13000 to 13227, 14000 to 14227: refused by 5, 6, 14, 7, 12 or 13, tried in this order, the place being where the
+ *    7263, 12000, 13000 to 13263, 14000 to 14263: refused by 5, 6, 14, 7, 12 or 13, tried in this order, the place being where the
  *    record would stand: above is how to tell which row of which kind that is. Last 9000: room_len is below the number of bytes, or
  *    size_len is 0. */
 uint32_t niloferq_write(uint32_t edition, const uint32_t *rows, size_t rows_len, const uint32_t *lengths, size_t lengths_len, uint8_t *room,

@@ -3,7 +3,7 @@
 # The proved library is x86-64 code, so on another processor the second program is built for x86-64 too (tools/machine.sh).
 second_features="lines,doubles,rows,explain,tables,nation"
 # the longest first, since the gate runs two at a time
-comparisons="compare_nation compare_lines compare_rows compare_doubles compare_raised compare compare_explain compare_sheets fenced compare_tables"
+comparisons="compare_nation compare_lines compare_rows compare_doubles compare_raised compare compare_explain compare_crops compare_sheets fenced compare_tables"
 
 . tools/machine.sh
 

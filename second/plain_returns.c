@@ -29,12 +29,19 @@ static const struct field soil[] = {
     {0, 4, 4294967295u}, {0, 2, 65535}, {0, 2, 65535}, {0, 4, 100000}, {0, 4, 100000}, {0, 2, 10000}, {0, 2, 300}, {0, 2, 300}, {0, 2, 300},
 };
 
-#define KINDS 7
+static const struct field crop[] = {
+    {0, 4, 4294967295u}, {0, 4, 10000000}, {0, 2, 1000}, {0, 2, 1000}, {0, 2, 1000}, {0, 2, 1000}, {0, 2, 10000},
+    {0, 2, 1000}, {0, 2, 1000}, {0, 2, 1000}, {0, 2, 1000}, {0, 2, 1000},
+};
+
+#define KINDS 8
 
 static const struct {
     const struct field *fields;
     uint32_t count;
-} kinds[KINDS + 1] = {{0, 0}, {conversion, 15}, {stock, 5}, {harvest, 5}, {parameters, 6}, {abandoned, 7}, {savanna, 14}, {soil, 9}};
+} kinds[KINDS + 1] = {
+    {0, 0}, {conversion, 15}, {stock, 5}, {harvest, 5}, {parameters, 6}, {abandoned, 7}, {savanna, 14}, {soil, 9}, {crop, 12},
+};
 
 /* The last kind of each edition. */
 #define EDITIONS 3
@@ -156,7 +163,7 @@ static int32_t uneven_soil(const uint8_t *bytes, uint32_t n) {
 /* 0 with the edition, the counts and the number of scattered trees, or 1,000 times the number plus the place. */
 uint32_t plain_judge(const uint8_t *bytes, size_t length, uint32_t counts[KINDS + 2]) {
     static const uint32_t rules[] = {5, 6, 14, 7};
-    if (length == 0 || length > 9728 || length % 512 != 0) return 1000;
+    if (length == 0 || length > 11264 || length % 512 != 0) return 1000;
     uint32_t n = (uint32_t)(length / 512);
     for (uint32_t b = 0; b < n; b++) {
         const uint8_t *p = bytes + 512 * b;

@@ -3,8 +3,8 @@
 //! They are read off the rows once more, not asked of the sheets.
 
 use crate::coverage::Sort;
-use crate::lists::{rows_in, Lists};
-use crate::make::{savanna_carbon, GASES, LIVE, NITROGEN};
+use crate::lists::{rows_in, rows_of_kind, Lists};
+use crate::make::{ratios, savanna_carbon, Burnt, LIVE, SAVANNAS};
 
 /// A savanna row's numbers.
 type Row = [u32; 14];
@@ -23,7 +23,7 @@ pub const SORTS: [Sort<Lists>; 12] = [
     }),
     ("25 to 32 savannas", |lists| rows(lists).len() > 24),
     ("a savanna without carbon", |lists| {
-        any(lists, |[a, b], _| a + b == 0)
+        has_carbon(lists, &SAVANNAS, |carbon| carbon == 0)
     }),
     ("a savanna all live", |lists| {
         any(lists, |[a, _], row| row[LIVE] == 1_000 && a > 0)
@@ -35,17 +35,16 @@ pub const SORTS: [Sort<Lists>; 12] = [
         any(lists, |[a, b], _| a > 0 && b > 0)
     }),
     ("a savanna beyond one word", |lists| {
-        any(lists, |[a, b], _| a + b > u64::MAX.into())
+        has_carbon(lists, &SAVANNAS, |carbon| carbon > u64::MAX.into())
     }),
     ("a largest savanna", |lists| {
-        any(lists, |[a, b], _| a + b == LARGEST)
+        has_carbon(lists, &SAVANNAS, |carbon| carbon == SAVANNAS.largest)
     }),
-    ("32 largest savannas", all_largest),
-    ("savannas with ratios of their own", own_ratios),
+    ("32 largest savannas", |lists| all_largest(lists, &SAVANNAS)),
+    ("savannas with ratios of their own", |lists| {
+        own_ratios(lists, &SAVANNAS)
+    }),
 ];
-
-/// The most carbon a row can have.
-const LARGEST: u128 = 10_000_000_000_000_000_000_000;
 
 fn any(lists: &Lists, holds: fn([u128; 2], &Row) -> bool) -> bool {
     rows(lists)
@@ -53,18 +52,25 @@ fn any(lists: &Lists, holds: fn([u128; 2], &Row) -> bool) -> bool {
         .any(|row| holds(savanna_carbon(row), row))
 }
 
-fn all_largest(lists: &Lists) -> bool {
-    let largest = |row: &Row| savanna_carbon(row).iter().sum::<u128>() == LARGEST;
-    rows(lists).len() == 32 && rows(lists).iter().all(largest)
+/// Whether a row of a kind that burns has such carbon.
+pub(crate) fn has_carbon(lists: &Lists, of: &Burnt, holds: fn(u128) -> bool) -> bool {
+    rows_of_kind(lists, of.kind).any(|row| holds((of.carbon)(row)))
+}
+
+/// Whether there are 32 rows of a kind, each with as much carbon as there can be.
+pub(crate) fn all_largest(lists: &Lists, of: &Burnt) -> bool {
+    let largest = rows_of_kind(lists, of.kind).filter(|row| (of.carbon)(row) == of.largest);
+    largest.count() == 32
 }
 
 /// Two rows with carbon differ in each of the five, so that no row's can stand in
 /// for another's.
-fn own_ratios(lists: &Lists) -> bool {
-    let with_carbon = |row: &&Row| savanna_carbon(row) != [0, 0];
-    let burned: Vec<&Row> = rows(lists).iter().filter(with_carbon).collect();
-    let differs = |at: usize| burned.iter().any(|row| row[at] != burned[0][at]);
-    GASES.into_iter().chain([NITROGEN]).all(differs)
+pub(crate) fn own_ratios(lists: &Lists, of: &Burnt) -> bool {
+    let with_carbon = |row: &&[u32]| (of.carbon)(row) > 0;
+    let burned = rows_of_kind(lists, of.kind).filter(with_carbon);
+    let burned: Vec<&[u32]> = burned.map(ratios).collect();
+    let differs = |nth: usize| burned.iter().any(|ratios| ratios[nth] != burned[0][nth]);
+    (0..5).all(differs)
 }
 
 #[cfg(test)]

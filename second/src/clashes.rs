@@ -78,7 +78,11 @@ fn several_strays(rng: &mut Rng) -> Case {
 /// and then.
 fn any_layout(rng: &mut Rng) -> Case {
     let edition = rng.pick(&[1, 2, 3]);
-    let last = usize::from(last_kind(edition.into()));
+    // Now and then the kinds below the parameters alone, of which none may be last.
+    let last = match rng.below(4) {
+        0 => 3,
+        _ => usize::from(last_kind(edition.into())),
+    };
     let mut kinds = Vec::new();
     for _ in 0..1 + rng.below(4) {
         let kind = 1 + rng.below(last) as u8;

@@ -5,6 +5,7 @@ use crate::answers::Answers;
 use crate::balances::Balances;
 use crate::coverage::{Asked, Coverage, Due};
 use crate::input::Input;
+use crate::residues::Residues;
 use crate::retired::Retired;
 use crate::rng::Rng;
 use crate::sorts::RowSorts;
@@ -42,6 +43,10 @@ pub struct Plan<'a> {
     pub uneven: usize,
     /// The fewest inputs by their scattered trees, of each sort; none is asked where it is 0.
     pub retired: usize,
+    /// The fewest accepted inputs with crops; a fifth of that with 32, and of the most blocks.
+    pub crops: usize,
+    /// The fewest inputs with a crop above each of its limits; none is asked where it is 0.
+    pub crossed: usize,
 }
 
 /// So many times, or told where it is none.
@@ -138,7 +143,8 @@ impl Ran {
     }
 }
 
-/// Goes over the inputs, and counts the answers, the sentences, the sorts of rows, the balances of wood, the areas of soils and the scattered trees.
+/// Goes over the inputs, and counts the answers, the sentences, the sorts of rows, the balances of wood, the areas of soils, the scattered trees and
+/// the crops.
 pub fn run<I: Input>(
     plan: &Plan,
     arguments: Arguments,
@@ -159,6 +165,8 @@ pub fn run<I: Input>(
     let balances = Balances::new(times_or_told(plan.balances), &mut coverage);
     let uneven = Uneven::new(times_or_told(plan.uneven), &mut coverage);
     let retired = Retired::new(times_or_told(plan.retired), &mut coverage);
+    let crops = [plan.crops, plan.crops / 5, plan.crossed].map(times_or_told);
+    let residues = Residues::new(crops, &mut coverage);
     let [mut made, mut accepted, mut differences] = [0; 3];
     let start = Instant::now();
     for index in 0..arguments.inputs.unwrap_or(plan.inputs) {
@@ -185,6 +193,7 @@ pub fn run<I: Input>(
             || input.lists(),
             &mut coverage,
         );
+        residues.note(outcome.answer, || input.lists(), &mut coverage);
         if outcome.answer == 0 {
             accepted += 1;
             sorts.note(&input.lists(), &mut coverage);

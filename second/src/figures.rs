@@ -1,18 +1,18 @@
 //! Good returns made for the sake of their figures: on a half and beside it,
 //! at the limits, and with doubles that round badly.
 
-mod savanna;
+mod burnt;
 mod soil;
 
 use crate::case::Case;
-use crate::make::{thin, Rows, AFTER, BEFORE, FIRST_WITH_IDS, LATER_EDITIONS};
-use crate::make::{MOST_ROWS, SUMMED, WITH_IDS};
+use crate::make::{thin, Rows, AFTER, BEFORE, CROPS, FIRST_WITH_IDS, LATER_EDITIONS};
+use crate::make::{MOST_ROWS, SAVANNAS, SUMMED, WITH_IDS};
 use crate::rng::Rng;
 use crate::worst;
 
 /// A random return of this kind.
 pub fn case(rng: &mut Rng) -> Case {
-    let (how, mut rows) = match rng.below(20) {
+    let (how, mut rows) = match rng.below(24) {
         0..3 => ("Q near a half", q_near_half(rng)),
         3 => ("co2 near a half", co2_near_half(rng)),
         4..8 => ("a gas near a half", gas_near_half(rng)),
@@ -26,9 +26,14 @@ pub fn case(rng: &mut Rng) -> Case {
             Rows::good_in_later(rng, [MOST_ROWS; WITH_IDS.len()]),
         ),
         11 => ("uptake near a half", uptake_near_half(rng)),
-        12..16 => ("a savanna gas near a half", savanna::gas_near_half(rng)),
-        16 => ("large savannas", savanna::large_alone(rng)),
+        12..16 => (
+            "a savanna gas near a half",
+            burnt::gas_near_half(rng, &SAVANNAS),
+        ),
+        16 => ("large savannas", burnt::large_alone(rng, &SAVANNAS)),
         17 | 18 => ("soils near a half", soil::near_half(rng)),
+        19..22 => ("a crop gas near a half", burnt::gas_near_half(rng, &CROPS)),
+        22 => ("large crops", burnt::large_alone(rng, &CROPS)),
         _ => ("all rows", Rows::good(rng, [MOST_ROWS; 3])),
     };
     if rows.edition == 1 {
@@ -150,8 +155,15 @@ fn solve(times: u128, rest: u128, below: u128) -> (u128, u128) {
         [x, y] = [y, x - quotient * y];
     }
     let step = below as i128 / a;
-    let c = (rest as i128 / a) % step * x.rem_euclid(step) % step;
+    let c = product_below(rest as i128 / a % step, x.rem_euclid(step), step);
     (c as u128, step as u128)
+}
+
+/// The product of two numbers below `below`, less as many `below` as are in it. In two
+/// steps, since `below` may go beyond one word.
+fn product_below(a: i128, b: i128, below: i128) -> i128 {
+    let (high, low) = (b >> 32, b & 0xFFFF_FFFF);
+    (((a * high % below) << 32) + a * low) % below
 }
 
 /// Sets a row's carbon to `digit` x 10^(6 x `power`), in one share alone.
@@ -330,7 +342,8 @@ fn large(rng: &mut Rng) -> Rows {
         let at = 1 + rng.below(6);
         row[at] -= rng.pick(&[0, 0, 1]);
     }
-    savanna::enlarge(rng, &mut rows.savanna);
+    burnt::enlarge(rng, &mut rows, &SAVANNAS);
+    burnt::enlarge(rng, &mut rows, &CROPS);
     soil::enlarge(rng, &mut rows);
     // P as far below zero as there can be, as far above, or both sides large.
     match rng.below(3) {

@@ -25,6 +25,7 @@ fn solutions_solve() {
             3_000_000_000,
             3_000_000_000_000,
             7_000_000_000_000_000,
+            70_000_000_000_000_000_000,
         ]);
         let times = u128::from(rng.from_to(1, 23_000_000));
         let rest = near_half(&mut rng, below);
@@ -97,7 +98,7 @@ fn halves_of_gases_are_small_and_wide() {
         let exact = exact_tonnes(check(&bytes).expect("good rows"));
         let halves = exact[3..7].iter().filter(|exact| exact.half().is_some());
         for half in halves {
-            small += i32::from(2 * half.above == i128::from(half.below));
+            small += i32::from(2 * half.above == half.below as i128);
             wide += i32::from(half.above > i128::from(u64::MAX));
         }
     }

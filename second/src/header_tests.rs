@@ -10,7 +10,7 @@ use crate::sheets;
 use crate::text::FIGURES;
 
 /// The version that has all that this program has.
-const VERSION: usize = 13;
+const VERSION: usize = 14;
 
 /// A constant of the header.
 fn in_header(name: &str) -> usize {

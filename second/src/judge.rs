@@ -1,7 +1,7 @@
 //! The judge of a return: refusal numbers 1 to 7 of the paper (01), in order,
-//! with edition 2 and its kinds 5, 6 and 7 from the requests on abandoned land, on
-//! savannas and on soils (02, §1, §5 and §11), then number 12 from the request on
-//! fuelwood (02, §8) and 13 from that on soils. "8 is never given again, its number
+//! with edition 2 and its kinds 5 to 8 from the requests on abandoned land, on savannas,
+//! on soils and on crop residues (02, §1, §5, §11 and §14), then number 12 from the request
+//! on fuelwood (02, §8) and 13 from that on soils. "8 is never given again, its number
 //! isn't reused, and 01's order closes over it" (02, §3). Edition 3 is edition 2 without
 //! scattered trees, which are number 14, between 6 and 7 (02, §12).
 //!
@@ -38,7 +38,7 @@ pub enum Verdict {
 }
 
 /// What an accepted return is: its edition, the numbers of conversion, stock, harvest,
-/// parameter, abandoned, savanna and soil rows, and how many of its stock rows are
+/// parameter, abandoned, savanna, soil and crop rows, and how many of its stock rows are
 /// scattered trees.
 #[derive(Clone, Copy, Debug, PartialEq, Eq)]
 pub struct Counts {
@@ -67,8 +67,9 @@ pub struct Refusal {
 
 const BLOCK: usize = 512;
 /// "Lengths go to 13 blocks in either edition" (02, §1), "grow by three blocks" (02,
-/// §5), and are "three blocks more" again (02, §11).
-const MOST_BLOCKS: usize = 19;
+/// §5), are "three blocks more" again (02, §11), and "the longest return is now 22 blocks"
+/// (02, §14).
+const MOST_BLOCKS: usize = 22;
 const RECORD: usize = 40;
 pub(crate) const RECORDS_PER_BLOCK: usize = 12;
 const RECORDS_AT: usize = 8;
@@ -81,7 +82,8 @@ const PARAMETERS: u8 = 4;
 const ABANDONED: u8 = 5;
 const SAVANNA: u8 = 6;
 const SOIL: u8 = 7;
-const LAST_KIND: usize = SOIL as usize;
+const CROP: u8 = 8;
+const LAST_KIND: usize = CROP as usize;
 
 /// The edition that "has no unit code 1" (02, §12), and that code.
 const WITHOUT_TREES: u16 = 3;
@@ -100,7 +102,7 @@ pub struct Checked<'a> {
 }
 
 impl<'a> Checked<'a> {
-    /// The used records of kind 1 to 7, in order.
+    /// The used records of kind 1 to 8, in order.
     pub fn records(self, kind: u8) -> impl Iterator<Item = &'a Record> {
         self.blocks
             .iter()

@@ -30,7 +30,8 @@ const fn field(name: &'static str, at: usize, bytes: usize, most: u32) -> Field 
 const AREA: u32 = 1_000_000;
 const DENSITY: u32 = 10_000;
 const SHARE: u32 = 1_000;
-/// A stock's amount, a harvest's F, I and J, and both areas of abandoned land.
+/// A stock's amount, a harvest's F, I and J, both areas of abandoned land, and a crop's
+/// production.
 const AMOUNT: u32 = 10_000_000;
 /// A stock's growth rate, a harvest's G, and both rates of abandoned land.
 const RATE: u32 = 10_000;
@@ -43,6 +44,10 @@ const SOIL_AREA: u32 = 100_000;
 const NATIVE_CARBON: u32 = 10_000;
 /// Base, tillage and input.
 const FACTOR: u32 = 300;
+/// Residues to a crop, in hundredths.
+const RESIDUE_RATIO: u32 = 1_000;
+/// A share in ten-thousandths.
+const FINE_SHARE: u32 = 10_000;
 
 /// A row of a later kind: "a record is the id in four bytes, then the fields in the order named, four bytes for an area or a
 /// production and two for anything else, then zeros" (02, §1).
@@ -202,6 +207,26 @@ impl Layout<9> for Soil {
     ]);
 }
 
+/// "production [..], residue ratio [..], dry matter, burned and oxidised fractions [..],
+/// carbon fraction [..], N/C and four ratios per crop in §5's order" (02, §14).
+struct Crop;
+impl Layout<12> for Crop {
+    const FIELDS: [Field; 12] = behind_id([
+        NAMED_ID,
+        ("production", 4, AMOUNT),
+        ("residue_ratio", 2, RESIDUE_RATIO),
+        ("dry_matter", 2, SHARE),
+        ("burned_fraction", 2, SHARE),
+        ("oxidised_fraction", 2, SHARE),
+        ("carbon_fraction", 2, FINE_SHARE),
+        ("N/C", 2, SHARE),
+        ("CH4", 2, SHARE),
+        ("CO", 2, SHARE),
+        ("N2O", 2, SHARE),
+        ("NOx", 2, SHARE),
+    ]);
+}
+
 /// The numbers of single rows, in the order in which they are tried.
 pub(crate) const OF_ROWS: [u32; 4] = [5, 6, 14, 7];
 /// The first place of each of them.
@@ -231,8 +256,9 @@ pub struct Kind {
 /// "At most 32 rows of each of the first three kinds, none needed; always one
 /// parameter row." Abandoned land: "kind 5, after the parameter block, up to 32,
 /// in edition 2". Savannas: "Kind 6, edition 2, up to 32 rows". Soils: "Kind 7, edition
-/// 2, 32 rows". Edition 3 has what edition 2 has.
-pub static KINDS: [Kind; 7] = [
+/// 2, 32 rows". Crops: "Kind 8, editions 2 and 3, 32 rows". Edition 3 has what edition 2
+/// has.
+pub static KINDS: [Kind; 8] = [
     Kind::of::<15, Conversion>("conversion", 1, 0, 32),
     Kind::of::<5, Stock>("stock", 1, 0, 32),
     Kind::of::<5, Harvest>("harvest", 1, 0, 32),
@@ -240,6 +266,7 @@ pub static KINDS: [Kind; 7] = [
     Kind::of::<7, Abandoned>("abandoned", 2, 0, 32),
     Kind::of::<14, Savanna>("savanna", 2, 0, 32),
     Kind::of::<9, Soil>("soil", 2, 0, 32),
+    Kind::of::<12, Crop>("crop", 2, 0, 32),
 ];
 
 /// The kinds above 4, which edition 1 doesn't have.

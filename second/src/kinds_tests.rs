@@ -4,7 +4,8 @@ use super::*;
 type ByHand = (&'static str, &'static [usize], u32, usize, usize);
 
 /// "15, 5, 5 and 6" numbers; an abandoned row is an id and twice three fields, ages of eight bytes each; a savanna row an id and 13 fields,
-/// the area of four bytes and then twelve numbers of two; a soil row an id, two numbers of two bytes, two areas and four more of two.
+/// the area of four bytes and then twelve numbers of two; a soil row an id, two numbers of two bytes, two areas and four more of two; a crop row
+/// an id and 11 fields, the production of four bytes and then ten numbers of two.
 #[rustfmt::skip]
 const BY_HAND: [ByHand; KINDS.len()] = [
     ("conversion", &[4, 8, 10, 12, 14, 16, 18, 20, 22, 24, 28, 30, 32, 34, 36], 1, 0, 32),
@@ -14,6 +15,7 @@ const BY_HAND: [ByHand; KINDS.len()] = [
     ("abandoned", &[4, 8, 10, 12, 16, 18, 20], 2, 0, 32),
     ("savanna", &[4, 8, 10, 12, 14, 16, 18, 20, 22, 24, 26, 28, 30, 32], 2, 0, 32),
     ("soil", &[4, 6, 8, 12, 16, 18, 20, 22, 24], 2, 0, 32),
+    ("crop", &[4, 8, 10, 12, 14, 16, 18, 20, 22, 24, 26, 28], 2, 0, 32),
 ];
 
 /// Each field behind the one before, inside the record, and wide enough.
@@ -38,13 +40,13 @@ fn layouts_hold() {
     }
 }
 
-/// By hand: 806 numbers in edition 1, 32 times 7, 32 times 14 and 32 times 9.
+/// By hand: 806 numbers in edition 1, 32 times 7, 32 times 14, 32 times 9 and 32 times 12.
 #[test]
 fn rooms_are_enough() {
-    assert_eq!(ROWS_ROOM, 1_766);
-    assert_eq!(COUNTS_ROOM, 9);
-    assert_eq!([1, 2, 3].map(full_blocks), [10, 19, 19]);
-    assert_eq!(RETURN_ROOM, 9_728);
+    assert_eq!(ROWS_ROOM, 2_150);
+    assert_eq!(COUNTS_ROOM, 10);
+    assert_eq!([1, 2, 3].map(full_blocks), [10, 22, 22]);
+    assert_eq!(RETURN_ROOM, 11_264);
 }
 
 /// Of each kind: none, a row, the most rows, and one element or row beside them.

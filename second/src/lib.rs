@@ -1,7 +1,7 @@
 //! The second program, written from the paper (01) and the requests on abandoned
 //! land, on halves, on thinner grass, on savannas, on table 5-2, on reasons, on
-//! fuelwood, on more cleared, on the national line, on soils, on scattered trees and on
-//! dry matter (02, §1 to §3 and §5 to §13) alone: a judge, a reader and a writer of returns, the worksheets, the doubles, the
+//! fuelwood, on more cleared, on the national line, on soils, on scattered trees, on dry
+//! matter and on crop residues (02, §1 to §3 and §5 to §14) alone: a judge, a reader and a writer of returns, the worksheets, the doubles, the
 //! table, the explanations, the heaviest rows and the national line, with makers of
 //! good and damaged inputs to compare all of it with the first program. The table is
 //! read from docs/TABLE52.csv.
@@ -16,12 +16,16 @@
 pub mod answers;
 pub mod areas;
 pub mod balances;
+#[cfg(not(door_missing))]
+pub mod both;
 pub mod bound;
 pub mod burned;
 pub mod case;
 pub mod clashes;
 pub mod clearings;
 pub mod coverage;
+pub mod crop;
+pub mod crop_pairs;
 pub mod damage;
 pub mod doubles;
 pub mod drive;
@@ -31,6 +35,7 @@ pub mod fence;
 #[cfg(not(door_missing))]
 pub mod ffi;
 pub mod figures;
+pub mod gases;
 pub mod halves;
 pub mod heaviest;
 pub mod input;
@@ -52,6 +57,7 @@ pub mod raised;
 pub mod reader;
 pub mod reasons;
 pub mod request;
+pub mod residues;
 pub mod retired;
 pub mod rng;
 pub mod rounding;
@@ -73,6 +79,7 @@ pub mod timing;
 pub mod tree_sweeps;
 pub mod trees;
 pub mod uneven;
+pub mod versions;
 pub mod weights;
 pub mod whereabouts;
 pub mod wood;

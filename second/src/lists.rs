@@ -52,6 +52,30 @@ pub fn rows_in<const N: usize>(lists: &Lists, kind: usize) -> &[[u32; N]] {
     lists[kind - 1].as_chunks().0
 }
 
+/// The same row by row, of a kind that is told later.
+pub fn rows_of_kind(lists: &Lists, kind: u8) -> impl Iterator<Item = &[u32]> {
+    let kind = usize::from(kind) - 1;
+    lists[kind].chunks(KINDS[kind].numbers)
+}
+
+/// The blocks that a kind's rows take: twelve in each but the last.
+pub fn blocks_of(lists: &Lists, kind: u8) -> usize {
+    rows_of_kind(lists, kind).count().div_ceil(12)
+}
+
+/// The place of a kind's first row, which stands behind the blocks of the kinds below it.
+pub fn first_place(lists: &Lists, kind: u8) -> usize {
+    12 * (1..kind)
+        .map(|lower| blocks_of(lists, lower))
+        .sum::<usize>()
+}
+
+/// The row of a kind at a place, where it is one of this kind.
+pub fn row_at(lists: &Lists, kind: u8, place: usize) -> Option<&[u32]> {
+    let nth = place.checked_sub(first_place(lists, kind))?;
+    rows_of_kind(lists, kind).nth(nth)
+}
+
 /// The rows of a return that is accepted, or of one whose rows are all good by themselves, by the table of kinds.
 pub fn rows_of(bytes: &[u8]) -> Lists {
     let mut lists = Lists::default();

@@ -4,7 +4,9 @@
 //! that table: its reading code is written from the paper on its own, so that the two
 //! check each other.
 
+mod burnt;
 mod bytes;
+mod crops;
 mod draw;
 mod good;
 mod harvest;
@@ -12,11 +14,13 @@ mod savannas;
 mod soils;
 mod trees;
 
+pub use burnt::{ratios, ratios_mut, Burnt};
 pub use bytes::{renumber, repair_check, repair_checks, seal};
+pub use crops::{CropRow, CROPS, CROP_CARBON};
 pub use draw::good_ids;
 pub use good::{drawn_counts, later, thin};
 pub use harvest::used_and_cleared;
-pub use savannas::{enlarge, savanna_carbon};
+pub use savannas::{savanna_carbon, SAVANNAS};
 pub use soils::{area_sums, land_sums, move_area, soil_carbon, unbalance, uneven_type};
 pub use soils::{SoilRow, MOST_AREA};
 
@@ -66,12 +70,10 @@ pub const UNIT_CODE: usize = 1;
 pub const TREES: u32 = 1;
 
 /// Positions in a savanna row: the live fraction, oxidised and carbon fraction of
-/// the live part, the same two of the dead, N/C, and CH4, CO, N2O and NOx.
+/// the live part, and the same two of the dead.
 pub const LIVE: usize = 4;
 pub const LIVE_BURNT: [usize; 2] = [5, 6];
 pub const DEAD_BURNT: [usize; 2] = [7, 8];
-pub const NITROGEN: usize = 9;
-pub const GASES: [usize; 4] = [10, 11, 12, 13];
 
 /// Positions in a soil row: the land system, the soil type, the areas now and twenty years
 /// ago, and what soil carbon is the product of.
@@ -91,15 +93,21 @@ pub fn fields(kind: u8) -> &'static [Field] {
     KINDS[usize::from(kind) - 1].fields
 }
 
-/// How many fields of all kinds have a limit: every one but the ids.
-pub const LIMITED: usize = {
+/// How many fields of all kinds have a limit, every one but the ids, and how many of those
+/// that edition 1 has.
+pub const LIMITED: usize = limited_in(*EDITIONS.end());
+pub const FIRST_LIMITED: usize = limited_in(1);
+
+const fn limited_in(edition: u32) -> usize {
     let (mut limited, mut kind) = (0, 0);
     while kind < KINDS.len() {
-        limited += KINDS[kind].numbers - KINDS[kind].has_id as usize;
+        if KINDS[kind].since <= edition {
+            limited += KINDS[kind].numbers - KINDS[kind].has_id as usize;
+        }
         kind += 1;
     }
     limited
-};
+}
 
 /// The kind of the `nth` field with a limit, and its position in the row.
 pub fn limited(nth: usize) -> (u8, usize) {
@@ -175,6 +183,7 @@ rows! {
     abandoned: 7,
     savanna: 14,
     soil: 9,
+    crop: 12,
 }
 
 /// No rows, in edition 1.
@@ -186,15 +195,24 @@ impl Default for Rows {
 
 impl Rows {
     pub fn len(&self, kind: u8) -> usize {
-        let kind = usize::from(kind) - 1;
-        self.all()[kind].len() / KINDS[kind].numbers
+        self.each(kind).count()
     }
 
     pub fn row(&mut self, kind: u8, row: usize) -> &mut [u32] {
+        let nth = self.each_mut(kind).nth(row);
+        nth.expect("a row of this kind")
+    }
+
+    /// The rows of a kind, in order.
+    pub fn each(&self, kind: u8) -> impl Iterator<Item = &[u32]> {
+        let kind = usize::from(kind) - 1;
+        self.all()[kind].chunks(KINDS[kind].numbers)
+    }
+
+    pub fn each_mut(&mut self, kind: u8) -> impl Iterator<Item = &mut [u32]> {
         let kind = usize::from(kind) - 1;
         let list = self.all_mut().into_iter().nth(kind).expect("a kind");
-        let mut rows = list.chunks_mut(KINDS[kind].numbers);
-        rows.nth(row).expect("a row of this kind")
+        list.chunks_mut(KINDS[kind].numbers)
     }
 
     pub fn lists(&self) -> [Vec<u32>; KINDS.len()] {

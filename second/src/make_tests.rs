@@ -129,23 +129,41 @@ fn carbon_of_a_savanna() {
     assert_eq!(savanna_carbon(&row), [30_030, 9_622_170]);
 }
 
-/// Savannas are all live, all dead and both, without carbon and with the most
-/// there is, in returns of any number of them and in those of 32.
+/// Rows that burn are without carbon and with the most there is, and of all sizes between,
+/// in returns of any number of them and in those of 32.
 #[test]
-fn savannas_come_of_all_sizes() {
+fn burnt_rows_come_of_all_sizes() {
     let mut rng = Rng::new(8);
-    let mut sizes = [0; 24];
+    for of in [&SAVANNAS, &CROPS] {
+        let powers = of.largest.ilog10() as usize;
+        let mut sizes = vec![0; powers + 2];
+        let mut all_largest = 0;
+        for _ in 0..1_000 {
+            let mut counts = [0; WITH_IDS.len()];
+            counts[place_of(of.kind).expect("a kind with ids")] = 32;
+            let rows = Rows::good_in_later(&mut rng, counts);
+            let found: Vec<u128> = rows.each(of.kind).map(of.carbon).collect();
+            all_largest += u32::from(found.iter().all(|&carbon| carbon == of.largest));
+            for carbon in found {
+                sizes[carbon
+                    .checked_ilog10()
+                    .map_or(0, |power| power as usize + 1)] += 1;
+            }
+        }
+        // None, and every power of ten up to the largest.
+        assert!(sizes.iter().all(|&times| times > 0), "{sizes:?}");
+        assert!(sizes[0] > 1_000 && sizes[powers + 1] > 1_000, "{sizes:?}");
+        assert!(all_largest > 50, "{all_largest}");
+    }
+}
+
+/// Savannas are all live, all dead and both.
+#[test]
+fn savannas_are_live_and_dead() {
+    let mut rng = Rng::new(10);
     let mut live = [0; 3];
-    let mut all_largest = 0;
     for _ in 0..1_000 {
-        let rows = Rows::good_in(&mut rng, 2, [0, 0, 0, 0, 32]).savanna;
-        let both = |row: &[u32; 14]| savanna_carbon(row).iter().sum();
-        let found: Vec<u128> = rows.iter().map(both).collect();
-        all_largest += u32::from(found.iter().all(|&c| c == 10u128.pow(22)));
-        for (row, carbon) in rows.iter().zip(found) {
-            sizes[carbon
-                .checked_ilog10()
-                .map_or(0, |power| power as usize + 1)] += 1;
+        for row in Rows::good_in(&mut rng, 2, [0, 0, 0, 0, 32]).savanna {
             live[match row[LIVE] {
                 0 => 0,
                 1_000 => 1,
@@ -153,11 +171,7 @@ fn savannas_come_of_all_sizes() {
             }] += 1;
         }
     }
-    // None, and every power of ten up to 10^22.
-    assert!(sizes.iter().all(|&times| times > 0), "{sizes:?}");
-    assert!(sizes[0] > 1_000 && sizes[23] > 1_000, "{sizes:?}");
     assert!(live.iter().all(|&times| times > 2_000), "{live:?}");
-    assert!(all_largest > 50, "{all_largest}");
 }
 
 /// Rows of trees are none, one, some and all, in the editions that have them; the last has

@@ -15,8 +15,8 @@ use std::fmt::Write;
 /// "up to 500", and "a 501st return does the same": it stops the run.
 pub const MOST_RETURNS: usize = 500;
 /// "a first header that says 0 blocks or more than 16", which is 19 since there are soils
-/// (02, §11).
-pub const MOST_BLOCKS: u16 = 19;
+/// (02, §11), and as many as the longest return has since there are crops (02, §14).
+pub const MOST_BLOCKS: u16 = 22;
 /// What is always enough for C: at most 26 bytes for each of 500 refused returns, and
 /// less than 800 for the rest.
 pub const NATION_ROOM: usize = 16_000;

@@ -1,5 +1,5 @@
 use super::*;
-use crate::make::{worked_day, Rows};
+use crate::make::{worked_day, Rows, WITH_IDS};
 use crate::nations;
 use crate::rng::Rng;
 
@@ -127,9 +127,9 @@ fn stops() {
         bytes[4..6].copy_from_slice(&blocks.to_le_bytes());
         bytes
     };
-    for blocks in [0, 20, 21, 255, 256, 65_535] {
+    for blocks in [0, 23, 24, 255, 256, 65_535] {
         let due = format!("stopped 2 blocks {blocks}\n");
-        for length in [6, 7, 512, 20 * 512] {
+        for length in [6, 7, 512, 23 * 512] {
             assert_eq!(stopped(&with_blocks(blocks, length)), due);
         }
     }
@@ -141,7 +141,7 @@ fn stops() {
     for (blocks, length) in [(1, 6), (1, 511), (2, 512), (2, 1_023), (16, 16 * 512 - 1)] {
         assert_eq!(stopped(&with_blocks(blocks, length)), short);
     }
-    for blocks in 17..=19 {
+    for blocks in 17..=22 {
         let length = 512 * usize::from(blocks) - 1;
         assert_eq!(stopped(&with_blocks(blocks, length)), short);
     }
@@ -178,18 +178,24 @@ fn a_501st_return() {
     assert!(found.contains(end));
 }
 
-/// Nineteen blocks are a return like any other; soils add to no national figure, and an
-/// uneven type is refused.
+/// Twenty-two blocks are a return like any other; crops and soils add to no national
+/// figure, and an uneven type is refused.
 #[test]
-fn soils_in_a_file() {
-    let mut full = Rows::good_in(&mut Rng::new(194), 2, [32; 6]);
-    let file = [full.to_bytes(), day()].concat();
-    assert_eq!(full.to_bytes().len(), 19 * 512);
-    let found = Nation::of(&file);
-    assert_eq!((found.accepted, found.stopped), (2, None));
-    full.soil.clear();
-    let without = Nation::of(&[full.to_bytes(), day()].concat());
-    assert_eq!(found.text(), without.text());
+fn crops_and_soils_in_a_file() {
+    let mut full = Rows::good_in(&mut Rng::new(194), 3, [32; WITH_IDS.len()]);
+    let [with, nineteen, sixteen] = [0, 1, 2].map(|less| {
+        match less {
+            0 => {}
+            1 => full.crop.clear(),
+            _ => full.soil.clear(),
+        }
+        let one = full.to_bytes();
+        assert_eq!(one.len(), (22 - 3 * less) * 512);
+        let found = Nation::of(&[one, day()].concat());
+        assert_eq!((found.accepted, found.stopped), (2, None));
+        found.text()
+    });
+    assert_eq!([&with, &nineteen], [&sixteen; 2]);
     let mut uneven = worked_day();
     uneven.edition = 2;
     uneven.soil = vec![[1, 1, 9, 2, 2, 1, 1, 1, 1], [2, 1, 7, 2, 3, 1, 1, 1, 1]];
@@ -318,7 +324,7 @@ fn rooms() {
 /// digits, and a stop; the figures are then 0.
 #[test]
 fn the_longest_text_has_room() {
-    let mut last = Rows::good_in(&mut Rng::new(191), 2, [32; 6]);
+    let mut last = Rows::good_in(&mut Rng::new(191), 2, [32; WITH_IDS.len()]);
     let types = last.soil.iter_mut().zip(0..);
     types.for_each(|(row, own)| (row[2], row[3], row[4]) = (100 - own, 5, 5));
     last.soil[31][3] = 4;

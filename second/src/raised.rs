@@ -7,6 +7,7 @@ use crate::kinds::KINDS;
 use crate::lists::{rows_in, Lists};
 use crate::make::{Rows, AFTER, BEFORE, MOST_ROWS, SUMMED};
 use crate::rng::Rng;
+use crate::versions::Versions;
 use crate::worst::{steep, Which};
 
 /// A conversion row's numbers.
@@ -38,6 +39,20 @@ pub struct Pair {
     pub second: Vec<u8>,
     /// The field in which the second has not at least as much cleared, if there is one.
     pub broken: Option<usize>,
+}
+
+impl Versions for Pair {
+    fn how(&self) -> &str {
+        &self.how
+    }
+
+    fn first(&self) -> &[u8] {
+        &self.first
+    }
+
+    fn second(&self) -> &[u8] {
+        &self.second
+    }
 }
 
 /// A random pair of which the premise holds.

@@ -42,6 +42,7 @@ const OF_ROWS: [(usize, &[&str]); 5] = [
             "abandoned",
             "savanna",
             "soil",
+            "crop",
         ],
     ),
     (6, &KIND_NAMES),
@@ -58,6 +59,7 @@ const KIND_NAMES: [&str; KINDS.len()] = [
     "abandoned",
     "savanna",
     "soil",
+    "crop",
 ];
 
 /// Acceptance, and the numbers that are explained.

@@ -5,7 +5,8 @@ use crate::case::Case;
 use crate::damage::block;
 use crate::families::Families;
 use crate::kinds::KINDS;
-use crate::make::{seal, Rows, BLOCK, FIRST_WITH_IDS, LATER, LATER_EDITIONS, WITH_IDS};
+use crate::make::{fields, limited, seal, Rows, BLOCK, FIRST_LIMITED};
+use crate::make::{FIRST_WITH_IDS, LATER, LATER_EDITIONS, LIMITED, WITH_IDS};
 use crate::order_sweeps::{crowds, editions, short_orders};
 use crate::order_sweeps::{ALL_CROWDS, SHORT_EDITIONS, SHORT_ORDERS};
 use crate::rng::Rng;
@@ -17,6 +18,7 @@ static FAMILIES: Families<Case> = Families(&[
     (SHORT_EDITIONS, editions),
     (ALL_CROWDS, crowds),
     (WAYS * TRIES * LATER, later),
+    (LIMITED - FIRST_LIMITED, limits),
     (CLEARINGS, |_, rng| clearings::case(rng)),
     (PLOTS, |_, rng| plots::case(rng)),
     (GROVES, |_, rng| trees::case(rng)),
@@ -89,6 +91,21 @@ fn later(index: usize, rng: &mut Rng) -> Case {
     }
 }
 
+/// Each field of the kinds above 4 once above its limit, or at it where its bytes hold no
+/// more.
+fn limits(index: usize, rng: &mut Rng) -> Case {
+    let (kind, field) = limited(FIRST_LIMITED + index);
+    let mut rows = Rows::good_later(rng, 1);
+    let (row, above) = (rng.below(rows.len(kind)), rng.pick(&ABOVES));
+    if fields(kind)[field].can_exceed() {
+        spoil_limit(rng, &mut rows, (kind, row, field), above);
+    }
+    Case {
+        how: format!("kind {kind} row {row} field {field}, {above:?}"),
+        bytes: rows.to_bytes(),
+    }
+}
+
 #[cfg(test)]
 mod tests {
     use super::*;
@@ -106,6 +123,18 @@ mod tests {
             found.into_iter().for_each(|i| met[i] += 1);
         }
         assert!(!met.contains(&0), "{:?} {met:?}", OF_RETURNS.names());
+    }
+
+    /// Two numbers of soils fill their bytes.
+    #[test]
+    fn each_limit_is_crossed() {
+        for index in 0..LIMITED - FIRST_LIMITED {
+            let case = limits(index, &mut Rng::for_input(116, index as u64));
+            let (kind, field) = limited(FIRST_LIMITED + index);
+            let due = if kind == 7 && field < 3 { 0 } else { 6 };
+            assert!(kind > 4, "{}", case.how);
+            assert_eq!(judge(&case.bytes).answer() / 1000, due, "{}", case.how);
+        }
     }
 
     #[test]

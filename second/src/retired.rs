@@ -3,7 +3,7 @@
 //! They are read off the rows once more, not asked of the judge.
 
 use crate::coverage::{Counters, Coverage, Due, Sort, Sorts};
-use crate::lists::{rows_in, Lists};
+use crate::lists::{first_place, row_at, rows_in, Lists};
 use crate::make::{uneven_type, used_and_cleared, SUMMED, TREES, UNIT_CODE, WITHOUT_TREES};
 
 /// Number 14, the numbers that come before it and are about single rows, and those that
@@ -179,19 +179,14 @@ impl Seen {
         rows_in(&self.lists, 2)
     }
 
-    /// Where the first stock row stands: behind the blocks of conversion.
-    fn first_stock(&self) -> usize {
-        12 * rows_in::<15>(&self.lists, 1).len().div_ceil(12)
-    }
-
     fn trees_at(&self) -> impl Iterator<Item = usize> + '_ {
-        self.trees.iter().map(|at| self.first_stock() + at)
+        let first = first_place(&self.lists, 2);
+        self.trees.iter().map(move |at| first + at)
     }
 
     /// The unit code of the stock row at the answer's place.
     fn code(&self) -> Option<u32> {
-        let at = self.place.checked_sub(self.first_stock())?;
-        self.stock().get(at).map(|row| row[UNIT_CODE])
+        row_at(&self.lists, 2, self.place).map(|row| row[UNIT_CODE])
     }
 
     fn fractions(&self) -> bool {

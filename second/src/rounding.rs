@@ -7,7 +7,7 @@ use std::cmp::Ordering;
 #[derive(Clone, Copy, Debug, PartialEq, Eq)]
 pub struct Tonnes {
     pub above: i128,
-    pub below: u64,
+    pub below: u128,
 }
 
 /// Where the even neighbour of a half lies.
@@ -18,7 +18,7 @@ pub enum Half {
 }
 
 impl Tonnes {
-    pub fn of(above: impl Into<i128>, below: u64) -> Self {
+    pub fn of(above: impl Into<i128>, below: u128) -> Self {
         let above = above.into();
         Tonnes { above, below }
     }
@@ -37,7 +37,7 @@ impl Tonnes {
     /// The way that a half goes, if this is one, told by the whole number just
     /// below it and not by [`Tonnes::rounded`].
     pub fn half(self) -> Option<Half> {
-        let below = i128::from(self.below);
+        let below = self.below as i128;
         let (lower, rest) = (self.above.div_euclid(below), self.above.rem_euclid(below));
         let way = if lower % 2 == 0 { Half::Down } else { Half::Up };
         (2 * rest == below).then_some(way)
@@ -45,9 +45,8 @@ impl Tonnes {
 }
 
 /// The whole number nearest to a ratio, at a half the even one. Every answer is
-/// at most 7.04 x 10^14, a nation's, and twice the largest `below`, 7 x 10^18, fits
-/// 64 bits.
-fn nearest(above: u128, below: u64) -> u64 {
+/// at most 7.04 x 10^14, a nation's.
+fn nearest(above: u128, below: u128) -> u128 {
     let (whole, rest) = divided(above, below);
     whole
         + match (2 * rest).cmp(&below) {
@@ -58,13 +57,13 @@ fn nearest(above: u128, below: u64) -> u64 {
 }
 
 /// The whole part, and what is left of `above`.
-fn divided(above: u128, below: u64) -> (u64, u64) {
-    match u64::try_from(above) {
+fn divided(above: u128, below: u128) -> (u128, u128) {
+    match (u64::try_from(above), u64::try_from(below)) {
         // One short division where it is enough.
-        Ok(above) => (above / below, above % below),
-        Err(_) => {
-            let whole = above / u128::from(below);
-            (whole as u64, (above - whole * u128::from(below)) as u64)
+        (Ok(above), Ok(below)) => ((above / below).into(), (above % below).into()),
+        _ => {
+            let whole = above / below;
+            (whole, above - whole * below)
         }
     }
 }
@@ -98,23 +97,37 @@ mod tests {
         }
     }
 
-    /// The same beyond 64 bits: 10^12 and a half, and its odd neighbour.
+    /// The same beyond 64 bits, above and below: 10^12 and a half, and its odd neighbour.
     #[test]
     fn wide_halves_go_to_the_even_neighbour() {
-        let below = 7_000_000_000_000_000;
-        let with = |whole: i128, rest: i128| {
-            let above = whole * i128::from(below) + rest;
-            assert!(above > i128::from(u64::MAX));
-            let [up, down] = [above, -above].map(|above| Tonnes { above, below }.rounded());
-            assert_eq!(up, -down);
-            i128::from(up)
-        };
-        let (tera, half) = (1_000_000_000_000, 3_500_000_000_000_000);
-        for (whole, due) in [(tera, tera), (tera + 1, tera + 2)] {
-            assert_eq!(with(whole, half - 1), whole);
-            assert_eq!(with(whole, half), due);
-            assert_eq!(with(whole, half + 1), whole + 1);
+        for below in [7 * 10i128.pow(15), 7 * 10i128.pow(19)] {
+            let with = |whole: i128, rest: i128| {
+                let above = whole * below + rest;
+                assert!(above > i128::from(u64::MAX));
+                let rounded = |above: i128| Tonnes::of(above, below as u128).rounded();
+                assert_eq!(rounded(above), -rounded(-above));
+                i128::from(rounded(above))
+            };
+            let (tera, half) = (1_000_000_000_000, below / 2);
+            for (whole, due) in [(tera, tera), (tera + 1, tera + 2)] {
+                assert_eq!(with(whole, half - 1), whole);
+                assert_eq!(with(whole, half), due);
+                assert_eq!(with(whole, half + 1), whole + 1);
+            }
         }
+    }
+
+    /// One word above and two below.
+    #[test]
+    fn less_than_one_of_a_wide_number() {
+        let below = 7 * 10u128.pow(19);
+        let rounded = |above: u64| Tonnes::of(above, below).rounded();
+        assert_eq!([0, 1, u64::MAX].map(rounded), [0; 3]);
+        assert_eq!(
+            Tonnes::of(35 * 10i128.pow(18), below).half(),
+            Some(Half::Down)
+        );
+        assert_eq!(Tonnes::of(35 * 10i128.pow(18) + 1, below).rounded(), 1);
     }
 
     #[test]

@@ -15,7 +15,7 @@ pub fn case(rng: &mut Rng) -> RowLists {
     match rng.below(28) {
         0..5 => RowLists::of("good".to_string(), &Rows::any_good(rng)),
         5..12 => {
-            let number = rng.pick(&[5, 6, 7, 7, 10, 10, 10, 12, 13, 14]);
+            let number = rng.pick(&[5, 6, 7, 7, 10, 10, 10, 10, 12, 13, 14]);
             broken(rng, &[number])
         }
         12 => {

@@ -4,6 +4,7 @@
 //! A row's carbon is at most 10^22 and "no longer fits one word"; 32 rows by N/C
 //! and a ratio come to 3.2 x 10^29, and 23 times that is well inside 128 bits.
 
+use crate::gases::{Ratios, Released};
 use crate::judge::{four, two, Record};
 use crate::rounding::Tonnes;
 
@@ -23,11 +24,7 @@ pub struct Savanna {
     live_fraction: u16,
     live: Burnt,
     dead: Burnt,
-    nitrogen: u16,
-    ch4: u16,
-    co: u16,
-    n2o: u16,
-    nox: u16,
+    ratios: Ratios,
 }
 
 impl Savanna {
@@ -43,11 +40,7 @@ impl Savanna {
             live_fraction: two(r, 12),
             live: burnt(14),
             dead: burnt(18),
-            nitrogen: two(r, 22),
-            ch4: two(r, 24),
-            co: two(r, 26),
-            n2o: two(r, 28),
-            nox: two(r, 30),
+            ratios: Ratios::of(r, 22),
         }
     }
 
@@ -67,45 +60,15 @@ impl Savanna {
     }
 }
 
-/// Exact sums over the rows: carbon, carbon x ratio for CH4 and CO, and carbon x
-/// N/C x ratio for N2O and NOx, each with "the row's own" ratios.
-#[derive(Clone, Copy, Default)]
-pub struct Savannas {
-    pub carbon: u128,
-    ch4: u128,
-    co: u128,
-    n2o: u128,
-    nox: u128,
+/// The sums over all rows, each with "the row's own" ratios.
+pub fn released<'a>(records: impl Iterator<Item = &'a Record>) -> Released {
+    let rows = records.map(Savanna::of);
+    Released::of(rows.map(|row| (row.carbon(), row.ratios)))
 }
 
-impl Savannas {
-    pub fn of<'a>(records: impl Iterator<Item = &'a Record>) -> Self {
-        let mut sums = Savannas::default();
-        records.map(Savanna::of).for_each(|row| sums.add(row));
-        sums
-    }
-
-    fn add(&mut self, row: Savanna) {
-        let carbon = row.carbon();
-        let nitrogen = carbon * u128::from(row.nitrogen);
-        self.carbon += carbon;
-        self.ch4 += carbon * u128::from(row.ch4);
-        self.co += carbon * u128::from(row.co);
-        self.n2o += nitrogen * u128::from(row.n2o);
-        self.nox += nitrogen * u128::from(row.nox);
-    }
-
-    /// CH4, CO, N2O and NOx before they are "rounded once": "gases as in 5-3". A
-    /// sum by one ratio is in 10^-18 kt = 10^-15 t, by N/C too in 10^-18 t.
-    pub fn tonnes(&self) -> [Tonnes; 4] {
-        let gas = |times: i128, sum: u128, below: u64| Tonnes::of(times * sum as i128, below);
-        [
-            gas(4, self.ch4, 3_000_000_000_000_000),
-            gas(7, self.co, 3_000_000_000_000_000),
-            gas(11, self.n2o, 7_000_000_000_000_000_000),
-            gas(23, self.nox, 7_000_000_000_000_000_000),
-        ]
-    }
+/// "gases as in 5-3": a sum by one ratio is in 10^-18 kt = 10^-15 t.
+pub fn tonnes(released: &Released) -> [Tonnes; 4] {
+    released.tonnes(1_000_000_000_000_000)
 }
 
 #[cfg(test)]

@@ -1,6 +1,6 @@
-//! The sentences of the requests on abandoned land, on savannas and on scattered trees
-//! (02, §1, §5 and §12) about refusals, each of which the inputs of a comparison have to
-//! meet.
+//! The sentences of the requests on abandoned land, on savannas, on soils, on scattered
+//! trees and on crop residues (02, §1, §5, §11, §12 and §14) about refusals, each of which
+//! the inputs of a comparison have to meet.
 //!
 //! They are read off the bytes and the rows once more, not asked of the judge.
 

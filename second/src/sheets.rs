@@ -1,7 +1,7 @@
 //! Worksheets 5-1, 5-2 and 5-3 of the paper (01), 5-4 (02, §1), 4-3 (02, §5, in
-//! `savanna`) and 5-5 (02, §11, in `soil`), in whole numbers, with the count of thinner
-//! periods (02, §3) and that of scattered trees (02, §12), and where every tonne of dry
-//! matter went (02, §13, in `matter`).
+//! `savanna`), 5-5 (02, §11, in `soil`) and 4-4 (02, §14, in `crop`), in whole numbers, with
+//! the count of thinner periods (02, §3) and that of scattered trees (02, §12), and where
+//! every tonne of dry matter went (02, §13, in `matter`).
 //!
 //! The largest values at the limits say how wide each figure must be:
 //! E 3.2 x 10^15, K 3.84 x 10^12, L 3.2 x 10^14, O 3.84 x 10^17, 11 P
@@ -10,11 +10,13 @@
 //! A sum of rows (3.2 x 10^20) doesn't, nor do the numerators of the gases; the
 //! widest, 23 C x N/C x ratio, is 7.36 x 10^27 and well inside 128 bits.
 
+use crate::crop;
+use crate::gases::{Ratios, Released};
 use crate::judge::{check, four, two, Checked, Record, Refusal};
 use crate::land::{Conversion, Period, Share};
 use crate::matter::{matter, Matter, NAMES};
 use crate::rounding::Tonnes;
-use crate::savanna::Savannas;
+use crate::savanna;
 use crate::soil;
 use crate::text::{Text, FIGURES};
 
@@ -48,6 +50,11 @@ pub struct Worksheets {
     pub soil_change: i64,
     pub scattered: u64,
     pub matter: Matter,
+    pub crop_carbon: u128,
+    pub crop_ch4: u64,
+    pub crop_co: u64,
+    pub crop_n2o: u64,
+    pub crop_nox: u64,
 }
 
 /// The worksheets of a return, or its refusal.
@@ -105,14 +112,15 @@ pub(crate) struct Sums {
     uptake: u64,
     /// "the number of (row, period) pairs with after above before"
     thinner: u64,
-    savannas: Savannas,
+    savannas: Released,
     /// Soil carbon now less that of twenty years ago.
     soil: i64,
     /// Stock rows of scattered trees.
     scattered: u64,
     pub(crate) matter: Matter,
+    crops: Released,
     /// N, CH4, CO, N/C, N2O and NOx.
-    parameters: [u64; 6],
+    parameters: [u16; 6],
 }
 
 impl Sums {
@@ -135,11 +143,12 @@ impl Sums {
             decay,
             uptake: checked.records(5).map(regrown).sum(),
             thinner,
-            savannas: Savannas::of(checked.records(6)),
+            savannas: savanna::released(checked.records(6)),
             soil: soil::gained(checked.records(7)),
             scattered: checked.counts.scattered.into(),
             matter: matter(checked),
-            parameters: [4, 6, 8, 10, 12, 14].map(|at| u64::from(two(parameters, at))),
+            crops: crop::released(checked.records(8)),
+            parameters: [4, 6, 8, 10, 12, 14].map(|at| two(parameters, at)),
         }
     }
 
@@ -149,30 +158,27 @@ impl Sums {
     }
 
     fn o(&self) -> i64 {
-        self.m() * self.parameters[0] as i64
+        self.m() * i64::from(self.parameters[0])
     }
 
     pub(crate) fn p(&self) -> i64 {
         100 * self.e as i64 - self.o()
     }
 
-    /// Q, co2, ch4, co, n2o, nox, uptake_co2, the gases of savannas and the yearly change
-    /// of soils before they are rounded.
+    /// Q, co2, ch4, co, n2o, nox, uptake_co2, the gases of savannas, the yearly change of
+    /// soils and the gases of crops before they are rounded.
     fn tonnes(&self) -> [Tonnes; ROUNDED.len() - 1] {
-        let [_, ch4, co, nitrogen, n2o, nox] = self.parameters;
-        // "from on-site carbon C only"
-        let gas = |times: u64, ratio: u64, below: u64| {
-            Tonnes::of(self.onsite as i128 * i128::from(times * ratio), below)
-        };
         let all = (self.onsite + self.offsite + self.decay) as i128;
-        let [savanna_ch4, savanna_co, savanna_n2o, savanna_nox] = self.savannas.tonnes();
+        let [ch4, co, n2o, nox] = self.gases();
+        let [savanna_ch4, savanna_co, savanna_n2o, savanna_nox] = savanna::tonnes(&self.savannas);
+        let [crop_ch4, crop_co, crop_n2o, crop_nox] = crop::tonnes(&self.crops);
         [
             Tonnes::of(11 * self.p(), 3_000_000),
             Tonnes::of(11 * all, 3_000_000_000),
-            gas(4, ch4, 3_000_000_000_000),
-            gas(7, co, 3_000_000_000_000),
-            gas(11, nitrogen * n2o, 7_000_000_000_000_000),
-            gas(23, nitrogen * nox, 7_000_000_000_000_000),
+            ch4,
+            co,
+            n2o,
+            nox,
             // In 10^-7 kt C = 10^-4 t C, "then CO2 by 11/3, rounded once".
             Tonnes::of(11 * self.uptake, 30_000),
             savanna_ch4,
@@ -180,12 +186,29 @@ impl Sums {
             savanna_n2o,
             savanna_nox,
             soil::yearly(self.soil),
+            crop_ch4,
+            crop_co,
+            crop_n2o,
+            crop_nox,
         ]
+    }
+
+    /// "5-3, from on-site carbon C only": by one ratio it is in 10^-15 kt = 10^-12 t.
+    fn gases(&self) -> [Tonnes; 4] {
+        let [_, ch4, co, nitrogen, n2o, nox] = self.parameters;
+        let ratios = Ratios {
+            nitrogen,
+            ch4,
+            co,
+            n2o,
+            nox,
+        };
+        Released::of([(self.onsite, ratios)]).tonnes(1_000_000_000_000)
     }
 }
 
 /// The figures that are rounded.
-pub const ROUNDED: [&str; 13] = [
+pub const ROUNDED: [&str; 17] = [
     "Q",
     "report",
     "co2",
@@ -199,6 +222,10 @@ pub const ROUNDED: [&str; 13] = [
     "savanna_n2o",
     "savanna_nox",
     "soil_change",
+    "crop_ch4",
+    "crop_co",
+    "crop_n2o",
+    "crop_nox",
 ];
 /// Those of them that may be below zero.
 pub const SIGNED: [&str; 3] = ["Q", "report", "soil_change"];
@@ -216,10 +243,12 @@ pub fn exact_tonnes(checked: Checked) -> [Tonnes; ROUNDED.len()] {
 impl Worksheets {
     pub fn of(checked: Checked) -> Self {
         let sums = Sums::of(checked);
-        let [q, rest @ .., soil_change] = sums.tonnes().map(Tonnes::rounded);
+        let rounded = sums.tonnes().map(Tonnes::rounded);
         // Only P and the soils go below zero.
-        let [co2, ch4, co, n2o, nox, uptake_co2, savannas @ ..] = rest.map(i64::unsigned_abs);
-        let [savanna_ch4, savanna_co, savanna_n2o, savanna_nox] = savannas;
+        let [q, .., soil_change, _, _, _, _] = rounded;
+        let [_, co2, ch4, co, n2o, nox, uptake_co2, burned @ ..] = rounded.map(i64::unsigned_abs);
+        let [savanna_ch4, savanna_co, savanna_n2o, savanna_nox, _, crops @ ..] = burned;
+        let [crop_ch4, crop_co, crop_n2o, crop_nox] = crops;
         Worksheets {
             e: sums.e,
             k: sums.k,
@@ -248,6 +277,11 @@ impl Worksheets {
             soil_change,
             scattered: sums.scattered,
             matter: sums.matter,
+            crop_carbon: sums.crops.carbon,
+            crop_ch4,
+            crop_co,
+            crop_n2o,
+            crop_nox,
         }
     }
 
@@ -300,6 +334,11 @@ impl Worksheets {
             (NAMES[2], Above(self.matter[2])),
             (NAMES[3], Above(self.matter[3])),
             (NAMES[4], Above(self.matter[4])),
+            ("crop_carbon ", Wide(self.crop_carbon)),
+            ("crop_ch4 ", Above(self.crop_ch4)),
+            ("crop_co ", Above(self.crop_co)),
+            ("crop_n2o ", Above(self.crop_n2o)),
+            ("crop_nox ", Above(self.crop_nox)),
         ]
     }
 

@@ -2,10 +2,10 @@
 
 use crate::coverage::{Coverage, Due, Sorts};
 use crate::lists::Lists;
-use crate::{burned, thinner, tilled, whereabouts};
+use crate::{burned, residues, thinner, tilled, whereabouts};
 
 /// Counters for each of them.
-pub struct RowSorts([Sorts<Lists>; 4]);
+pub struct RowSorts([Sorts<Lists>; 5]);
 
 impl RowSorts {
     /// So many of each sort are due.
@@ -15,6 +15,7 @@ impl RowSorts {
             &burned::SORTS,
             &tilled::SORTS,
             &whereabouts::SORTS,
+            &residues::SORTS,
         ];
         RowSorts(tables.map(|table| Sorts::new(table, due, coverage)))
     }

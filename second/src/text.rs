@@ -4,10 +4,10 @@
 use crate::judge::Refusal;
 
 /// The figures of `sheets`, a line each.
-pub const FIGURES: usize = 33;
+pub const FIGURES: usize = 38;
 /// What is always enough for C: 50 bytes for each line.
 pub const LINES_ROOM: usize = 50 * FIGURES;
-/// A line has at most 17 + 22 + 1 bytes.
+/// A line has at most 15 + 24 + 1 bytes, that of the carbon of savannas.
 const MOST: usize = 40 * FIGURES;
 
 pub struct Text {

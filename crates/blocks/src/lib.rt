@@ -53,6 +53,7 @@ fn stray_at(bytes: &[u8], kind: u32, at: usize) -> bool
         5 => stray_fields(bytes, 5, at),
         6 => stray_fields(bytes, 6, at),
         7 => stray_fields(bytes, 7, at),
+        8 => stray_fields(bytes, 8, at),
         _ => stray_fields(bytes, 0, at),
     }
 }

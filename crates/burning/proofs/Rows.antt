@@ -24,10 +24,10 @@ use Rattle.burning.specs.declared.Ratios.{Ratios}
 use Rattle.burning.specs.declared.Released.{Released}
 
 -- a product of a row's carbon and one or two ratios
-by-one : (n k : ℕ) → n ≤ 2 * 10 ^ 22 → k ≤ 1000 → n * k ≤ 2 * 10 ^ 25
+by-one : (n k : ℕ) → n ≤ 10 ^ 23 → k ≤ 1000 → n * k ≤ 10 ^ 26
 by-one n k hn hk = omega (arith, mul-le-mul hn hk)
 
-by-two : (n k j : ℕ) → n ≤ 2 * 10 ^ 22 → k ≤ 1000 → j ≤ 1000 → n * k * j ≤ 2 * 10 ^ 28
+by-two : (n k j : ℕ) → n ≤ 10 ^ 23 → k ≤ 1000 → j ≤ 1000 → n * k * j ≤ 10 ^ 29
 by-two n k j hn hk hj = omega (arith, mul-le-mul (by-one n k hn hk) hj)
 
 -- two words of a sum are those of its summands' numbers
@@ -53,12 +53,12 @@ module _ (c : List ℕ → ℕ) (by : List ℕ → Ratios) where
       let nox = more (λ r. c r * by r .nc * by r .nox) _ (ap (λ (x : ℕ). x * by r .nc * by r .nox) n) in
       u ∙ ap₂ plus t p ∙ (λ j. record { carbon = record { 0 = a j }; ch4 = record { 0 = ch4 j }; co = record { 0 = co j }; n2o = record { 0 = n2o j }; nox = record { 0 = nox j } })
 
-  -- how large: a row's carbon is at most 2 x 10^22, and its ratios are thousandths
-  pub row-room : (r : List ℕ) {p : Released} → c r ≤ 2 * 10 ^ 22 → Thousandths (by r) → p ≡ rowOf c by r → Room p
+  -- how large: a row's carbon is at most 10^23, and its ratios are thousandths
+  pub row-room : (r : List ℕ) {p : Released} → c r ≤ 10 ^ 23 → Thousandths (by r) → p ≡ rowOf c by r → Room p
   unfolding releasedOf
   row-room r h t e =
       let n = value-words (c r) .number in
-      let m : value (wordsOf (c r)) ≤ 2 * 10 ^ 22 = omega (arith, n) in
+      let m : value (wordsOf (c r)) ≤ 10 ^ 23 = omega (arith, n) in
       subst Room (sym e) (
         omega (arith, m),
         omega (arith, value-words (value (wordsOf (c r)) * by r .ch4) .number, by-one _ _ m (t .ch4)),
@@ -68,7 +68,7 @@ module _ (c : List ℕ → ℕ) (by : List ℕ → Ratios) where
       )
 
   module _ (s : List ℕ) (counts : Counts) (acc : Formed s counts) (k : ℕ) (lo : 1 ≤ k) (hi : k ≤ kinds)
-      (carbons : (r : List ℕ) → aboveLimit (layout k) r ≡ false → c r ≤ 2 * 10 ^ 22) (ratios : (r : List ℕ) → aboveLimit (layout k) r ≡ false → Thousandths (by r)) where
+      (carbons : (r : List ℕ) → aboveLimit (layout k) r ≡ false → c r ≤ 10 ^ 23) (ratios : (r : List ℕ) → aboveLimit (layout k) r ≡ false → Thousandths (by r)) where
     -- past the last row
     pub all : {t : Released} (i : ℕ) → countIn counts k ≤ i → t ≡ burnedBy c by (take i (rows k s)) → t ≡ burnedBy c by (rows k s)
     unfolding burnedBy
@@ -89,15 +89,15 @@ module _ (c : List ℕ → ℕ) (by : List ℕ → Ratios) where
     pub sums-fit : {t : Released} (i : ℕ) → t ≡ burnedBy c by (take i (rows k s)) → Fits t
     unfolding burnedBy
     sums-fit i e = subst Fits (sym e) (
-      omega (arith, below (λ r. c r * by r .ch4) (2 * 10 ^ 25) (λ r h. by-one _ _ (carbons r h) (ratios r h .ch4)) i),
-      omega (arith, below (λ r. c r * by r .co) (2 * 10 ^ 25) (λ r h. by-one _ _ (carbons r h) (ratios r h .co)) i),
-      omega (arith, below (λ r. c r * by r .nc * by r .n2o) (2 * 10 ^ 28) (λ r h. by-two _ _ _ (carbons r h) (ratios r h .nc) (ratios r h .n2o)) i),
-      omega (arith, below (λ r. c r * by r .nc * by r .nox) (2 * 10 ^ 28) (λ r h. by-two _ _ _ (carbons r h) (ratios r h .nc) (ratios r h .nox)) i),
+      omega (arith, below (λ r. c r * by r .ch4) (10 ^ 26) (λ r h. by-one _ _ (carbons r h) (ratios r h .ch4)) i),
+      omega (arith, below (λ r. c r * by r .co) (10 ^ 26) (λ r h. by-one _ _ (carbons r h) (ratios r h .co)) i),
+      omega (arith, below (λ r. c r * by r .nc * by r .n2o) (10 ^ 29) (λ r h. by-two _ _ _ (carbons r h) (ratios r h .nc) (ratios r h .n2o)) i),
+      omega (arith, below (λ r. c r * by r .nc * by r .nox) (10 ^ 29) (λ r h. by-two _ _ _ (carbons r h) (ratios r h .nc) (ratios r h .nox)) i),
     )
 
-    carbon-fits : {t : Released} (i : ℕ) → t ≡ burnedBy c by (take i (rows k s)) → value (t .carbon .0) < 2 ^ 100
+    carbon-fits : {t : Released} (i : ℕ) → t ≡ burnedBy c by (take i (rows k s)) → value (t .carbon .0) < 2 ^ 102
     unfolding burnedBy
-    carbon-fits i e = subst (λ (t : Released). value (t .carbon .0) < 2 ^ 100) (sym e) (omega (arith, below c (2 * 10 ^ 22) carbons i))
+    carbon-fits i e = subst (λ (t : Released). value (t .carbon .0) < 2 ^ 102) (sym e) (omega (arith, below c (10 ^ 23) carbons i))
 
     pub sum-room : {t : Released} (i : ℕ) → t ≡ burnedBy c by (take i (rows k s)) → Room t
     sum-room i e = let w = sums-fit i e in (omega (arith, carbon-fits i e), omega (arith, w), omega (arith, w), omega (arith, w), omega (arith, w))

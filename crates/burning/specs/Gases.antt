@@ -30,4 +30,4 @@ gasesOf t finer = record {
 
 -- each has room to be rounded
 abbrev pub Fits : Released → Type 0
-Fits t = (value (t .ch4 .0) < 2 ^ 100) × (value (t .co .0) < 2 ^ 100) × (value (t .n2o .0) < 2 ^ 100) × (value (t .nox .0) < 2 ^ 100)
+Fits t = (value (t .ch4 .0) < 2 ^ 102) × (value (t .co .0) < 2 ^ 102) × (value (t .n2o .0) < 2 ^ 102) × (value (t .nox .0) < 2 ^ 102)

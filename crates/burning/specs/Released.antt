@@ -2,6 +2,7 @@
 use Prim.Native.Nat.{ℕ, _+_, _*_, _^_, _≤_, _<_}
 use mathlib.Core.List.{List}
 use Rattle.wide.specs.Numbers.{value, wordsOf}
+use Rattle.form.specs.Bytes.{number}
 use Rattle.form.specs.Sums.{sumOf}
 use Rattle.totals.specs.Masses.{carbon}
 use Rattle.totals.specs.declared.Carbon.{Carbon}
@@ -24,6 +25,10 @@ pub record Thousandths (by : Ratios) : Type 0 where
   pub co : by .co ≤ 1000
   pub n2o : by .n2o ≤ 1000
   pub nox : by .nox ≤ 1000
+
+-- five numbers of two bytes each, in the order of §5: "N/C, CH4, CO, N2O and NOx"
+abbrev pub ratiosAt : List ℕ → ℕ → Ratios
+ratiosAt s at = record { nc = number 2 s at; ch4 = number 2 s (at + 2); co = number 2 s (at + 4); n2o = number 2 s (at + 6); nox = number 2 s (at + 8) }
 
 -- carbon by the gas's ratio, or carbon by N/C and the gas's ratio
 unfoldable pub releasedOf : Carbon → Ratios → Released

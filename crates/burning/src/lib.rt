@@ -1,9 +1,11 @@
 // What burning gives off: of carbon by ratios what goes off with each gas, of a row or of all rows; and the gases in tonnes.
 ghost use mathlib.Core.Path.{_≡_};
-ghost use Prim.Native.Nat.{_^_, _≤_, _<_};
+ghost use Prim.Native.Nat.{_+_, _^_, _≤_, _<_};
+ghost use lib.ListN.{length};
 ghost use Rattle.wide.specs.Numbers.{value};
-ghost use Rattle.burning.specs.Released.{Thousandths, releasedOf, plus, none, Room};
+ghost use Rattle.burning.specs.Released.{Thousandths, ratiosAt, releasedOf, plus, none, Room};
 ghost use Rattle.burning.specs.Gases.{Fits, gasOfCarbon, gasOfNitrogen, gasesOf};
+use form::two_at;
 use totals::Carbon;
 use wide::Wide;
 use wide::add;
@@ -42,6 +44,20 @@ pub struct Gases {
     pub co: Gas,
     pub n2o: Gas,
     pub nox: Gas,
+}
+
+// The ratios that stand one after the other in a row, two bytes each.
+pub fn ratios_at(bytes: &[u8], at: usize) -> Ratios
+    requires { ⌜ at + 10 ≤ length (now bytes) ⌝ }
+    ensures { λ r. ⌜ r ≡ ratiosAt (now (bytes .entry)) at ⌝ }
+{
+    Ratios {
+        nc: two_at(bytes, at),
+        ch4: two_at(bytes, at + 2),
+        co: two_at(bytes, at + 4),
+        n2o: two_at(bytes, at + 6),
+        nox: two_at(bytes, at + 8),
+    }
 }
 
 // What goes off of some carbon, by ratios: two words each.
@@ -89,7 +105,7 @@ pub fn add_row(t: Released, p: Released) -> Released
 
 // A gas that holds carbon: so many thirds of the carbon's weight.
 fn gas_of_carbon(c: CarbonReleased, thirds: u32, finer: u32) -> Gas
-    requires { ⌜ (value (c .0) < 2 ^ 100) × (thirds ≤ 1000) × (0 < finer) ⌝ }
+    requires { ⌜ (value (c .0) < 2 ^ 102) × (thirds ≤ 1000) × (0 < finer) ⌝ }
     ensures { λ r. ⌜ r ≡ gasOfCarbon thirds c finer ⌝ }
 {
     Gas(rounded(times(c.0, thirds), 3000, 1000000000, finer))
@@ -97,7 +113,7 @@ fn gas_of_carbon(c: CarbonReleased, thirds: u32, finer: u32) -> Gas
 
 // A gas that holds nitrogen: so many sevenths of the nitrogen's weight.
 fn gas_of_nitrogen(n: NitrogenReleased, sevenths: u32, finer: u32) -> Gas
-    requires { ⌜ (value (n .0) < 2 ^ 100) × (sevenths ≤ 1000) × (0 < finer) ⌝ }
+    requires { ⌜ (value (n .0) < 2 ^ 102) × (sevenths ≤ 1000) × (0 < finer) ⌝ }
     ensures { λ r. ⌜ r ≡ gasOfNitrogen sevenths n finer ⌝ }
 {
     Gas(rounded(times(n.0, sevenths), 7000000, 1000000000, finer))

@@ -1,4 +1,4 @@
--- "Proved as a single table, under one claim about all of it": 01's cases (a) to (j), seven of edition 2, four of halves, one of a row thinner in both periods, one of the largest savannas, two of wood, three of mineral soils, two of number 13, nine of scattered trees and number 14 and one of where every tonne went, each a whole return with its complete answer, every figure of it.
+-- "Proved as a single table, under one claim about all of it": 01's cases (a) to (j), eight of edition 2, four of halves, one of a row thinner in both periods, one of the largest savannas, two of wood, three of mineral soils, two of number 13, nine of scattered trees and number 14 one of where every tonne went and three of crop residues, each a whole return with its complete answer, every figure of it.
 -- Where the case is about rows, the return is made of them by the definition of writing; where it is about bytes, the bytes stand here. An accepted return of rows is answered from the rows (FromRows), any other from its bytes.
 use Prim.Native.Nat.{ℕ, zero, suc}
 use mathlib.Core.Path.{_≡_, refl, ap, ap₂, _∙_}
@@ -38,6 +38,8 @@ use Rattle.savannas.specs.Savannas.{carbonShare, carbonPart, savannasOf}
 use Rattle.savannas.specs.declared.Savannas.{Savannas}
 use Rattle.soils.specs.Soils.{soilCarbon, stockNow, stockThen, allStocks, soilGain, soilChange, soilsOf}
 use Rattle.soils.specs.declared.Soils.{Soils}
+use Rattle.crops.specs.Crops.{residueCarbon, cropsOf}
+use Rattle.crops.specs.declared.Crops.{Crops}
 use Rattle.ledger.specs.Ledger.{entered}
 use Rattle.ledger.specs.Derived.{stocksOf, conversionOf}
 use Rattle.ledger.specs.declared.Stocks.{Stocks}
@@ -77,11 +79,11 @@ abbrev pub caseOf : Entry → Case
 caseOf (of-rows edition l a) = record { bytes = written edition l; answer = a }
 caseOf (of-bytes s a) = record { bytes = s; answer = a }
 
-abbrev figured : Stocks → Conversion × Periods → Gases → Abandoned → Savannas → Soils → ℕ → Matter → List ℕ → Complete
-figured a b c l v s t m d = record { sheets = worked (record { stocks = a; conversion = b .0; thinner = b .1; gases = c; abandoned = l; savannas = v; soils = s; scattered = stockRows t; matter = m }); doubles = d }
+abbrev figured : Stocks → Conversion × Periods → Gases → Abandoned → Savannas → Soils → ℕ → Matter → Crops → List ℕ → Complete
+figured a b c l v s t m r d = record { sheets = worked (record { stocks = a; conversion = b .0; thinner = b .1; gases = c; abandoned = l; savannas = v; soils = s; scattered = stockRows t; matter = m; crops = r }); doubles = d }
 
-abbrev pub worked-all : ℕ → Lists → Stocks → Conversion × Periods → Gases → Abandoned → Savannas → Soils → ℕ → Matter → List ℕ → Entry
-worked-all edition rows a b c l v s t m d = of-rows edition rows (figured a b c l v s t m d)
+abbrev pub worked-all : ℕ → Lists → Stocks → Conversion × Periods → Gases → Abandoned → Savannas → Soils → ℕ → Matter → Crops → List ℕ → Entry
+worked-all edition rows a b c l v s t m r d = of-rows edition rows (figured a b c l v s t m r d)
 
 -- the lines of 01, in their order, and the thinner periods with 5-2
 abbrev pub sheet51 : ℕ → ℕ → ℕ → ℤ → ℤ → ℤ → ℤ → ℤ → Stocks
@@ -108,7 +110,11 @@ sheet55 g c = record { soil = soilGain g; change = soilChange c }
 abbrev pub masses : ℕ → ℕ → ℕ → ℕ → ℕ → Matter
 masses oxidised charcoal oxidisedOff charcoalOff unburned = record { onsite = burnedOf oxidised charcoal; offsite = burnedOf oxidisedOff charcoalOff; unburned = dryMatter unburned }
 
--- with none of them: no cleared biomass, no savannas, no mineral soils
+-- crop residues, in the order of their lines
+abbrev pub sheet44 : ℕ → ℕ → ℕ → ℕ → ℕ → Crops
+sheet44 b h c n x = record { carbon = carbon b; gases = sheet53 h c n x }
+
+-- with none of them: no cleared biomass, no savannas, no mineral soils, no crop residues
 abbrev none13 : Matter
 none13 = masses 0 0 0 0 0
 
@@ -118,12 +124,15 @@ none43 = sheet43 0 0 0 0 0
 abbrev none55 : Soils
 none55 = sheet55 (pos 0) (pos 0)
 
+abbrev none44 : Crops
+none44 = sheet44 0 0 0 0 0
+
 abbrev pub worked-out : ℕ → Lists → Stocks → Conversion × Periods → Gases → Abandoned → List ℕ → Entry
-worked-out edition rows a b c l d = worked-all edition rows a b c l none43 none55 0 none13 d
+worked-out edition rows a b c l d = worked-all edition rows a b c l none43 none55 0 none13 none44 d
 
 -- with cleared biomass
 abbrev pub worked-cleared : ℕ → Lists → Stocks → Conversion × Periods → Gases → Abandoned → Matter → List ℕ → Entry
-worked-cleared edition rows a b c l m d = worked-all edition rows a b c l none43 none55 0 m d
+worked-cleared edition rows a b c l m d = worked-all edition rows a b c l none43 none55 0 m none44 d
 
 abbrev pub refused : List ℕ → ℕ → ℕ → Entry
 refused s n p = of-bytes s (record { sheets = refusal n p; doubles = [] })
@@ -175,13 +184,13 @@ largest i (suc n) = row i 1000000 10000 0 1000 ++ largest (suc i) n
 
 -- conversion rows alone, with harvest rows, and stock rows alone, with the default parameters
 abbrev converted : List ℕ → Lists
-converted c = c ∷ [] ∷ [] ∷ defaults ∷ [] ∷ [] ∷ [] ∷ []
+converted c = c ∷ [] ∷ [] ∷ defaults ∷ [] ∷ [] ∷ [] ∷ [] ∷ []
 
 abbrev cleared : List ℕ → List ℕ → Lists
-cleared c h = c ∷ [] ∷ h ∷ defaults ∷ [] ∷ [] ∷ [] ∷ []
+cleared c h = c ∷ [] ∷ h ∷ defaults ∷ [] ∷ [] ∷ [] ∷ [] ∷ []
 
 abbrev grown : List ℕ → Lists
-grown s = [] ∷ s ∷ [] ∷ defaults ∷ [] ∷ [] ∷ [] ∷ []
+grown s = [] ∷ s ∷ [] ∷ defaults ∷ [] ∷ [] ∷ [] ∷ [] ∷ []
 
 -- 10 kha growing 6.8 t/ha a year, half of it carbon; and 20 kha, abandoned longer, growing 3 t/ha, 0.45 of it carbon
 abbrev land : List ℕ
@@ -214,9 +223,21 @@ lost area = 1 ∷ 0 ∷ 0 ∷ 0 ∷ area ∷ 1 ∷ 100 ∷ 100 ∷ 10 ∷ 2 ∷ 
 abbrev trees : ℕ → List ℕ
 trees i = i ∷ 1 ∷ 100 ∷ 300 ∷ 450 ∷ []
 
--- the worked day's rows with a row of grass behind its conversion row and one of scattered trees behind its stock row, and a row of abandoned land, one of savanna and those of the felled forest behind all
-abbrev with-land : Lists
-with-land = cut (30 ∷ 10 ∷ 5 ∷ 6 ∷ 7 ∷ 14 ∷ 18 ∷ []) (take 15 dayArea ++ (grass ++ (take 5 (drop 15 dayArea) ++ (trees 2 ++ (drop 20 dayArea ++ (land ++ (burning ++ felled)))))))
+-- 1,000 kt of wheat with 1.3 of straw to one of grain, 0.85 of it dry matter, of which a quarter burns in the field: 0.9 of that oxidised, and 0.4853 of it carbon; and the crop's own ratios
+abbrev pub wheat : List ℕ
+wheat = 1 ∷ 10000 ∷ 130 ∷ 850 ∷ 250 ∷ 900 ∷ 4853 ∷ 12 ∷ 5 ∷ 60 ∷ 7 ∷ 121 ∷ []
+
+-- n of the largest crop rows, with the ids i, i + 1 and so on
+unfoldable pub largestCrops : ℕ → ℕ → List ℕ
+largestCrops i zero = []
+largestCrops i (suc n) =
+    i ∷ 10000000 ∷ 1000 ∷ 1000 ∷ 1000 ∷ 1000 ∷ 10000 ∷ 1000 ∷ 1000 ∷ 1000 ∷ 1000 ∷ 1000
+    ∷ largestCrops (suc i) n
+
+-- the worked day's rows with a row of grass behind its conversion row and one of scattered trees behind its stock row, a row of abandoned land, one of savanna and those of the felled forest behind all, and then
+-- rows of crop residues
+abbrev pub with-land : List ℕ → Lists
+with-land crops = cut (30 ∷ 10 ∷ 5 ∷ 6 ∷ 7 ∷ 14 ∷ 18 ∷ length crops ∷ []) (take 15 dayArea ++ (grass ++ (take 5 (drop 15 dayArea) ++ (trees 2 ++ (drop 20 dayArea ++ (land ++ (burning ++ (felled ++ crops))))))))
 
 -- edition 2 blocks of these kinds, of n in all, the first being number b, each with one row of zeros
 unfoldable pub blocksFrom : ℕ → ℕ → List ℕ → List ℕ
@@ -229,7 +250,7 @@ twice-thinner = 1 ∷ 7 ∷ 49 ∷ 100 ∷ 500 ∷ 900 ∷ 450 ∷ 300 ∷ 900 �
 
 -- an area burned whole, at a difference of 1 and a fraction of 250, and land that was given up, at a growth of 10 and a carbon fraction of 100
 abbrev burned : ℕ → ℕ → Lists
-burned area young = row 1 area 1 0 250 ∷ [] ∷ [] ∷ defaults ∷ (1 ∷ young ∷ 10 ∷ 100 ∷ 0 ∷ 0 ∷ 0 ∷ []) ∷ [] ∷ [] ∷ []
+burned area young = row 1 area 1 0 250 ∷ [] ∷ [] ∷ defaults ∷ (1 ∷ young ∷ 10 ∷ 100 ∷ 0 ∷ 0 ∷ 0 ∷ []) ∷ [] ∷ [] ∷ [] ∷ []
 
 abbrev table01 : List Entry
 table01 =
@@ -242,7 +263,7 @@ table01 =
     (masses 64800000000 7200000000 32400000000 3600000000 72000000000)
     (4809131602776948736 ∷ 4804628003149578240 ∷ 4810524802404319232 ∷ [])
     -- (b) "the lone parameter block of zero values, check 18: all figures 0"
-    ∷ of-bytes (lone 18) (figured none51 none52 none53 none54 none43 none55 0 none13 zeros)
+    ∷ of-bytes (lone 18) (figured none51 none52 none53 none54 none43 none55 0 none13 none44 zeros)
     -- (c) "P = 1,500,000 gives Q = 6": a stock row of 15 x 100 x 10
     ∷ worked-out 1 (grown (1 ∷ 0 ∷ 100 ∷ 15 ∷ 10 ∷ [])) (sheet51 15000 0 0 (pos 0) (pos 0) (pos 1500000) (pos 6) (negsuc 5)) none52 none53 none54 zeros
     -- (d) "P = -1,500,000 gives -6": wood used, 40, above the wood cleared, 10 x 10 x 10, at N 500
@@ -273,10 +294,10 @@ table01 =
 -- and of edition 2
 abbrev table-1 : List Entry
 table-1 =
-    -- the day in edition 2 with a row of grass, which is thinner in its one period, one of scattered trees, one of abandoned land, 34 + 27 kt C by 11/3, one of savanna and two of soil: (a)'s figures, with 1.35 kt C
+    -- the day in edition 2 with a row of grass, which is thinner in its one period, one of scattered trees, one of abandoned land, 34 + 27 kt C by 11/3, one of savanna, two of soil and one of wheat: (a)'s figures, with 1.35 kt C
     -- more of growth, and
-    -- 29,750,000 x (162,000,000 + 220,000,000), which is 60.6, 1,591.03, 0.75 and 27.1 t; and a balanced change of land use, 34.08 t/ha lost on 1 Mha in twenty years
-    worked-all 2 with-land
+    -- 29,750,000 x (162,000,000 + 220,000,000), which is 60.6, 1,591.03, 0.75 and 27.1 t; and a balanced change of land use, 34.08 t/ha lost on 1 Mha in twenty years; and 120.7 kt of carbon in burned straw, which is 804.4, 16,892.08, 15.93 and 575.6 t
+    worked-all 2 (with-land wheat)
     (sheet51 353500000 775000 36000000 (pos 41500000) (pos 20750000000) (pos 14600000000) (pos 53533) (negsuc 53532))
     (sheet52 32400000000000 16200000000000 48600000000000 40500000000000 326700 1)
     (sheet53 518 4536 4 129)
@@ -285,11 +306,24 @@ table-1 =
     (sheet55 (negsuc 340799999999) (negsuc 1703999))
     1
     (masses 64800000000 7200000000 32400000000 3600000000 72000000000)
+    (sheet44 1206577125000000000 804 16892 16 576)
+    (4809131602776948736 ∷ 4804628003149578240 ∷ 4810524802404319232 ∷ [])
+    -- the same day without its crop residues: every other figure is the same
+    ∷ worked-all 2 (with-land [])
+    (sheet51 353500000 775000 36000000 (pos 41500000) (pos 20750000000) (pos 14600000000) (pos 53533) (negsuc 53532))
+    (sheet52 32400000000000 16200000000000 48600000000000 40500000000000 326700 1)
+    (sheet53 518 4536 4 129)
+    (sheet54 610000000 223667)
+    (sheet43 11364500000000000 61 1591 1 27)
+    (sheet55 (negsuc 340799999999) (negsuc 1703999))
+    1
+    (masses 64800000000 7200000000 32400000000 3600000000 72000000000)
+    none44
     (4809131602776948736 ∷ 4804628003149578240 ∷ 4810524802404319232 ∷ [])
     -- the same rows in edition 1: "3 for .. a kind above 4 in edition 1", at the block of abandoned land
-    ∷ refused (written 1 with-land) 3 4
+    ∷ refused (written 1 (with-land wheat)) 3 4
     -- edition 2 that ends with a harvest row: "4 .. a last block below kind 4"
-    ∷ refused (written 2 ([] ∷ [] ∷ used 30 ∷ [] ∷ [] ∷ [] ∷ [] ∷ [])) 4 0
+    ∷ refused (written 2 ([] ∷ [] ∷ used 30 ∷ [] ∷ [] ∷ [] ∷ [] ∷ [] ∷ [])) 4 0
     -- "kind 4 before a kind below 5", at the block of kind 4; "a kind above 4 with no kind 4 before it"
     ∷ refused (blocksFrom 0 2 (4 ∷ 3 ∷ [])) 4 0
     ∷ refused (blocksFrom 0 1 (5 ∷ [])) 4 0
@@ -317,11 +351,12 @@ table-3 = worked-out 1 (converted twice-thinner) none51 (thin52 2) none53 none54
 -- 32 of the largest savanna rows: 10^22 each, beyond one word
 abbrev table-5 : List Entry
 table-5 =
-    worked-all 2 ([] ∷ [] ∷ [] ∷ defaults ∷ [] ∷ largestFires 1 32 ∷ [] ∷ []) none51 none52 none53 none54
+    worked-all 2 ([] ∷ [] ∷ [] ∷ defaults ∷ [] ∷ largestFires 1 32 ∷ [] ∷ [] ∷ []) none51 none52 none53 none54
     (sheet43 320000000000000000000000 426666666667 746666666667 502857142857 1051428571429)
     none55
     0
     none13
+    none44
     zeros
     ∷ []
 
@@ -334,10 +369,10 @@ table-8 =
 
 -- mineral soils alone
 abbrev soil-rows : List ℕ → Lists
-soil-rows rows = [] ∷ [] ∷ [] ∷ defaults ∷ [] ∷ [] ∷ rows ∷ []
+soil-rows rows = [] ∷ [] ∷ [] ∷ defaults ∷ [] ∷ [] ∷ rows ∷ [] ∷ []
 
 abbrev soiled : List ℕ → ℤ → ℤ → Entry
-soiled rows g c = worked-all 2 (soil-rows rows) none51 none52 none53 none54 none43 (sheet55 g c) 0 none13 zeros
+soiled rows g c = worked-all 2 (soil-rows rows) none51 none52 none53 none54 none43 (sheet55 g c) 0 none13 none44 zeros
 
 -- below zero too a half of a year's change goes to even: from -2.5 to -2, from -1.5 to -2, and from -0.5 to 0, which has no sign
 abbrev table-11 : List Entry
@@ -351,7 +386,7 @@ table-11 =
 abbrev table-12 : List Entry
 table-12 =
     worked-all 1 (grown (trees 1 ++ ((2 ∷ 0 ∷ 100 ∷ 15 ∷ 10 ∷ []) ++ trees 3)))
-    (sheet51 27015000 0 0 (pos 0) (pos 0) (pos 2701500000) (pos 9906) (negsuc 9905)) none52 none53 none54 none43 none55 2 none13 zeros
+    (sheet51 27015000 0 0 (pos 0) (pos 0) (pos 2701500000) (pos 9906) (negsuc 9905)) none52 none53 none54 none43 none55 2 none13 none44 zeros
     ∷ []
 
 -- one patch of a soil type, by its id and its areas now and twenty years ago
@@ -373,7 +408,7 @@ stock-of i code = i ∷ code ∷ 100 ∷ 15 ∷ 10 ∷ []
 -- such a row worked out, in an edition: code 1 is one row of scattered trees, and code 0 none
 abbrev growing : ℕ → ℕ → Entry
 growing edition code =
-    worked-all edition (grown (stock-of 1 code)) (sheet51 15000 0 0 (pos 0) (pos 0) (pos 1500000) (pos 6) (negsuc 5)) none52 none53 none54 none43 none55 code none13 zeros
+    worked-all edition (grown (stock-of 1 code)) (sheet51 15000 0 0 (pos 0) (pos 0) (pos 1500000) (pos 6) (negsuc 5)) none52 none53 none54 none43 none55 code none13 none44 zeros
 
 -- "Edition 3 has no unit code 1"
 abbrev table-14 : List Entry
@@ -388,7 +423,7 @@ table-14 =
     ∷ refused (written 3 (grown (stock-of 1 2))) 6 0
     -- 6 is tried over all rows first, though 14's place is lower; and 14 before 7
     ∷ refused (written 3 (grown (stock-of 1 1 ++ stock-of 2 2))) 6 1
-    ∷ refused (written 3 (wood 1 10 500 300 201 ∷ stock-of 1 1 ∷ used 31 ∷ defaults ∷ [] ∷ [] ∷ [] ∷ [])) 14 12
+    ∷ refused (written 3 (wood 1 10 500 300 201 ∷ stock-of 1 1 ∷ used 31 ∷ defaults ∷ [] ∷ [] ∷ [] ∷ [] ∷ [])) 14 12
     -- "3 lets edition 3 in", and not a fourth
     ∷ refused (written 4 (grown (stock-of 1 0))) 3 0
     ∷ []
@@ -404,21 +439,34 @@ table-tonnes =
     (masses 13500000 1500000 7200000 1800000 6000000) zeros
     ∷ []
 
-abbrev entries : List Entry
-entries = table01 ++ (table-1 ++ (table-2 ++ (table-3 ++ (table-5 ++ (table-8 ++ (table-11 ++ (table-12 ++ (table-13 ++ (table-14 ++ table-tonnes)))))))))
+-- 32 of the largest crop rows: 10^23 each, beyond one word, and 3.2 x 10^30 of nitrogen by a ratio; two crops, each with its own ratios, in edition 3; kind 8 is not in edition 1
+abbrev crop-rows : List ℕ → Lists
+crop-rows rows = [] ∷ [] ∷ [] ∷ defaults ∷ [] ∷ [] ∷ [] ∷ rows ∷ []
+
+abbrev table-44 : List Entry
+table-44 =
+    worked-all 2 (crop-rows (largestCrops 1 32)) none51 none52 none53 none54 none43 none55 0 none13
+    (sheet44 3200000000000000000000000 426666666667 746666666667 502857142857 1051428571429)
+    zeros
+    ∷ worked-all 3 (crop-rows (wheat ++ (2 ∷ 375 ∷ 1 ∷ 1000 ∷ 1000 ∷ 1000 ∷ 10000 ∷ 70 ∷ 3 ∷ 12 ∷ 400 ∷ 400 ∷ []))) none51 none52 none53 none54 none43 none55 0 none13 (sheet44 1210327125000000000 806 16903 32 610) zeros
+    ∷ refused (written 1 (crop-rows wheat)) 3 1
+    ∷ []
+
+abbrev pub entries : List Entry
+entries = table01 ++ (table-1 ++ (table-2 ++ (table-3 ++ (table-5 ++ (table-8 ++ (table-11 ++ (table-12 ++ (table-13 ++ (table-14 ++ (table-tonnes ++ table-44))))))))))
 
 abbrev pub table : List Case
 table = map caseOf entries
 
 -- what is to be computed of a case, and what it is to be: that no rule refuses the rows, with the answer that they have
-abbrev worksOut : Entry → Ruling × Complete
+abbrev pub worksOut : Entry → Ruling × Complete
 worksOut (of-rows edition l a) = (
   ruling (listRules edition (map length l) (flatten l)),
   record { sheets = worked (figuresOf (rowsGiven l)); doubles = bitsOf (Figures (subtotalsOf (rowsGiven l 1))) },
 )
 worksOut (of-bytes s a) = (Clean, completeOf s)
 
-abbrev wanted : Entry → Ruling × Complete
+abbrev pub wanted : Entry → Ruling × Complete
 wanted e = (Clean, caseOf e .answer)
 
 due-said : (e : Entry) → worksOut e ≡ wanted e → completeOf (caseOf e .bytes) ≡ caseOf e .answer
@@ -443,8 +491,8 @@ in-turn (e ∷ es) p =
     (due-said e (ap (λ (l : List (Ruling × Complete)). getD l 0 (wanted e)) p))
     (in-turn es (ap (λ (l : List (Ruling × Complete)). drop 1 l) p))
 
-all-worked : map worksOut entries ≡ map wanted entries
-unfolding toBits ofInt mul add onsiteDouble offsiteDouble decayDouble addRows largest largestFires blocksFrom computed cut filedList behind filedFrom littleEndian recordFrom inTurn headOf sealed weighed recordOn usedFrom bodyOf blockOf bytesOf rowsBelow rowFrom number evenOf settled sumOf scatteredPart stockPart harvestPart clearedPart onsitePart offsitePart decayPart countedDifference thinnerPart stocksOf conversionOf gasesOf abandonedOf abandonedPart savannasOf rowsFrom flatten total badList badLengths notAllowed listRules carbonShare carbonPart value wordsOf totalsOf entered releasedOf burnedBy soilCarbon stockNow stockThen allStocks soilsOf lostBiomass oxidisedOnsitePart charcoalOnsitePart oxidisedOffsitePart charcoalOffsitePart unburnedPart matterOf
+pub all-worked : map worksOut entries ≡ map wanted entries
+unfolding toBits ofInt mul add onsiteDouble offsiteDouble decayDouble addRows largest largestFires blocksFrom computed cut filedList behind filedFrom littleEndian recordFrom inTurn headOf sealed weighed recordOn usedFrom bodyOf blockOf bytesOf rowsBelow rowFrom number evenOf settled sumOf scatteredPart stockPart harvestPart clearedPart onsitePart offsitePart decayPart countedDifference thinnerPart stocksOf conversionOf gasesOf abandonedOf abandonedPart savannasOf rowsFrom flatten total badList badLengths notAllowed listRules carbonShare carbonPart value wordsOf totalsOf entered releasedOf burnedBy soilCarbon stockNow stockThen allStocks soilsOf lostBiomass oxidisedOnsitePart charcoalOnsitePart oxidisedOffsitePart charcoalOffsitePart unburnedPart matterOf largestCrops residueCarbon cropsOf
 all-worked = refl
 
 -- every return of the table has the answer beside it, as the checker computes them

@@ -56,7 +56,7 @@ short-bytes = refl
 
 -- its edition and its row counts
 abbrev pub dayCounts : Counts
-dayCounts = record { edition = 1; conversion = 1; stock = 1; harvest = 1; parameters = 1; abandoned = 0; savanna = 0; soils = 0; scattered = 0 }
+dayCounts = record { edition = 1; conversion = 1; stock = 1; harvest = 1; parameters = 1; abandoned = 0; savanna = 0; soils = 0; crops = 0; scattered = 0 }
 
 -- judged by the round trip, and so but once: its bytes are what is written of its rows, which no rule refuses
 day-clean : ruling (listRules 1 dayLengths dayArea) ≡ Clean
@@ -80,10 +80,10 @@ fits : first (outgrown day 32) (suc kinds) ≡ Nowhere
 unfolding first kinds rowsBelow rowFrom number flatten inTurn
 fits = refl
 
-pub day-read : readAnswer day (replicate 32 9) ≡ Accepted (record { edition = 1; conversion = 1; stock = 1; harvest = 1; parameters = 1; abandoned = 0; savanna = 0; soils = 0; scattered = 0 })
+pub day-read : readAnswer day (replicate 32 9) ≡ Accepted (record { edition = 1; conversion = 1; stock = 1; harvest = 1; parameters = 1; abandoned = 0; savanna = 0; soils = 0; crops = 0; scattered = 0 })
 day-read = sym (all-read day (replicate 32 9) dayCounts day-judged fits)
 
-pub day-rows : roomAfter day (replicate 32 9) (Accepted (record { edition = 1; conversion = 1; stock = 1; harvest = 1; parameters = 1; abandoned = 0; savanna = 0; soils = 0; scattered = 0 })) ≡ dayArea ++ (9 ∷ [])
+pub day-rows : roomAfter day (replicate 32 9) (Accepted (record { edition = 1; conversion = 1; stock = 1; harvest = 1; parameters = 1; abandoned = 0; savanna = 0; soils = 0; crops = 0; scattered = 0 })) ≡ dayArea ++ (9 ∷ [])
 unfolding kinds rowsBelow rowFrom number flatten inTurn
 day-rows = refl
 

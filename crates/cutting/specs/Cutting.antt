@@ -15,7 +15,7 @@ use Rattle.cutting.specs.declared.Next.the-variants.{Return, Stopped}
 abbrev pub mostReturns : ℕ
 mostReturns = 500
 
--- "a first header that says 0 blocks or more than 16", which with §11 is 19, the most a return has, "or a file that ends inside a return": by the number that it says, and how many bytes are left
+-- "a first header that says 0 blocks or more than 16", which with §14 is 22, the most a return has, "or a file that ends inside a return": by the number that it says, and how many bytes are left
 unfoldable pub sizedBy : ℕ → ℕ → Next
 sizedBy n left = cond (eqb n 0 || ltb mostBlocks n) (Stopped (Blocks n)) (cond (ltb left (512 * n)) (Stopped Short) (Return (512 * n)))
 

@@ -64,6 +64,7 @@ pub fn decode_kind(
         5 => decode_rows(bytes, 5, place, n, room, start),
         6 => decode_rows(bytes, 6, place, n, room, start),
         7 => decode_rows(bytes, 7, place, n, room, start),
+        8 => decode_rows(bytes, 8, place, n, room, start),
         _ => decode_rows(bytes, kind, place, n, room, start),
     }
 }

@@ -145,11 +145,11 @@ none-said : printedNation (block 1 18 ++ block 0 13) ≡ text ("stopped 2 blocks
 unfolding computedNation text noFigures block
 none-said = refl
 
-long-said : printedNation (block 1 18 ++ block 20 13) ≡ text ("stopped 2 blocks 20" ∷ "accepted 1" ∷ "refused 0" ∷ noFigures)
+long-said : printedNation (block 1 18 ++ block 23 13) ≡ text ("stopped 2 blocks 23" ∷ "accepted 1" ∷ "refused 0" ∷ noFigures)
 unfolding computedNation text noFigures block
 long-said = refl
 
--- five bytes, and one block of two, and of nineteen, the most
+-- five bytes, and one block of two, and of twenty-two, the most
 head-short : printedNation (block 1 18 ++ replicate 5 1) ≡ text ("stopped 2 short" ∷ "accepted 1" ∷ "refused 0" ∷ noFigures)
 unfolding computedNation text noFigures block
 head-short = refl
@@ -158,6 +158,6 @@ rest-short : printedNation (block 1 18 ++ block 2 18) ≡ text ("stopped 2 short
 unfolding computedNation text noFigures block
 rest-short = refl
 
-most-short : printedNation (block 1 18 ++ block 19 18) ≡ text ("stopped 2 short" ∷ "accepted 1" ∷ "refused 0" ∷ noFigures)
+most-short : printedNation (block 1 18 ++ block 22 18) ≡ text ("stopped 2 short" ∷ "accepted 1" ∷ "refused 0" ∷ noFigures)
 unfolding computedNation text noFigures block
 most-short = refl

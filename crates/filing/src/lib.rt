@@ -92,6 +92,7 @@ fn write_record(kind: usize, rows: &[u32], from: usize, out: &mut [u8], to: usiz
         5 => write_fields(5, rows, from, out, to),
         6 => write_fields(6, rows, from, out, to),
         7 => write_fields(7, rows, from, out, to),
+        8 => write_fields(8, rows, from, out, to),
         _ => write_fields(kind, rows, from, out, to),
     }
 }

@@ -16,7 +16,7 @@ use Rattle.form.proofs.Tests.{and-true}
 
 -- kept by a loop over the kinds, so that its steps know it
 abbrev pub KindsAre : Type 0
-KindsAre = kinds ≡ 7
+KindsAre = kinds ≡ 8
 
 pub kinds-are : KindsAre
 unfolding kinds

@@ -1,4 +1,4 @@
--- "A return is 1 to .. blocks of 512 bytes", 19 in every edition: the header, the check, and rules 1 to 4, each the test that a place breaks it.
+-- "A return is 1 to .. blocks of 512 bytes", 22 in every edition: the header, the check, and rules 1 to 4, each the test that a place breaks it.
 use Prim.Native.Nat.{ℕ, zero, suc, _+_, _-_, _*_, _/_, _%_}
 use mathlib.Core.Bool.{Bool, cond, not, _&&_, _||_}
 use mathlib.Core.List.{List, [], _∷_}
@@ -9,7 +9,7 @@ use Rattle.form.specs.Bytes.{byteAt, number, strayIn}
 use Rattle.form.specs.Layout.{kinds, parametersKind, layout, strayAt}
 use Rattle.form.specs.Edition.{lastKind, known}
 
--- "Lengths go to 13 blocks in either edition", with savannas "grow by three blocks", and with soils by "three blocks more": three of each kind, for its 32 rows, and one of parameters
+-- "Lengths go to 13 blocks in either edition", with savannas "grow by three blocks", and with soils, and again with crop residues, by "three blocks more": three of each kind, for its 32 rows, and one of parameters
 abbrev pub mostBlocks : ℕ
 mostBlocks = 3 * (kinds - 1) + 1
 
@@ -62,7 +62,7 @@ badLength s = eqb (length s) 0 || ltb longest (length s) || not (eqb (length s %
 unfoldable pub badCheck : List ℕ → ℕ → Bool
 badCheck s b = not (eqb (checkSaid s b) (checkDue s b))
 
--- 3: "kind not 1 to" the edition's last, 4 in edition 1 and 7 in editions 2 and 3, "wrong block number, wrong number of blocks"; "an edition other than 1 or 2", but
+-- 3: "kind not 1 to" the edition's last, 4 in edition 1 and 8 in editions 2 and 3, "wrong block number, wrong number of blocks"; "an edition other than 1 or 2", but
 -- "3 lets edition 3 in", "an edition unlike block 0's, or a kind above 4 in edition 1"
 unfoldable pub badHeader : List ℕ → ℕ → Bool
 badHeader s b =

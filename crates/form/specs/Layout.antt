@@ -89,7 +89,24 @@ soil =
     ∷ soilFactor ∷ soilFactor ∷ soilFactor
     ∷ []
 
--- "1 conversion, 2 stock, 3 harvest, 4 parameters", 5 abandoned land, 6 savanna, 7 mineral soil: the kinds in order, from 1 on. A new kind is a new line.
+-- §14: "residue ratio (0.01, to 1,000)"
+abbrev pub residueRatioField : Field
+residueRatioField = field 0 2 1000
+
+-- §14: "carbon fraction (0.0001, to 10,000)"
+abbrev pub cropCarbonField : Field
+cropCarbonField = field 0 2 10000
+
+-- §14: "production (0.1 kt, to 10,000,000), residue ratio .., dry matter, burned and oxidised fractions (0.001), carbon fraction .., N/C and four ratios per crop
+-- in §5's order (0.001)"
+abbrev pub crop : Layout
+crop =
+    id ∷ field 0 4 10000000 ∷ residueRatioField
+    ∷ fraction ∷ fraction ∷ fraction
+    ∷ cropCarbonField
+    ∷ fraction ∷ fraction ∷ fraction ∷ fraction ∷ fraction ∷ []
+
+-- "1 conversion, 2 stock, 3 harvest, 4 parameters", 5 abandoned land, 6 savanna, 7 mineral soil, 8 crop residues: the kinds in order, from 1 on. A new kind is a new line.
 abbrev pub layouts : List Layout
 layouts =
     conversion
@@ -99,6 +116,7 @@ layouts =
     ∷ abandoned
     ∷ savanna
     ∷ soil
+    ∷ crop
     ∷ []
 
 -- how many kinds there are
@@ -117,7 +135,7 @@ layout kind = getD ([] ∷ layouts) kind []
 abbrev pub fieldAt : Layout → ℕ → Field
 fieldAt l i = getD l i (field 0 0 0)
 
--- "15, 5, 5 and 6 numbers of 32 bits", 7 of abandoned land, 14 of savanna and 9 of mineral soil
+-- "15, 5, 5 and 6 numbers of 32 bits", 7 of abandoned land, 14 of savanna, 9 of mineral soil and 12 of crop residues
 abbrev pub numbersOf : ℕ → ℕ
 numbersOf kind = length (layout kind)
 

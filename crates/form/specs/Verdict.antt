@@ -55,6 +55,7 @@ countsOf s = record {
   abandoned = rowCount 5 s;
   savanna = rowCount 6 s;
   soils = rowCount 7 s;
+  crops = rowCount 8 s;
   scattered = scatteredIn (rows 2 s);
 }
 
@@ -68,6 +69,7 @@ countList c =
     ∷ c .abandoned
     ∷ c .savanna
     ∷ c .soils
+    ∷ c .crops
     ∷ []
 
 -- the count of a kind; another number is no kind and has no rows

@@ -2,7 +2,7 @@
 ghost use mathlib.Core.Path.{_≡_};
 ghost use Prim.Native.Nat.{_≤_, _<_};
 ghost use lib.ListN.{length};
-ghost use Rattle.form.specs.Layout.{conversion, stock, harvest, parameters, abandoned, savanna, soil, layout, fieldAt, numbersOf};
+ghost use Rattle.form.specs.Layout.{conversion, stock, harvest, parameters, abandoned, savanna, soil, crop, layout, fieldAt, numbersOf};
 use crate::Field;
 
 const ID: Field = Field {
@@ -93,6 +93,18 @@ const SOIL_FACTOR: Field = Field {
     zeros: 0,
     width: 2,
     limit: 300,
+};
+
+const RESIDUE_RATIO: Field = Field {
+    zeros: 0,
+    width: 2,
+    limit: 1000,
+};
+
+const CROP_CARBON: Field = Field {
+    zeros: 0,
+    width: 2,
+    limit: 10000,
 };
 
 const NONE: Field = Field {
@@ -196,6 +208,22 @@ fn soil(i: usize) -> Field
     if i == 5 { NATIVE_CARBON } else { SOIL_FACTOR }
 }
 
+fn crop(i: usize) -> Field
+    requires { ⌜ i < length crop ⌝ }
+    ensures { λ r. ⌜ r ≡ fieldAt crop i ⌝ }
+{
+    if i == 0 {
+        return ID;
+    }
+    if i == 1 {
+        return AMOUNT;
+    }
+    if i == 2 {
+        return RESIDUE_RATIO;
+    }
+    if i == 6 { CROP_CARBON } else { FRACTION }
+}
+
 // A new kind is a new line.
 pub fn field(kind: usize, i: usize) -> Field
     requires { ⌜ i < numbersOf kind ⌝ }
@@ -209,6 +237,7 @@ pub fn field(kind: usize, i: usize) -> Field
         5 => abandoned(i),
         6 => savanna(i),
         7 => soil(i),
+        8 => crop(i),
         _ => NONE,
     }
 }
@@ -225,6 +254,7 @@ pub fn numbers(kind: usize) -> usize
         5 => 7,
         6 => 14,
         7 => 9,
+        8 => 12,
         _ => 0,
     }
 }

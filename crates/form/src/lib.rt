@@ -15,7 +15,7 @@ ghost use Rattle.form.specs.Standing.{blocksFor, firstBlock};
 ghost use Rattle.form.specs.Steps.{Few};
 
 // How many kinds there are, the most blocks of a return, and its most bytes. Every bound follows from the first.
-pub const KINDS: usize = 7;
+pub const KINDS: usize = 8;
 
 // The parameters' kind, of which there is always one row, with no id.
 pub const PARAMETERS: usize = 4;
@@ -56,6 +56,7 @@ pub struct Counts {
     pub abandoned: u32,
     pub savanna: u32,
     pub soils: u32,
+    pub crops: u32,
     pub scattered: u32,
 }
 
@@ -157,6 +158,7 @@ pub fn count_of(c: Counts, kind: usize) -> u32
         5 => c.abandoned,
         6 => c.savanna,
         7 => c.soils,
+        8 => c.crops,
         _ => 0,
     }
 }
@@ -189,8 +191,8 @@ pub fn last_kind(edition: u32) -> u32
 {
     match edition {
         1 => 4,
-        2 => 7,
-        3 => 7,
+        2 => 8,
+        3 => 8,
         _ => 0,
     }
 }

@@ -102,6 +102,7 @@ pub fn count_rows(bytes: &[u8]) -> Counts
         abandoned: rows_of(bytes, 5),
         savanna: rows_of(bytes, 6),
         soils: rows_of(bytes, 7),
+        crops: rows_of(bytes, 8),
         scattered: count_scattered(bytes, blocks_for(conversion as usize), stock as usize),
     }
 }

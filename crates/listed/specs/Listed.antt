@@ -57,11 +57,16 @@ listed f =
     ∷ figure (codes "oxidised_offsite") (f .matter .offsite .oxidised .0)
     ∷ figure (codes "charcoal_offsite") (f .matter .offsite .charcoal .0)
     ∷ figure (codes "unburned") (f .matter .unburned .0)
+    ∷ figure (codes "crop_carbon") (f .crops .carbon .0)
+    ∷ figure (codes "crop_ch4") (f .crops .gases .ch4 .0)
+    ∷ figure (codes "crop_co") (f .crops .gases .co .0)
+    ∷ figure (codes "crop_n2o") (f .crops .gases .n2o .0)
+    ∷ figure (codes "crop_nox") (f .crops .gases .nox .0)
     ∷ []
 
 -- how many there are: the same of every return (`counted`)
 abbrev pub figureCount : ℕ
-figureCount = 33
+figureCount = 38
 
 -- the values of a list of figures
 abbrev pub valuesOf : List Figure → List Signed

@@ -9,7 +9,7 @@ use wide::signed::Signed;
 use worksheets::sheets::Figures;
 
 // How many figures there are, and how many numbers they are.
-pub const FIGURES: usize = 33;
+pub const FIGURES: usize = 38;
 
 pub const NUMBERS: usize = 3 * FIGURES;
 
@@ -76,6 +76,16 @@ fn list(f: Figures) -> [Signed; FIGURES]
     let charcoal_offsite = Signed { below: false, size };
     let size = f.matter.unburned.0;
     let unburned = Signed { below: false, size };
+    let size = f.crops.carbon.0;
+    let crop_carbon = Signed { below: false, size };
+    let size = f.crops.gases.ch4.0;
+    let crop_ch4 = Signed { below: false, size };
+    let size = f.crops.gases.co.0;
+    let crop_co = Signed { below: false, size };
+    let size = f.crops.gases.n2o.0;
+    let crop_n2o = Signed { below: false, size };
+    let size = f.crops.gases.nox.0;
+    let crop_nox = Signed { below: false, size };
     [
         e,
         k,
@@ -110,6 +120,11 @@ fn list(f: Figures) -> [Signed; FIGURES]
         oxidised_offsite,
         charcoal_offsite,
         unburned,
+        crop_carbon,
+        crop_ch4,
+        crop_co,
+        crop_n2o,
+        crop_nox,
     ]
 }
 

@@ -32,7 +32,7 @@ abbrev pub dayArea : List ℕ
 dayArea = conversionDay ++ (stockDay ++ (harvestDay ++ parametersDay))
 
 abbrev pub dayLengths : List ℕ
-dayLengths = 15 ∷ 5 ∷ 5 ∷ 6 ∷ 0 ∷ 0 ∷ 0 ∷ []
+dayLengths = 15 ∷ 5 ∷ 5 ∷ 6 ∷ 0 ∷ 0 ∷ 0 ∷ 0 ∷ []
 
 -- the ruling, opened for computing
 unfoldable computed : List ℕ → List ℕ → Ruling
@@ -44,7 +44,7 @@ unfolding computed
 day-clean = refl
 
 -- a length short by one: a number would be dropped
-short : ruling (listRules 1 (15 ∷ 5 ∷ 4 ∷ 6 ∷ 0 ∷ 0 ∷ 0 ∷ []) dayArea) ≡ Broken 10 0
+short : ruling (listRules 1 (15 ∷ 5 ∷ 4 ∷ 6 ∷ 0 ∷ 0 ∷ 0 ∷ 0 ∷ []) dayArea) ≡ Broken 10 0
 unfolding computed
 short = refl
 
@@ -54,27 +54,27 @@ unfolding computed
 three = refl
 
 -- 33 harvest rows
-many : ruling (listRules 1 (0 ∷ 0 ∷ 165 ∷ 6 ∷ 0 ∷ 0 ∷ 0 ∷ []) (replicate 165 0 ++ parametersDay)) ≡ Broken 10 3
+many : ruling (listRules 1 (0 ∷ 0 ∷ 165 ∷ 6 ∷ 0 ∷ 0 ∷ 0 ∷ 0 ∷ []) (replicate 165 0 ++ parametersDay)) ≡ Broken 10 3
 unfolding computed
 many = refl
 
 -- no parameter row
-bare : ruling (listRules 1 (0 ∷ 0 ∷ 0 ∷ 0 ∷ 0 ∷ 0 ∷ 0 ∷ []) []) ≡ Broken 10 4
+bare : ruling (listRules 1 (0 ∷ 0 ∷ 0 ∷ 0 ∷ 0 ∷ 0 ∷ 0 ∷ 0 ∷ []) []) ≡ Broken 10 4
 unfolding computed
 bare = refl
 
 -- a second stock row with the id of the first, behind a block of one conversion row
-repeated : ruling (listRules 1 (15 ∷ 10 ∷ 0 ∷ 6 ∷ 0 ∷ 0 ∷ 0 ∷ []) (conversionDay ++ (stockDay ++ (stockDay ++ parametersDay)))) ≡ Broken 5 13
+repeated : ruling (listRules 1 (15 ∷ 10 ∷ 0 ∷ 6 ∷ 0 ∷ 0 ∷ 0 ∷ 0 ∷ []) (conversionDay ++ (stockDay ++ (stockDay ++ parametersDay)))) ≡ Broken 5 13
 unfolding computed
 repeated = refl
 
 -- a unit code of 256, wider than its byte
-wide : ruling (listRules 1 (0 ∷ 5 ∷ 0 ∷ 6 ∷ 0 ∷ 0 ∷ 0 ∷ []) (1 ∷ 256 ∷ 0 ∷ 0 ∷ 0 ∷ parametersDay)) ≡ Broken 6 0
+wide : ruling (listRules 1 (0 ∷ 5 ∷ 0 ∷ 6 ∷ 0 ∷ 0 ∷ 0 ∷ 0 ∷ []) (1 ∷ 256 ∷ 0 ∷ 0 ∷ 0 ∷ parametersDay)) ≡ Broken 6 0
 unfolding computed
 wide = refl
 
 -- the day without its harvest: what is cleared is above what is used
-uncovered : ruling (listRules 1 (15 ∷ 5 ∷ 0 ∷ 6 ∷ 0 ∷ 0 ∷ 0 ∷ []) (conversionDay ++ (stockDay ++ parametersDay))) ≡ Broken 12 0
+uncovered : ruling (listRules 1 (15 ∷ 5 ∷ 0 ∷ 6 ∷ 0 ∷ 0 ∷ 0 ∷ 0 ∷ []) (conversionDay ++ (stockDay ++ parametersDay))) ≡ Broken 12 0
 unfolding computed
 uncovered = refl
 
@@ -82,19 +82,19 @@ uncovered = refl
 abbrev abandonedDay : List ℕ
 abandonedDay = parametersDay ++ (1 ∷ 1000 ∷ 680 ∷ 500 ∷ 2000 ∷ 300 ∷ 450 ∷ [])
 
-second : ruling (listRules 2 (0 ∷ 0 ∷ 0 ∷ 6 ∷ 7 ∷ 0 ∷ 0 ∷ []) abandonedDay) ≡ Clean
+second : ruling (listRules 2 (0 ∷ 0 ∷ 0 ∷ 6 ∷ 7 ∷ 0 ∷ 0 ∷ 0 ∷ []) abandonedDay) ≡ Clean
 unfolding computed
 second = refl
 
-second-only : ruling (listRules 1 (0 ∷ 0 ∷ 0 ∷ 6 ∷ 7 ∷ 0 ∷ 0 ∷ []) abandonedDay) ≡ Broken 10 5
+second-only : ruling (listRules 1 (0 ∷ 0 ∷ 0 ∷ 6 ∷ 7 ∷ 0 ∷ 0 ∷ 0 ∷ []) abandonedDay) ≡ Broken 10 5
 unfolding computed
 second-only = refl
 
-third : ruling (listRules 3 (0 ∷ 0 ∷ 0 ∷ 6 ∷ 7 ∷ 0 ∷ 0 ∷ []) abandonedDay) ≡ Clean
+third : ruling (listRules 3 (0 ∷ 0 ∷ 0 ∷ 6 ∷ 7 ∷ 0 ∷ 0 ∷ 0 ∷ []) abandonedDay) ≡ Clean
 unfolding computed
 third = refl
 
-no-fourth : ruling (listRules 4 (0 ∷ 0 ∷ 0 ∷ 6 ∷ 7 ∷ 0 ∷ 0 ∷ []) abandonedDay) ≡ Broken 10 0
+no-fourth : ruling (listRules 4 (0 ∷ 0 ∷ 0 ∷ 6 ∷ 7 ∷ 0 ∷ 0 ∷ 0 ∷ []) abandonedDay) ≡ Broken 10 0
 unfolding computed
 no-fourth = refl
 
@@ -106,7 +106,7 @@ spending : ℕ → List ℕ
 spending on-site = 7 ∷ 0 ∷ 0 ∷ 0 ∷ on-site ∷ 0 ∷ 0 ∷ 300 ∷ 0 ∷ 0 ∷ 0 ∷ 0 ∷ 0 ∷ 200 ∷ 0 ∷ []
 
 stocks : ℕ → ℕ → ℕ → List ℕ → Ruling
-stocks edition on-site n rows = ruling (listRules edition (15 ∷ n ∷ 0 ∷ 6 ∷ 0 ∷ 0 ∷ 0 ∷ []) (spending on-site ++ (rows ++ parametersDay)))
+stocks edition on-site n rows = ruling (listRules edition (15 ∷ n ∷ 0 ∷ 6 ∷ 0 ∷ 0 ∷ 0 ∷ 0 ∷ []) (spending on-site ++ (rows ++ parametersDay)))
 
 -- scattered trees, in the second of two rows: good in editions 1 and 2, and refused at its place in edition 3
 trees-first : stocks 1 500 10 (stockRow 1 0 ++ stockRow 2 1) ≡ Clean
@@ -144,11 +144,11 @@ seven-second = refl
 abbrev savannaDay : List ℕ
 savannaDay = parametersDay ++ (1 ∷ 500 ∷ 70 ∷ 850 ∷ 450 ∷ 800 ∷ 450 ∷ 1000 ∷ 400 ∷ 6 ∷ 4 ∷ 60 ∷ 7 ∷ 121 ∷ [])
 
-savanna : ruling (listRules 2 (0 ∷ 0 ∷ 0 ∷ 6 ∷ 0 ∷ 14 ∷ 0 ∷ []) savannaDay) ≡ Clean
+savanna : ruling (listRules 2 (0 ∷ 0 ∷ 0 ∷ 6 ∷ 0 ∷ 14 ∷ 0 ∷ 0 ∷ []) savannaDay) ≡ Clean
 unfolding computed
 savanna = refl
 
-savanna-only : ruling (listRules 1 (0 ∷ 0 ∷ 0 ∷ 6 ∷ 0 ∷ 14 ∷ 0 ∷ []) savannaDay) ≡ Broken 10 6
+savanna-only : ruling (listRules 1 (0 ∷ 0 ∷ 0 ∷ 6 ∷ 0 ∷ 14 ∷ 0 ∷ 0 ∷ []) savannaDay) ≡ Broken 10 6
 unfolding computed
 savanna-only = refl
 
@@ -158,14 +158,14 @@ soilRow i type area before = i ∷ 1 ∷ type ∷ area ∷ before ∷ 700 ∷ 10
 
 -- soil rows behind the parameters, by themselves
 soils : ℕ → List ℕ → Ruling
-soils n rows = ruling (listRules 2 (0 ∷ 0 ∷ 0 ∷ 6 ∷ 0 ∷ 0 ∷ n ∷ []) (parametersDay ++ rows))
+soils n rows = ruling (listRules 2 (0 ∷ 0 ∷ 0 ∷ 6 ∷ 0 ∷ 0 ∷ n ∷ 0 ∷ []) (parametersDay ++ rows))
 
 -- a change of land use: 1 kha of a soil type went from one row to the other, and the sums are the same
 changed : soils 18 (soilRow 1 3 9 10 ++ soilRow 2 3 6 5) ≡ Clean
 unfolding soils computed
 changed = refl
 
-changed-only : ruling (listRules 1 (0 ∷ 0 ∷ 0 ∷ 6 ∷ 0 ∷ 0 ∷ 18 ∷ []) (parametersDay ++ (soilRow 1 3 9 10 ++ soilRow 2 3 6 5))) ≡ Broken 10 7
+changed-only : ruling (listRules 1 (0 ∷ 0 ∷ 0 ∷ 6 ∷ 0 ∷ 0 ∷ 18 ∷ 0 ∷ []) (parametersDay ++ (soilRow 1 3 9 10 ++ soilRow 2 3 6 5))) ≡ Broken 10 7
 unfolding computed
 changed-only = refl
 
@@ -180,7 +180,7 @@ unfolding soils computed
 lower-later = refl
 
 -- no wood either: 12 comes first
-wood-before : ruling (listRules 2 (15 ∷ 0 ∷ 0 ∷ 6 ∷ 0 ∷ 0 ∷ 9 ∷ []) (conversionDay ++ (parametersDay ++ soilRow 1 3 9 10))) ≡ Broken 12 0
+wood-before : ruling (listRules 2 (15 ∷ 0 ∷ 0 ∷ 6 ∷ 0 ∷ 0 ∷ 9 ∷ 0 ∷ []) (conversionDay ++ (parametersDay ++ soilRow 1 3 9 10))) ≡ Broken 12 0
 unfolding computed
 wood-before = refl
 
@@ -192,3 +192,19 @@ wide-type = refl
 highest-type : soils 18 (soilRow 1 0 5 5 ++ soilRow 2 65535 5 6) ≡ Broken 13 13
 unfolding soils computed
 highest-type = refl
+
+-- a row of crop residues behind the parameters: in editions 2 and 3, and refused in edition 1
+abbrev cropDay : List ℕ
+cropDay = parametersDay ++ (1 ∷ 10000 ∷ 130 ∷ 850 ∷ 250 ∷ 900 ∷ 4853 ∷ 12 ∷ 5 ∷ 60 ∷ 7 ∷ 121 ∷ [])
+
+crop : ruling (listRules 2 (0 ∷ 0 ∷ 0 ∷ 6 ∷ 0 ∷ 0 ∷ 0 ∷ 12 ∷ []) cropDay) ≡ Clean
+unfolding computed
+crop = refl
+
+crop-third : ruling (listRules 3 (0 ∷ 0 ∷ 0 ∷ 6 ∷ 0 ∷ 0 ∷ 0 ∷ 12 ∷ []) cropDay) ≡ Clean
+unfolding computed
+crop-third = refl
+
+crop-only : ruling (listRules 1 (0 ∷ 0 ∷ 0 ∷ 6 ∷ 0 ∷ 0 ∷ 0 ∷ 12 ∷ []) cropDay) ≡ Broken 10 8
+unfolding computed
+crop-only = refl

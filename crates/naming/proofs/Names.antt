@@ -57,16 +57,16 @@ word-named {d} {d′} {at} {next} k kind q i e w =
     subst (λ (j : ℕ). WrittenIn 30 (fieldName j i) d d′ at next) (sym q) (as-text (name-word k i e) w, omega (arith, w .place, word-fits k i e))
 
 -- another number is no kind
-pub no-name : (k i : ℕ) → NoneOf 7 k → fieldName k i ≡ []
+pub no-name : (k i : ℕ) → NoneOf 8 k → fieldName k i ≡ []
 no-name zero i e = refl
-no-name (suc k) i e = ap (λ (n : List (List ℕ)). getD n i []) (List·getD-eq-default fieldNames [] {n = k} (not-le (λ h. beyond 7 (suc k) e h (omega arith))))
+no-name (suc k) i e = ap (λ (n : List (List ℕ)). getD n i []) (List·getD-eq-default fieldNames [] {n = k} (not-le (λ h. beyond 8 (suc k) e h (omega arith))))
   where
-    not-le : (suc k ≤ 7 → ⊥) → 7 ≤ k
+    not-le : (suc k ≤ 8 → ⊥) → 8 ≤ k
     not-le g = omega arith
 
 -- the kinds' names, with no name before the first
 abbrev pub kindText : List ℕ
-kindText = codes " conversion stock harvest parameters abandoned savanna soil "
+kindText = codes " conversion stock harvest parameters abandoned savanna soil crop "
 
 pub kind-word : (k : ℕ) → wordAt k kindText ≡ kindName k
 unfolding flatMap spaces

@@ -104,9 +104,26 @@ soilNames =
     ∷ codes "input"
     ∷ []
 
+-- §14: "production .., residue ratio .., dry matter, burned and oxidised fractions .., carbon fraction .., N/C and four ratios per crop in §5's order":
+abbrev cropNames : List (List ℕ)
+cropNames =
+    codes "id"
+    ∷ codes "production"
+    ∷ codes "residue_ratio"
+    ∷ codes "dry_matter"
+    ∷ codes "burned_fraction"
+    ∷ codes "oxidised_fraction"
+    ∷ codes "carbon_fraction"
+    ∷ codes "N/C"
+    ∷ codes "CH4"
+    ∷ codes "CO"
+    ∷ codes "N2O"
+    ∷ codes "NOx"
+    ∷ []
+
 -- kind by kind, from 1 on. A new kind is a new line.
 abbrev pub fieldNames : List (List (List ℕ))
-fieldNames = conversionNames ∷ stockNames ∷ harvestNames ∷ parametersNames ∷ abandonedNames ∷ savannaNames ∷ soilNames ∷ []
+fieldNames = conversionNames ∷ stockNames ∷ harvestNames ∷ parametersNames ∷ abandonedNames ∷ savannaNames ∷ soilNames ∷ cropNames ∷ []
 
 -- the names of a kind's fields, and that of field i; another number is no kind, and past the last there is no name
 abbrev pub namesOf : ℕ → List (List ℕ)
@@ -119,7 +136,7 @@ fieldName kind i = getD (namesOf kind) i []
 each-named : map (λ (n : List (List ℕ)). length n) fieldNames ≡ map (λ (l : Layout). length l) layouts
 each-named = refl
 
--- "1 conversion, 2 stock, 3 harvest, 4 parameters", 5 abandoned land, 6 savanna, 7 mineral soil, each in a word. A new kind is a new line.
+-- "1 conversion, 2 stock, 3 harvest, 4 parameters", 5 abandoned land, 6 savanna, 7 mineral soil, 8 crop residues, each in a word. A new kind is a new line.
 abbrev pub kindNames : List (List ℕ)
 kindNames =
     codes "conversion"
@@ -129,6 +146,7 @@ kindNames =
     ∷ codes "abandoned"
     ∷ codes "savanna"
     ∷ codes "soil"
+    ∷ codes "crop"
     ∷ []
 
 -- the name of a kind; another number is no kind and has no name

@@ -49,6 +49,13 @@ fn put_field_name(kind: u32, i: usize, out: &mut [u8], at: usize) -> usize
             out,
             at,
         ),
+        8 => put_word(
+            b"id production residue_ratio dry_matter burned_fraction oxidised_fraction carbon_fraction \
+              N/C CH4 CO N2O NOx ",
+            i,
+            out,
+            at,
+        ),
         _ => at,
     }
 }
@@ -59,7 +66,7 @@ fn put_kind_name(kind: u32, out: &mut [u8], at: usize) -> usize
     ensures { λ r. ⌜ WrittenIn 10 (kindName kind) (now (out .entry)) (now (out .exit)) at r ⌝ }
 {
     put_word(
-        b" conversion stock harvest parameters abandoned savanna soil ",
+        b" conversion stock harvest parameters abandoned savanna soil crop ",
         kind as usize,
         out,
         at,

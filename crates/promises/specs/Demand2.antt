@@ -33,6 +33,8 @@ use Rattle.totals.proofs.Accepted.{columns-small}
 use Rattle.totals.specs.Abandoned.{youngArea, youngRate, youngCarbon, olderArea, olderRate, olderCarbon, abandonedPart}
 use Rattle.savannas.specs.Savannas.{burnedArea, biomass, reallyBurned, live, liveOxidised, liveCarbon, deadOxidised, deadCarbon, nitrogenRatio, ch4Ratio, coRatio, n2oRatio, noxRatio, carbonShare, carbonPart, savannasOf}
 use Rattle.savannas.specs.declared.Savannas.{Savannas}
+use Rattle.crops.specs.Crops.{production, residueRatio, dryFraction, burnedFraction, oxidisedFraction, carbonFraction, cropNitrogen, cropCh4, cropCo, cropN2o, cropNox, residueCarbon, cropsOf}
+use Rattle.crops.specs.declared.Crops.{Crops}
 use Rattle.soils.specs.Soils.{nativeCarbon, baseFactor, tillageFactor, inputFactor, soilCarbon, stockNow, stockThen, allStocks, soilsOf}
 use Rattle.soils.specs.declared.Soils.{Soils}
 use Rattle.soils.proofs.Rows.{sums-small}
@@ -126,6 +128,17 @@ pub record Sheet5-5 (s : List ℕ) (v : Soils) : Type 0 where
   pub soil : amount (v .soil .0) ≡ pos (stocksNow s) -ℤ pos (stocksThen s)
   pub change : Rounded (pos (stocksNow s) -ℤ pos (stocksThen s)) (20 * 10 ^ 4) (amount (v .change .0))
 
+-- 4-4, as the request for it has it: "production .., residue ratio .., dry matter, burned and oxidised fractions .., carbon fraction", multiplied, and the crop's own ratios; "each summed exactly over the rows and rounded once"
+abbrev pub carbonOfCrop : List ℕ → ℕ
+carbonOfCrop r = production r * residueRatio r * dryFraction r * burnedFraction r * (oxidisedFraction r * carbonFraction r)
+
+pub record Sheet4-4 (s : List ℕ) (v : Crops) : Type 0 where
+  pub carbon : value (v .carbon .0) ≡ sumOf carbonOfCrop (rows 8 s)
+  pub CH4 : Rounded (pos (4 * sumOf (λ r. carbonOfCrop r * cropCh4 r) (rows 8 s))) (3 * 10 ^ 16) (pos (value (v .gases .ch4 .0)))
+  pub CO : Rounded (pos (7 * sumOf (λ r. carbonOfCrop r * cropCo r) (rows 8 s))) (3 * 10 ^ 16) (pos (value (v .gases .co .0)))
+  pub N2O : Rounded (pos (11 * sumOf (λ r. carbonOfCrop r * cropNitrogen r * cropN2o r) (rows 8 s))) (7 * 10 ^ 19) (pos (value (v .gases .n2o .0)))
+  pub NOx : Rounded (pos (23 * sumOf (λ r. carbonOfCrop r * cropNitrogen r * cropNox r) (rows 8 s))) (7 * 10 ^ 19) (pos (value (v .gases .nox .0)))
+
 -- "rounded once, at the final tonne": Q, the report and CO2 from the columns of one return, or from their sums over several
 pub q-rounded : (g : Ledger) → Rounded (pos 11 *ℤ amount (stocksOf g .p .0)) 3000000 (amount (stocksOf g .q .0))
 unfolding stocksOf
@@ -187,6 +200,10 @@ figures-5-4 s = record { uptake = value-words _ .number; CO2 = rounds-plain _ (l
 pub figures-4-3 : (s : List ℕ) → Sheet4-3 s (figuresOf (byKind s) .savannas)
 unfolding savannasOf burnedBy gasesOf carbonShare carbonPart
 figures-4-3 s = record { carbon = value-words _ .number; CH4 = rounds-plain _ (lit< tt) (part 4 _); CO = rounds-plain _ (lit< tt) (part 7 _); N2O = rounds-plain _ (lit< tt) (part 11 _); NOx = rounds-plain _ (lit< tt) (part 23 _) }
+
+pub figures-4-4 : (s : List ℕ) → Sheet4-4 s (figuresOf (byKind s) .crops)
+unfolding cropsOf burnedBy gasesOf residueCarbon
+figures-4-4 s = record { carbon = value-words _ .number; CH4 = rounds-plain _ (lit< tt) (part 4 _); CO = rounds-plain _ (lit< tt) (part 7 _); N2O = rounds-plain _ (lit< tt) (part 11 _); NOx = rounds-plain _ (lit< tt) (part 23 _) }
 
 pub figures-5-5 : (s : List ℕ) → Sheet5-5 s (figuresOf (byKind s) .soils)
 unfolding soilsOf allStocks soilCarbon stockNow stockThen

@@ -44,7 +44,7 @@ use Rattle.steps.proofs.Wood.{wood-passes, wood-stops}
 use Rattle.steps.proofs.Soils.{first-kept, first-rules}
 use Rattle.steps.proofs.Scattered.{no-scattered}
 use Rattle.steps.proofs.Trees.{none-written, trees-refused, trees-unwritten}
-use Rattle.steps.proofs.Editions.{edition-told, ten-blocks, above-ten, no-land, no-uptake, no-savanna, no-fire, no-soil, no-change}
+use Rattle.steps.proofs.Editions.{edition-told, ten-blocks, above-ten, no-land, no-uptake, no-savanna, no-fire, no-soil, no-change, no-crop, no-residue}
 
 -- the answer tells the edition, which stands in block 0
 pub tells-edition : (s : List ℕ) (c : Counts) → verdictOf s ≡ Accepted c → c .edition ≡ edition s 0
@@ -92,6 +92,11 @@ first-no-savanna s e c acc = (no-savanna s c acc e, no-fire s c acc e)
 pub first-no-soil : (s : List ℕ) → edition s 0 ≡ 1 → (c : Counts) → verdictOf s ≡ Accepted c
     → (c .soils ≡ 0) × (figuresOf (byKind s) .soils ≡ record { soil = soilGain (pos 0); change = soilChange (pos 0) })
 first-no-soil s e c acc = (no-soil s c acc e, no-change s c acc e)
+
+-- nor crop residues
+pub first-no-crop : (s : List ℕ) → edition s 0 ≡ 1 → (c : Counts) → verdictOf s ≡ Accepted c
+    → (c .crops ≡ 0) × (figuresOf (byKind s) .crops ≡ record { carbon = carbon 0; gases = record { ch4 = gas 0; co = gas 0; n2o = gas 0; nox = gas 0 } })
+first-no-crop s e c acc = (no-crop s c acc e, no-residue s c acc e)
 
 -- ---- §12: what does not say edition 3, "as ever"
 

@@ -16,6 +16,7 @@
 --     Cleared     a return that clears no less than another has no subtotal that is lower, exactly or as a double
 --     National    the returns of a file add up to the national line, in any order; where a run stops, and what it prints then
 --     Matter      where every tonne of the cleared biomass went: five totals that together are all of it, of a row, a return and a nation
+--     Residues    returns that differ only in crop rows have the same figures in every other sheet, the same doubles and the same heaviest rows
 --     ShutOut     wrong answers that the contracts refuse
 -- These pages speak of the definitions. That whatever meets an entry point's contract is the answer they speak of, that each contract admits one answer and asks
 -- nothing of its caller, and that each entry point meets its contract, is the crate `contracts`.
@@ -37,4 +38,5 @@ pub mod Explained
 pub mod Cleared
 pub mod National
 pub mod Matter
+pub mod Residues
 pub mod ShutOut

@@ -6,7 +6,7 @@ use mathlib.Core.Path.{_≡_, sym, ap, subst, _∙_}
 use mathlib.Core.List.{List, [], _∷_, _++_, append-assoc, flatMap}
 use native.Mathlib.Omega.{arith}
 use lib.Dec.{lit≤}
-use lib.ListN.{length, getD, take}
+use lib.ListN.{length, getD, take, drop}
 use Rattle.form.specs.Records.{areaOf, before, after, onsite, onsiteOxidised, offsite, offsiteOxidised, countedDifference}
 use Rattle.form.specs.Sums.{sumOf}
 use Rattle.form.specs.Verdict.{rows, verdictOf}
@@ -28,9 +28,9 @@ use Rattle.heaviest.specs.Heaviest.{heaviestOf}
 use Rattle.phrases.specs.Lines.{linesText}
 use Rattle.phrases.proofs.LineTexts.{text-append}
 use Rattle.fates.specs.Fates.{matterLines, matterText}
-use Rattle.listed.specs.Listed.{listed, figureCount}
+use Rattle.listed.specs.Listed.{Figure, listed}
 use Rattle.report.specs.Lines.{lineOf, textOf, printed}
-use Rattle.report.proofs.Ending.{lines-end}
+use Rattle.report.proofs.InARow.{masses-at, lines-have}
 use Rattle.explained.specs.Explained.{explanationOf, weightsLines, explainedText, explained}
 use Rattle.explained.specs.declared.Explanation.the-variants as explanation
 use Rattle.explained.proofs.Laws.{accepted-explained}
@@ -136,13 +136,19 @@ explained-matter s f e =
     let w = worked-out s f (sym e) in
     accepted-explained s (w .accepted) ∙ ap (λ (x : Figures). explanation.Accepted (heaviestOf s) (x .matter)) (sym (w .figures))
 
--- ---- "which print all five": what is printed of a return, what is explained of it and the national line end with the five lines, by the same names in the same order
+-- ---- "which print all five": what is printed of a return has the five lines in a row, and what is explained of it and the national line end with them, by the same names in the same order
+-- between the lines of some figures before them and some behind
+pub record HasInARow (lines text : List ℕ) : Type 0 where
+  pub before-them : List Figure
+  pub behind-them : List Figure
+  pub whole : text ≡ flatMap lineOf before-them ++ (lines ++ flatMap lineOf behind-them)
+
 pub record EndsWith (lines text : List ℕ) : Type 0 where
   pub front : List ℕ
   pub whole : text ≡ front ++ lines
 
-pub sheets-print : (s : List ℕ) (f : Figures) → outcomeOf s ≡ worked f → EndsWith (matterText (f .matter)) (printed s)
-sheets-print s f e = record { front = flatMap lineOf (take (figureCount - 5) (listed f)); whole = ap textOf e ∙ lines-end f }
+pub sheets-print : (s : List ℕ) (f : Figures) → outcomeOf s ≡ worked f → HasInARow (matterText (f .matter)) (printed s)
+sheets-print s f e = record { before-them = take masses-at (listed f); behind-them = drop (masses-at + 5) (listed f); whole = ap textOf e ∙ lines-have f }
 
 pub explanation-prints : (s : List ℕ) (f : Figures) → outcomeOf s ≡ worked f → EndsWith (matterText (f .matter)) (explained s)
 explanation-prints s f e =

@@ -37,7 +37,7 @@ not-always-refused h = let r = h (nth 1 .bytes) in worked-not-refused _ (r .0) (
 pub judge-not-always-refused : ((s : List ℕ) → (n : ℕ) × (p : ℕ) × (verdictOf s ≡ Refused n p)) → ⊥
 judge-not-always-refused h = not-always-refused (λ s. let r = h s in (r .0, r .1, ap (outcomeBy s) (r .2)))
 
--- "one with a fixed figure": no figure of the printed list, by its place, is the same for every return; the worked day with a row each of grass, scattered trees, abandoned land and savanna and two of soil, and the lone block of zero values differ in each
+-- "one with a fixed figure": no figure of the printed list, by its place, is the same for every return; the worked day with a row each of grass, scattered trees, abandoned land, savanna and wheat and two of soil, and the lone block of zero values differ in each
 pub no-fixed-figure : (i : ℕ) → i < figureCount → (x : ℤ) → ((s : List ℕ) (v : Figures) → outcomeOf s ≡ worked v → amount (figureAt (listed v) i .value) ≡ x) → ⊥
 no-fixed-figure i l x always = each-differs i l (always (nth landCase .bytes) _ land-answered ∙ sym (always (nth 1 .bytes) _ lone-answered))
 

@@ -59,6 +59,7 @@ fn above_at(bytes: &[u8], kind: u32, at: usize) -> bool
         5 => above_fields(bytes, 5, at),
         6 => above_fields(bytes, 6, at),
         7 => above_fields(bytes, 7, at),
+        8 => above_fields(bytes, 8, at),
         _ => above_fields(bytes, 0, at),
     }
 }

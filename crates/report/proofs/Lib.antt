@@ -1,3 +1,3 @@
 mod Filled
 mod Short
-pub mod Ending
+pub mod InARow

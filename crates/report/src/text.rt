@@ -21,7 +21,8 @@ fn put_figures(f: Figures, out: &mut [u8]) -> usize
     put_lines(
         b"E K L M O P Q report onsite offsite R decay co2 ch4 co n2o nox uptake uptake_co2 thinner \
 savanna_carbon savanna_ch4 savanna_co savanna_n2o savanna_nox soil soil_change scattered \
-oxidised_onsite charcoal_onsite oxidised_offsite charcoal_offsite unburned ",
+oxidised_onsite charcoal_onsite oxidised_offsite charcoal_offsite unburned \
+crop_carbon crop_ch4 crop_co crop_n2o crop_nox ",
         &numbers,
         out,
         0,

@@ -4,13 +4,14 @@ use mathlib.Core.Path.{_≡_}
 use mathlib.Core.Bool.{false}
 use mathlib.Core.List.{List}
 use native.Mathlib.Omega.{arith}
+use native.Mathlib.Nat.{add-assoc}
 use native.Mathlib.Numerals.{bound}
 use lib.ListN.{getD}
 use lib.Dec.{lit<, lit≤}
 use Rattle.form.specs.Bytes.{number}
 use Rattle.form.specs.Layout.{field, savanna, rowFrom, rowAt, aboveLimit}
 use Rattle.standing.proofs.Accepted.{limit-of}
-use Rattle.burning.specs.Released.{Thousandths}
+use Rattle.burning.specs.Released.{Thousandths, ratiosAt}
 use Rattle.savannas.specs.Savannas.{burnedArea, biomass, reallyBurned, live, liveOxidised, liveCarbon, deadOxidised, deadCarbon, carbonShare, carbonPart, ratiosOf}
 
 -- three numbers of a row that the code multiplies
@@ -38,11 +39,16 @@ module _ (r : List ℕ) (h : aboveLimit savanna r ≡ false) where
   unfolding carbonShare
   share-below = let w = living in shares _ _ _ _ _ _ (w .0) (w .1) (w .2) (omega arith) (w .3) (w .4)
 
-  pub carbon-below : carbonPart r ≤ 2 * 10 ^ 22
+  pub carbon-below : carbonPart r ≤ 10 ^ 23
   unfolding carbonPart
   carbon-below = let w = burning in grw (bound, w .0, w .1, w .2, share-below) (lit≤ tt)
 
--- where the code reads them
+-- its ratios, where the code reads them
+pub ratios-there : (s : List ℕ) (at : ℕ) → ratiosAt s (at + 22) ≡ ratiosOf (rowAt savanna s at)
+unfolding rowFrom
+ratios-there s at = simp add-assoc
+
+-- where the code reads the others
 module _ (s : List ℕ) (at : ℕ) (h : aboveLimit savanna (rowAt savanna s at) ≡ false) where
   pub burning-at : (number 4 s (at + 4) ≤ 1000000) × (number 2 s (at + 8) ≤ 10000) × (number 2 s (at + 10) ≤ 1000)
   unfolding rowFrom

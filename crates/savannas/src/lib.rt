@@ -9,10 +9,10 @@ ghost use Rattle.totals.specs.Masses.{carbon};
 ghost use Rattle.burning.specs.Released.{rowOf, burnedBy};
 ghost use Rattle.savannas.specs.Savannas.{burnedMass, carbonShare, carbonPart, ratiosOf, savannasOf};
 use burning::Gases;
-use burning::Ratios;
 use burning::Released;
 use burning::add_row;
 use burning::nothing;
+use burning::ratios_at;
 use burning::release;
 use burning::work_gases;
 use form::Counts;
@@ -62,27 +62,13 @@ fn carbon_at(bytes: &[u8], at: usize) -> Carbon
     Carbon(times(of(burned.0), share_at(bytes, at)))
 }
 
-// The row's own ratios.
-fn ratios_at(bytes: &[u8], at: usize) -> Ratios
-    requires { ⌜ at + 40 ≤ length (now bytes) ⌝ }
-    ensures { λ r. ⌜ r ≡ ratiosOf (rowAt savanna (now (bytes .entry)) at) ⌝ }
-{
-    Ratios {
-        nc: two_at(bytes, at + 22),
-        ch4: two_at(bytes, at + 24),
-        co: two_at(bytes, at + 26),
-        n2o: two_at(bytes, at + 28),
-        nox: two_at(bytes, at + 30),
-    }
-}
-
 // A row's carbon, and what of it goes off with each gas.
 fn row_at(bytes: &[u8], at: usize) -> Released
     requires { ⌜ at + 40 ≤ length (now bytes) ⌝ }
     requires { ⌜ aboveLimit savanna (rowAt savanna (now bytes) at) ≡ false ⌝ }
     ensures { λ r. ⌜ r ≡ rowOf carbonPart ratiosOf (rowAt savanna (now (bytes .entry)) at) ⌝ }
 {
-    release(carbon_at(bytes, at), ratios_at(bytes, at))
+    release(carbon_at(bytes, at), ratios_at(bytes, at + 22))
 }
 
 // The sums over the savanna rows.

@@ -1,4 +1,4 @@
--- What an accepted return says of its edition, and an edition 1 return of abandoned land, savannas and mineral soils; and that 4 stops one above ten blocks. Assumes nothing.
+-- What an accepted return says of its edition, and an edition 1 return of abandoned land, savannas, mineral soils and crop residues; and that 4 stops one above ten blocks. Assumes nothing.
 use Prim.Native.Nat.{ℕ, _+_, _/_, _≤_, _<_}
 use mathlib.Core.Path.{_≡_, refl, ap, _∙_}
 use mathlib.Core.Bool.{false}
@@ -34,6 +34,7 @@ use Rattle.units.specs.Columns.{co2}
 use Rattle.burning.specs.Released.{burnedBy}
 use Rattle.burning.specs.Gases.{gas, gasesOf}
 use Rattle.savannas.specs.Savannas.{savannasOf}
+use Rattle.crops.specs.Crops.{cropsOf}
 use Rattle.soils.specs.Soils.{soilGain, soilChange, allStocks, soilsOf}
 use Rattle.worksheets.specs.Sheets.{abandonedOf, byKind, figuresOf}
 
@@ -61,6 +62,10 @@ module _ (s : List ℕ) (c : Counts) (accepted : verdictOf s ≡ Accepted c) whe
     unfolding lastKind
     no-row-7 = no-rows s c acc 7 (rw one (lit≤ tt))
 
+    no-row-8 : rowCount 8 s ≡ 0
+    unfolding lastKind
+    no-row-8 = no-rows s c acc 8 (rw one (lit≤ tt))
+
     pub no-land : c .abandoned ≡ 0
     no-land = ap (λ (x : Counts). x .abandoned) (formed-counts s c acc) ∙ no-row
 
@@ -81,6 +86,13 @@ module _ (s : List ℕ) (c : Counts) (accepted : verdictOf s ≡ Accepted c) whe
     pub no-change : figuresOf (byKind s) .soils ≡ record { soil = soilGain (pos 0); change = soilChange (pos 0) }
     unfolding soilsOf allStocks sumOf settled value wordsOf
     no-change = rw (none-left (rows 7 s) (rows-length s c acc 7 ∙ no-row-7)) refl
+
+    pub no-crop : c .crops ≡ 0
+    no-crop = ap (λ (x : Counts). x .crops) (formed-counts s c acc) ∙ no-row-8
+
+    pub no-residue : figuresOf (byKind s) .crops ≡ record { carbon = carbon 0; gases = record { ch4 = gas 0; co = gas 0; n2o = gas 0; nox = gas 0 } }
+    unfolding cropsOf burnedBy gasesOf sumOf settled value wordsOf
+    no-residue = rw (none-left (rows 8 s) (rows-length s c acc 8 ∙ no-row-8)) refl
 
 -- ---- "4 then stops an edition 1 return above ten"
 module _ (s : List ℕ) (one : edition s 0 ≡ 1) where
@@ -108,7 +120,7 @@ module _ (s : List ℕ) (one : edition s 0 ≡ 1) where
     at-most-ten : 1 ≤ blocks s → blocks s ≤ 10
     unfolding kinds startBlock
     at-most-ten h =
-        omega (arith, start-all s in-order, few 1, few 2, few 3, only-row s in-order h, none-above 5 (omega arith), none-above 6 (omega arith), none-above 7 (omega arith))
+        omega (arith, start-all s in-order, few 1, few 2, few 3, only-row s in-order h, none-above 5 (omega arith), none-above 6 (omega arith), none-above 7 (omega arith), none-above 8 (omega arith))
 
   pub ten-blocks : (c : Counts) → verdictOf s ≡ Accepted c → length s ≤ 5120
   ten-blocks c accepted =

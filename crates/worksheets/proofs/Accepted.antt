@@ -96,4 +96,5 @@ same-figures a b h =
     let five = h 4 (omega (arith, kinds-are)) in
     let six = h 5 (omega (arith, kinds-are)) in
     let seven = h 6 (omega (arith, kinds-are)) in
-    rw (one, two, three, four, five, six, seven)
+    let eight = h 7 (omega (arith, kinds-are)) in
+    rw (one, two, three, four, five, six, seven, eight)

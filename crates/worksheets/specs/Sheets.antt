@@ -1,4 +1,4 @@
--- The figures of a return, sheet by sheet, from its rows: 5-1, 5-2 and where the cleared biomass went from the crate ledger, 4-3 from savannas, 5-5 from soils, 5-3 and 5-4 here, in the unit of 01's "Worksheet rules".
+-- The figures of a return, sheet by sheet, from its rows: 5-1, 5-2 and where the cleared biomass went from the crate ledger, 4-3 from savannas, 4-4 from crops, 5-5 from soils, 5-3 and 5-4 here, in the unit of 01's "Worksheet rules".
 use Prim.Native.Nat.{ℕ, _≤_}
 use mathlib.Core.List.{List, [], _∷_}
 use lib.ListN.{getD}
@@ -17,6 +17,7 @@ use Rattle.burning.specs.declared.Ratios.{Ratios}
 use Rattle.burning.specs.declared.Gases.{Gases}
 use Rattle.savannas.specs.Savannas.{savannasOf}
 use Rattle.soils.specs.Soils.{soilsOf}
+use Rattle.crops.specs.Crops.{cropsOf}
 use Rattle.ledger.specs.Ledger.{ledgerOf}
 use Rattle.ledger.specs.Derived.{stocksOf, conversionOf}
 use Rattle.worksheets.specs.declared.sheets.Parameters.{Parameters}
@@ -68,7 +69,7 @@ abandonedOf u = record { uptake = u; co2 = uptakeCo2 u }
 abbrev pub stockRows : ℕ → StockRows
 stockRows n = record { 0 = wordsOf n }
 
--- the figures of rows, sheet by sheet: conversion rows are kind 1, stock rows 2, harvest rows 3, abandoned land 5, savannas 6, mineral soils 7
+-- the figures of rows, sheet by sheet: conversion rows are kind 1, stock rows 2, harvest rows 3, abandoned land 5, savannas 6, mineral soils 7, crop residues 8
 abbrev pub figuresOf : Rows → Figures
 figuresOf by =
     let g = ledgerOf (by 1) (by 2) (by 3) (given by .n) in
@@ -82,4 +83,5 @@ figuresOf by =
       soils = soilsOf (by 7);
       scattered = stockRows (scatteredIn (by 2));
       matter = g .matter;
+      crops = cropsOf (by 8);
     }

@@ -1,4 +1,4 @@
-// Worksheets 5-1 to 5-5 and 4-3, and where the cleared biomass went: the figures of a return, or its refusal.
+// Worksheets 5-1 to 5-5, 4-3 and 4-4, and where the cleared biomass went: the figures of a return, or its refusal.
 pub mod sheets;
 
 ghost use mathlib.Core.Path.{_≡_};
@@ -12,6 +12,7 @@ use crate::sheets::gases_of;
 use crate::sheets::read_parameters;
 use crate::sheets::scattered_rows;
 use crate::sheets::work_abandoned;
+use crops::work_crops;
 use form::Counts;
 use form::Verdict;
 use held::Checked;
@@ -47,6 +48,7 @@ pub fn work_out(bytes: &[u8], c: Counts) -> Figures
     let abandoned = work_abandoned(sum_abandoned(bytes, c));
     let savannas = work_savannas(bytes, c);
     let soils = work_soils(bytes, c);
+    let crops = work_crops(bytes, c);
     let scattered = scattered_rows(c);
     let matter = g.matter;
     Figures {
@@ -59,6 +61,7 @@ pub fn work_out(bytes: &[u8], c: Counts) -> Figures
         soils,
         scattered,
         matter,
+        crops,
     }
 }
 

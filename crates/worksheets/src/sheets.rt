@@ -10,6 +10,7 @@ use burning::Gases;
 use burning::Ratios;
 use burning::release;
 use burning::work_gases;
+use crops::Crops;
 use form::Counts;
 use form::PARAMETERS;
 use form::first_block;
@@ -137,6 +138,7 @@ pub struct Figures {
     pub soils: Soils,
     pub scattered: StockRows,
     pub matter: Matter,
+    pub crops: Crops,
 }
 
 // The figures, or a refusal's number and place.

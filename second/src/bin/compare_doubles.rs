@@ -46,6 +46,8 @@ mod run {
             balances: 1_000,
             uneven: 100,
             retired: 100,
+            crops: 5_000,
+            crossed: 100,
         };
         let mut coverage = Coverage::default();
         let tried = [

@@ -95,6 +95,8 @@ mod run {
             balances: 1_000,
             uneven: 100,
             retired: 100,
+            crops: 5_000,
+            crossed: 100,
         };
         let mut tally = Tally::new();
         let ran = run(&plan, arguments, inputs::explained, |case, rng| {

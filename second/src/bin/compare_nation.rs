@@ -21,7 +21,8 @@ mod run {
     use second::ffi::nation::first_nation;
     use second::lent::{Lent, Placed};
     use second::lists::rows_of;
-    use second::nation::{Nation, Stop, MOST_RETURNS, NATION_ROOM};
+    use second::make::{BLOCK, CROPS};
+    use second::nation::{Nation, Stop, MOST_BLOCKS, MOST_RETURNS, NATION_ROOM};
     use second::nations::{crowd, few, shuffle, End, File};
     use second::program::Program;
     use second::rng::Rng;
@@ -78,6 +79,8 @@ mod run {
         /// Exact halves of Q and of co2.
         halves: Counters,
         rooms: Counters,
+        /// Accepted returns with crops, and of all blocks.
+        crops: Counters,
     }
 
     impl Tally {
@@ -103,6 +106,11 @@ mod run {
                 ),
                 halves: coverage.add(some, ["Q", "co2"].map(|s| format!("exact halves of {s}"))),
                 rooms: coverage.add(often, ROOMS.map(|sort| format!("rooms, {sort}"))),
+                crops: coverage.add(
+                    Due::Times(2_000),
+                    ["with crops", "of the most blocks"]
+                        .map(|sort| format!("accepted returns {sort}")),
+                ),
                 coverage,
             }
         }
@@ -127,6 +135,13 @@ mod run {
                     self.refused,
                     nth.expect("a number that a cut return can have"),
                 );
+            }
+            for one in accepted(file, due) {
+                let has_crops = one.iter().step_by(BLOCK).any(|&kind| kind == CROPS.kind);
+                let sorts = [has_crops, one.len() == BLOCK * usize::from(MOST_BLOCKS)];
+                for (nth, _) in sorts.iter().enumerate().filter(|(_, &is)| is) {
+                    coverage.count(self.crops, nth);
+                }
             }
             coverage.count(self.signs, (due.totals.p.signum() + 1) as usize);
             for (nth, tonnes) in due.totals.tonnes().iter().enumerate() {
@@ -237,12 +252,18 @@ mod run {
         ask_program(program, &bytes, &text, rng.one_in(8))
     }
 
-    /// What the accepted returns of a file clear, where its returns are those that are cut.
-    fn cleared_in(file: &File, due: &Nation) -> Option<u128> {
+    /// The accepted returns of a file, where its returns are those that are cut; else none.
+    fn accepted<'a>(file: &'a File, due: &'a Nation) -> impl Iterator<Item = &'a [u8]> {
         let refused = |position: usize| due.refused.iter().any(|&(at, _)| at == position);
         let returns = file.returns.iter().zip(1..);
-        let accepted = returns.filter(|&(_, position)| !refused(position));
-        let cleared = accepted.map(|(bytes, _)| cleared(&rows_of(bytes)));
+        let accepted =
+            returns.filter(move |&(_, position)| file.end != End::Lost && !refused(position));
+        accepted.map(|(bytes, _)| &bytes[..])
+    }
+
+    /// What they clear.
+    fn cleared_in(file: &File, due: &Nation) -> Option<u128> {
+        let cleared = accepted(file, due).map(|bytes| cleared(&rows_of(bytes)));
         (file.end != End::Lost).then(|| cleared.sum())
     }
 

@@ -21,17 +21,17 @@ use second::rng::Rng;
 use second::sheets::text as sheets_text;
 use second::text::Text;
 use second::whereabouts::{cleared, missing_in};
-use second::{mix, request};
+use second::{figures, mix, request, sweep};
 use std::process::ExitCode;
 
 /// "`sheets` takes one byte beyond the longest", and so does `explain`.
 const TAKEN: usize = RETURN_ROOM + 1;
-const INPUTS: usize = 2_000;
+const INPUTS: usize = 2_400;
 /// For `explain`, whose text is compared on many more without the program.
-const EXPLAINED: usize = 1_000;
+const EXPLAINED: usize = 1_150;
 #[rustfmt::skip]
-const LENGTHS: [usize; 23] = [
-    0, 1, 2, 511, 512, 513, 1_024, 5_119, 5_120, 5_121, 5_632, 6_656, 6_657, 7_168, 8_192, 8_193, 20_480,
+const LENGTHS: [usize; 25] = [
+    0, 1, 2, 511, 512, 513, 1_024, 5_119, 5_120, 5_121, 5_632, 6_656, 6_657, 7_168, 8_192, 8_193, 9_728, 9_729, 20_480,
     TAKEN - 2, TAKEN - 1, TAKEN, TAKEN + 1, TAKEN + 511, TAKEN + 807,
 ];
 const FILLINGS: usize = 5;
@@ -53,6 +53,8 @@ fn main() -> ExitCode {
         balances: 5,
         uneven: 1,
         retired: 1,
+        crops: 100,
+        crossed: 1,
     };
     let mut coverage = Coverage::default();
     let halves = Halves::new(Due::Times(1), &mut coverage);
@@ -73,6 +75,8 @@ fn main() -> ExitCode {
         sorts: 0,
         uneven: 0,
         retired: 0,
+        crops: 0,
+        crossed: 0,
         ..plan
     };
     let explained = run(&plan, arguments, make_explained, |case, rng| {
@@ -89,9 +93,12 @@ fn make(index: usize, rng: &mut Rng) -> Case {
             return request::case(index, rng);
         }
         // The sweeps begin with thousands of lengths: a few of their inputs,
-        // from all over them, have to do.
-        let from = rng.below(inputs::least());
-        return inputs::with_figures(from, rng);
+        // from all over them, have to do. Halves are rare, and want many.
+        return match rng.below(8) {
+            0 => sweep::case(rng.below(sweep::size()), rng),
+            1..4 => figures::case(rng),
+            _ => mix::case(rng),
+        };
     }
     let (length, filling) = (LENGTHS[index / FILLINGS], index % FILLINGS);
     let mut bytes = match filling {

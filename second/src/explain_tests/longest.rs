@@ -85,6 +85,7 @@ fn refusals_are_shorter() {
         let hand = hand.two(b, r, 6, 65_535).four(b, r, 8, 100_000);
         hand.four(b, r, 12, if nth == 0 { 99_999 } else { 100_000 })
     });
+    let crops = FULL.iter().position(|&(kind, _)| kind == 8).expect("crops");
     // The last stock row of an edition that has no trees.
     let trees = (0..FULL.len()).fold(high(full(), 3), |hand, b| hand.edition(b, 3));
     let trees = trees.byte(512 * 4 + 8 + 40 * 11 + 4, 1);
@@ -113,6 +114,10 @@ fn refusals_are_shorter() {
         (
             explained(high(full(), soils).four(soils + 1, 11, 12, u32::MAX)),
             118,
+        ),
+        (
+            explained(high(full(), crops).four(crops + 1, 11, 4, u32::MAX)),
+            121,
         ),
         (explained(fractions), 108),
     ] {

@@ -53,6 +53,7 @@ const KIND_NAMES: [&str; KINDS.len()] = [
     "abandoned",
     "savanna",
     "soil",
+    "crop",
 ];
 
 /// The names of each row's fields, in their order.
@@ -67,6 +68,8 @@ const NAMES: [&str; KINDS.len()] = [
     "id area density fraction_really_burned live_fraction live_oxidised_fraction \
      live_carbon_fraction dead_oxidised_fraction dead_carbon_fraction N/C CH4 CO N2O NOx",
     "id land_system soil_type area_now area_then native base tillage input",
+    "id production residue_ratio dry_matter burned_fraction oxidised_fraction carbon_fraction \
+     N/C CH4 CO N2O NOx",
 ];
 
 /// Each field one above its limit, where its bytes hold that.
@@ -138,7 +141,7 @@ fn the_row_is_named() {
     }
     let b = FULL.len() - 1;
     let last = explained(full().four(b, 7, 0, u32::MAX).two(b, 7, 16, 10_001));
-    let due = "refused 6 223 block 18 row 7 kind_name soil id 4294967295";
+    let due = "refused 6 259 block 21 row 7 kind_name crop id 4294967295";
     assert_eq!(first_lines(last), due);
 }
 

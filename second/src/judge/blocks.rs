@@ -1,9 +1,9 @@
 //! Numbers 1 to 3: the length, and each block by its check and its header.
 
 use super::{edition, four, two, Block, Refusal};
-use super::{BLOCK, CHECK_AT, CONVERSION, MOST_BLOCKS, PARAMETERS, SOIL};
+use super::{BLOCK, CHECK_AT, CONVERSION, CROP, MOST_BLOCKS, PARAMETERS};
 
-/// Number 1: "length is 0, above" 19 blocks, "or no multiple of 512".
+/// Number 1: "length is 0, above" 22 blocks, "or no multiple of 512".
 pub(super) fn blocks_of(bytes: &[u8]) -> Result<&[Block], Refusal> {
     let (blocks, rest) = bytes.as_chunks::<BLOCK>();
     if rest.is_empty() && (1..=MOST_BLOCKS).contains(&blocks.len()) {
@@ -69,7 +69,7 @@ pub(super) fn header_holds(blocks: &[Block], b: usize) -> bool {
 fn is_kind_of(edition: u16, kind: u8) -> bool {
     match edition {
         1 => (CONVERSION..=PARAMETERS).contains(&kind),
-        2 | 3 => (CONVERSION..=SOIL).contains(&kind),
+        2 | 3 => (CONVERSION..=CROP).contains(&kind),
         _ => false,
     }
 }

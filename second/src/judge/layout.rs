@@ -1,7 +1,7 @@
 //! Number 4: the order and number of the blocks, their counts and their zeros.
 
 use super::{edition, used_records, Block, Refusal};
-use super::{ABANDONED, CONVERSION, HARVEST, PARAMETERS, SAVANNA, SOIL, STOCK};
+use super::{ABANDONED, CONVERSION, CROP, HARVEST, PARAMETERS, SAVANNA, SOIL, STOCK};
 use super::{CHECK_AT, LAST_KIND, RECORD, RECORDS_AT};
 
 /// What a block can be at fault with, in the order of the paper's sentence: one
@@ -124,6 +124,7 @@ fn zeros_hold(block: &Block, kind: u8, count: usize) -> bool {
         ABANDONED => used.map(|r| or(&r[20..])).fold(0, or_two),
         SAVANNA => used.map(|r| or(&r[32..])).fold(0, or_two),
         SOIL => used.map(|r| or(&r[24..])).fold(0, or_two),
+        CROP => used.map(|r| or(&r[28..])).fold(0, or_two),
         _ => used.map(|r| or(&r[..4]) | or(&r[16..])).fold(0, or_two),
     };
     inside | or(&block[RECORDS_AT + RECORD * count..CHECK_AT]) == 0

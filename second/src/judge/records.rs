@@ -1,7 +1,7 @@
 //! Numbers 5, 6, 14 and 7: the ids, and each record by its fields.
 
 use super::{edition, four, two, unit_code, used_records, Block, Record, Refusal};
-use super::{ABANDONED, CONVERSION, HARVEST, PARAMETERS, SAVANNA, SOIL, STOCK};
+use super::{ABANDONED, CONVERSION, CROP, HARVEST, PARAMETERS, SAVANNA, SOIL, STOCK};
 use super::{RECORDS_PER_BLOCK, TREES, WITHOUT_TREES};
 
 /// Which of the numbers 6, 14 and 7 a record is at fault with.
@@ -48,6 +48,7 @@ pub(super) fn records_hold(blocks: &[Block]) -> Result<(), Refusal> {
             ABANDONED => note(records, place, abandoned_faults, &mut first),
             SAVANNA => note(records, place, savanna_faults, &mut first),
             SOIL => note(records, place, soil_faults, &mut first),
+            CROP => note(records, place, crop_faults, &mut first),
             _ => note(records, place, parameter_faults, &mut first),
         }
     }
@@ -100,6 +101,10 @@ const LAST_UNIT_CODE: u8 = 1;
 const MOST_SOIL_AREA: u32 = 100_000;
 const MOST_NATIVE_CARBON: u16 = 10_000;
 const MOST_FACTOR: u16 = 300;
+const MOST_PRODUCTION: u32 = 10_000_000;
+const MOST_RESIDUES: u16 = 1_000;
+/// A crop's carbon fraction, of 0.0001.
+const MOST_CROP_CARBON: u16 = 10_000;
 
 /// The `N` numbers of two bytes that begin at `at`.
 fn twos<const N: usize>(record: &Record, at: usize) -> [u16; N] {
@@ -188,6 +193,19 @@ fn soil_faults(r: &Record) -> Faults {
             | (four(r, 12) > MOST_SOIL_AREA)
             | (two(r, 16) > MOST_NATIVE_CARBON)
             | any_above(twos::<3>(r, 18), MOST_FACTOR),
+    )
+}
+
+/// "production (0.1 kt, to 10,000,000), residue ratio (0.01, to 1,000), dry matter, burned
+/// and oxidised fractions (0.001), carbon fraction (0.0001, to 10,000), N/C and four ratios"
+/// (02, §14).
+fn crop_faults(r: &Record) -> Faults {
+    only_limit(
+        (four(r, 4) > MOST_PRODUCTION)
+            | (two(r, 8) > MOST_RESIDUES)
+            | any_above(twos::<3>(r, 10), MOST_FRACTION)
+            | (two(r, 16) > MOST_CROP_CARBON)
+            | any_above(twos::<5>(r, 18), MOST_FRACTION),
     )
 }
 

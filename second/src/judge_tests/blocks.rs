@@ -31,9 +31,10 @@ fn lengths() {
     assert_eq!(judge(&[0; 6656]), refused(3, 0));
     assert_eq!(judge(&[0; 7168]), refused(3, 0));
     assert_eq!(judge(&[0; 8192]), refused(3, 0));
-    // Thirteen blocks by the first request, three more by the one on savannas, and by
-    // the one on soils.
-    const LONGEST: usize = 9_728;
+    assert_eq!(judge(&[0; 9728]), refused(3, 0));
+    // Thirteen blocks by the first request, three more by the one on savannas, by the one
+    // on soils and by the one on crop residues.
+    const LONGEST: usize = 11_264;
     assert_eq!(judge(&[0; LONGEST - 1]), refused(1, 0));
     assert_eq!(judge(&[0; LONGEST]), refused(3, 0));
     assert_eq!(judge(&[0; LONGEST + 1]), refused(1, 0));

@@ -7,7 +7,8 @@ type Field = (usize, usize, u32);
 
 /// By hand from the requests: each kind with its fields behind the id. Land abandoned up to twenty years and longer has area, rate and carbon
 /// fraction "in the units and limits of land stock rows"; savannas have an area, a density, six fractions and five ratios; soils two numbers
-/// that fill their bytes, two areas, the native carbon and three factors.
+/// that fill their bytes, two areas, the native carbon and three factors; crops a production, the residue ratio, three fractions, the carbon
+/// fraction in ten-thousandths and five ratios.
 #[rustfmt::skip]
 const LATER: [(u8, &[Field]); LAST_KIND - 4] = [
     (5, &[(4, 4, 10_000_000), (8, 2, 10_000), (10, 2, 1_000), (12, 4, 10_000_000), (16, 2, 10_000), (18, 2, 1_000)]),
@@ -17,6 +18,10 @@ const LATER: [(u8, &[Field]); LAST_KIND - 4] = [
     ]),
     (7, &[
         (4, 2, 65_535), (6, 2, 65_535), (8, 4, 100_000), (12, 4, 100_000), (16, 2, 10_000), (18, 2, 300), (20, 2, 300), (22, 2, 300),
+    ]),
+    (8, &[
+        (4, 4, 10_000_000), (8, 2, 1_000), (10, 2, 1_000), (12, 2, 1_000), (14, 2, 1_000), (16, 2, 10_000),
+        (18, 2, 1_000), (20, 2, 1_000), (22, 2, 1_000), (24, 2, 1_000), (26, 2, 1_000),
     ]),
 ];
 

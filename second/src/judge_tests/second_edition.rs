@@ -17,7 +17,7 @@ fn edition_2_needs_no_later_kind() {
 }
 
 #[test]
-fn thirteen_blocks_are_full_without_savannas_and_soils() {
+fn thirteen_blocks_are_full_without_the_kinds_above_5() {
     let thirteen = Hand::second(&FULL[..13]);
     let full = [0, 3, 6, 10].into_iter().fold(thirteen, filled);
     assert_eq!(full.judged(), accepted_second([32, 32, 32, 1, 32]));

@@ -1,5 +1,7 @@
 //! Random good rows.
 
+use super::burnt::style_burnt;
+use super::crops::CROPS;
 use super::draw::{draw_row, good_ids, good_value};
 use super::savannas::style_savannas;
 use super::soils::style_soils;
@@ -42,8 +44,9 @@ impl Rows {
             burned.iter().for_each(|&style| burn(rng, row, style));
         }
         style_stock(rng, edition, &mut rows.stock);
-        style_savannas(rng, &mut rows.savanna);
+        style_savannas(rng, &mut rows);
         style_soils(rng, &mut rows.soil);
+        style_burnt(rng, &mut rows, &CROPS);
         rows.cover(rng);
         rows
     }

@@ -1,79 +1,31 @@
 //! Random good savanna rows, of all sizes.
 
-use super::{fields, DEAD_BURNT, LIVE, LIVE_BURNT, MOST_ROWS};
+use super::burnt::{style_burnt, Burnt};
+use super::{Rows, DEAD_BURNT, LIVE, LIVE_BURNT};
 use crate::rng::Rng;
 
-/// A savanna row's numbers.
-type Row = [u32; 14];
+/// With oxidised and carbon fractions of 1,000 the live fraction changes nothing.
+pub static SAVANNAS: Burnt = Burnt {
+    kind: 6,
+    factors: &[1, 2, 3, 5, 6, 7, 8],
+    largest: 10_000_000_000_000_000_000_000,
+    parts: 1_000_000_000_000_000,
+    carbon: |row| savanna_carbon(row).iter().sum(),
+    set_carbon,
+};
 
-/// What the rows of a return are like.
-#[derive(Clone, Copy)]
-enum Style {
-    /// Each field like any other kind's: zeros, limits and all between.
-    Any,
-    /// No field is zero but perhaps the live fraction.
-    Filled,
-    /// Hardly any carbon.
-    Small,
-    /// As much carbon as there can be.
-    Largest,
-    /// Each row in one of these ways.
-    Mixed,
-}
-
-const STYLES: [Style; 6] = [
-    Style::Any,
-    Style::Filled,
-    Style::Small,
-    Style::Largest,
-    Style::Mixed,
-    Style::Mixed,
-];
-
-/// Good rows become of a style.
-pub(super) fn style_savannas(rng: &mut Rng, rows: &mut [Row]) {
-    let mut style = rng.pick(&STYLES);
-    // The largest sums there are want all rows, which are rare by themselves.
-    if rows.len() == MOST_ROWS && rng.one_in(4) {
-        style = Style::Largest;
-    }
-    for row in rows {
-        let own = match (style, rng.below(8)) {
-            (Style::Mixed, 0..4) => Style::Any,
-            (Style::Mixed, 4..6) => Style::Filled,
-            (Style::Mixed, 6) => Style::Small,
-            (Style::Mixed, _) => Style::Largest,
-            (style, _) => style,
-        };
-        match own {
-            Style::Filled => fill(rng, row),
-            Style::Small => row[1..].fill_with(|| rng.pick(&[0, 1, 1, 1, 2, 9])),
-            Style::Largest => enlarge(row),
-            Style::Any | Style::Mixed => {}
+/// Good rows become of a style, and now and then all live or all dead.
+pub(super) fn style_savannas(rng: &mut Rng, rows: &mut Rows) {
+    style_burnt(rng, rows, &SAVANNAS);
+    for row in &mut rows.savanna {
+        if rng.one_in(6) {
+            row[LIVE] = rng.pick(&[0, 1_000]);
         }
     }
 }
 
-/// Every third is all live or all dead.
-fn fill(rng: &mut Rng, row: &mut Row) {
-    for (value, field) in row.iter_mut().zip(fields(6)).skip(1) {
-        *value = rng.from_to(1, field.most);
-    }
-    if rng.one_in(3) {
-        row[LIVE] = rng.pick(&[0, 1_000]);
-    }
-}
-
-/// With oxidised and carbon fractions of 1,000 the live fraction changes nothing.
-pub fn enlarge(row: &mut Row) {
-    row[1..LIVE].copy_from_slice(&[1_000_000, 10_000, 1_000]);
-    for at in LIVE_BURNT.into_iter().chain(DEAD_BURNT) {
-        row[at] = 1_000;
-    }
-}
-
 /// The carbon of a row's live and of its dead part.
-pub fn savanna_carbon(row: &Row) -> [u128; 2] {
+pub fn savanna_carbon(row: &[u32]) -> [u128; 2] {
     let part = |fraction: u32, burnt: [usize; 2]| {
         let [oxidised, carbon] = burnt.map(|at| row[at]);
         let factors = [row[1], row[2], row[3], fraction, oxidised, carbon];
@@ -83,4 +35,27 @@ pub fn savanna_carbon(row: &Row) -> [u128; 2] {
         part(row[LIVE], LIVE_BURNT),
         part(1_000 - row[LIVE], DEAD_BURNT),
     ]
+}
+
+fn set_carbon(rng: &mut Rng, row: &mut [u32], digit: u32, power: usize) {
+    let any = rng.from_to(0, 1_000);
+    let live = rng.pick(&[0, 1, 500, 999, 1_000, any, any]);
+    // Together one thousandth of a thousandth, of live and of dead alike.
+    let small = [0; 2].map(|_| rng.pick(&[[1, 1_000], [1_000, 1], [8, 125], [25, 40]]));
+    let (area, density, burned, live, [of_live, of_dead]) = match power {
+        // So little is one part's alone.
+        0 if rng.one_in(2) => (digit, 1, 1, 1, [[1, 1], [0, any]]),
+        0 => (digit, 1, 1, 999, [[any, 0], [1, 1]]),
+        1 => (digit, 1, 1, live, small),
+        2 if rng.one_in(2) => (digit, 1_000, 1_000, live, small),
+        2 => (digit, 1, 1_000, live, [[1_000; 2]; 2]),
+        _ => (100 * digit, 10_000, 1_000, live, [[1_000; 2]; 2]),
+    };
+    row[1..=LIVE].copy_from_slice(&[area, density, burned, live]);
+    for (at, value) in LIVE_BURNT.into_iter().zip(of_live) {
+        row[at] = value;
+    }
+    for (at, value) in DEAD_BURNT.into_iter().zip(of_dead) {
+        row[at] = value;
+    }
 }

@@ -176,7 +176,7 @@ mod tests {
                 how: String::new(),
                 edition: 2,
                 rows: [vec![0; 6], soils].concat(),
-                lengths: vec![0, 0, 0, 6, 0, 0, 18],
+                lengths: vec![0, 0, 0, 6, 0, 0, 18, 0],
             };
             OF_WRITING.met_names(&SeenRows::of(&lists, 6013))
         };

@@ -12,10 +12,10 @@ use Rattle.burning.proofs.gas_of_carbon.Statement.{statement}
 use Rattle.burning.proofs.gas_of_carbon.Tie as tie
 
 times-requires : tie.Need-times-requires
-times-requires c κs = let h = thousand 100 _ _ (c .pre .0) (c .pre .1) in search needs
+times-requires c κs = let h = thousand 102 _ _ (c .pre .0) (c .pre .1) in search needs
 
 rounded-requires : tie.Need-rounded-requires
-rounded-requires c κs = let s = c .before in (omega (arith, s .pre .2), omega (arith, c .times .ensures .number, thousand 100 _ _ (s .pre .0) (s .pre .1)))
+rounded-requires c κs = let s = c .before in (omega (arith, s .pre .2), omega (arith, c .times .ensures .number, thousand 102 _ _ (s .pre .0) (s .pre .1)))
 
 returns : tie.Need-returns
 returns c =

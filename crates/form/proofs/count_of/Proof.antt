@@ -12,11 +12,11 @@ use Rattle.form.proofs.count_of.Statement.{statement}
 use Rattle.form.proofs.count_of.Tie as tie
 
 -- a number that is no kind has no rows
-no-count : (c : Counts) (k : ℕ) → NoneOf 7 k → 0 ≡ countIn c k
+no-count : (c : Counts) (k : ℕ) → NoneOf 8 k → 0 ≡ countIn c k
 no-count c zero e = refl
-no-count c (suc k) e = sym (List·getD-eq-default (0 ∷ countList c) 0 {n = suc k} (not-le (λ h. beyond 7 (suc k) e h (omega arith))))
+no-count c (suc k) e = sym (List·getD-eq-default (0 ∷ countList c) 0 {n = suc k} (not-le (λ h. beyond 8 (suc k) e h (omega arith))))
   where
-    not-le : (suc k ≤ 7 → ⊥) → 7 < suc k
+    not-le : (suc k ≤ 8 → ⊥) → 8 < suc k
     not-le g = omega arith
 
 returns : tie.Need-returns
@@ -41,7 +41,10 @@ returns-7 : tie.Need-returns-7
 returns-7 c = search needs
 
 returns-8 : tie.Need-returns-8
-returns-8 c = no-count (c .before .args .c) (c .before .args .kind) (c .match .rest)
+returns-8 c = search needs
+
+returns-9 : tie.Need-returns-9
+returns-9 c = no-count (c .before .args .c) (c .before .args .kind) (c .match .rest)
 
 pub count-of-spec : {M : Type 1} → statement M
-count-of-spec = tie.close (tie.spec returns returns-2 returns-3 returns-4 returns-5 returns-6 returns-7 returns-8)
+count-of-spec = tie.close (tie.spec returns returns-2 returns-3 returns-4 returns-5 returns-6 returns-7 returns-8 returns-9)

@@ -38,6 +38,9 @@ rows-of-requires-6 c κs = short (c .before .before .before .before .before .bef
 rows-of-requires-7 : tie.Need-rows-of-requires-7
 rows-of-requires-7 c κs = short (c .before .before .before .before .before .before .before .before) .1
 
+rows-of-requires-8 : tie.Need-rows-of-requires-8
+rows-of-requires-8 c κs = short (c .before .before .before .before .before .before .before .before .before) .1
+
 cast-blocks-for : tie.Need-cast-blocks-for
 cast-blocks-for c = search needs
 
@@ -49,7 +52,7 @@ cast-count-scattered c = search needs
 
 count-scattered-requires : tie.Need-count-scattered-requires
 count-scattered-requires c κs =
-    let two = c .before .before .before .before .before .before .before in
+    let two = c .before .before .before .before .before .before .before .before in
     let one = two .before in
     let s = one .before .before in
     (s .pre, (c .blocks-for .ensures ∙ ap blocksFor (one .rows-of .ensures) ∙ stock-block (countsOf (now (s .args .bytes))), two .rows-of2 .ensures))
@@ -57,14 +60,15 @@ count-scattered-requires c κs =
 returns : tie.Need-returns
 returns c =
     rw (
-      c .before .before .before .before .before .before .before .before .before .rows-of .ensures,
-      c .before .before .before .before .before .before .before .before .rows-of2 .ensures,
-      c .before .before .before .before .before .before .before .two-at .ensures .0,
-      c .before .before .before .before .before .before .rows-of3 .ensures,
-      c .before .before .before .before .before .rows-of4 .ensures,
-      c .before .before .before .before .rows-of5 .ensures,
-      c .before .before .before .rows-of6 .ensures,
-      c .before .before .rows-of7 .ensures,
+      c .before .before .before .before .before .before .before .before .before .before .rows-of .ensures,
+      c .before .before .before .before .before .before .before .before .before .rows-of2 .ensures,
+      c .before .before .before .before .before .before .before .before .two-at .ensures .0,
+      c .before .before .before .before .before .before .before .rows-of3 .ensures,
+      c .before .before .before .before .before .before .rows-of4 .ensures,
+      c .before .before .before .before .before .rows-of5 .ensures,
+      c .before .before .before .before .rows-of6 .ensures,
+      c .before .before .before .rows-of7 .ensures,
+      c .before .before .rows-of8 .ensures,
       c .count-scattered .ensures,
     )
 
@@ -80,6 +84,7 @@ count-rows-spec =
     rows-of-requires-5
     rows-of-requires-6
     rows-of-requires-7
+    rows-of-requires-8
     cast-blocks-for
     blocks-for-requires
     cast-count-scattered

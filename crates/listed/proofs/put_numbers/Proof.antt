@@ -48,11 +48,12 @@ loop-less c = search needs
 loop-again : tie.Need-loop-again Inv-loop μ-loop
 loop-again c =
     let p = c .before .before in
-    let l = p .before .before .before .before in (
+    let l = p .before .before .before .before in
+    let below : l .loop .i < figureCount = search needs in (
       search needs,
       omega (arith, p .put-three .ensures .1),
       omega (arith, p .put-three .kept .1 .0),
-      λ v h. one-more _ (listed v) (l .loop .i) h (omega (arith, counted v)) (l .loop .inv .3 v h) (p .put-three .ensures .0),
+      λ v h. one-more _ (listed v) (l .loop .i) h (omega (arith, counted v, below)) (l .loop .inv .3 v h) (p .put-three .ensures .0),
       words-more (l .before .list .result) (l .loop .i) (l .loop .inv .4) (p .put-three .ensures .2),
     )
 

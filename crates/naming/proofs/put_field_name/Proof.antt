@@ -58,6 +58,13 @@ put-word-requires-7 : tie.Need-put-word-requires-7
 unfolding flatMap spaces
 put-word-requires-7 c κs = let s = c .before .before .before .before in omega (arith, s .pre, word-fits 7 (s .args .i) refl)
 
+slice-aggregate-put-word-8 : tie.Need-slice-aggregate-put-word-8
+slice-aggregate-put-word-8 c = search needs
+
+put-word-requires-8 : tie.Need-put-word-requires-8
+unfolding flatMap spaces
+put-word-requires-8 c κs = let s = c .before .before .before .before in omega (arith, s .pre, word-fits 8 (s .args .i) refl)
+
 same-length : tie.Need-same-length
 same-length c = search needs
 
@@ -107,8 +114,15 @@ returns-7 : tie.Need-returns-7
 unfolding flatMap spaces
 returns-7 c = let m = c .before .before .before .before .before in word-named 7 _ (m .match .keys7) _ refl (c .before .before .put-word7 .ensures)
 
+same-length-8 : tie.Need-same-length-8
+same-length-8 c = search needs
+
 returns-8 : tie.Need-returns-8
-returns-8 c =
+unfolding flatMap spaces
+returns-8 c = let m = c .before .before .before .before .before in word-named 8 _ (m .match .keys8) _ refl (c .before .before .put-word8 .ensures)
+
+returns-9 : tie.Need-returns-9
+returns-9 c =
     let a = c .before .before .args in
     (rw (no-name (a .kind) (a .i) (c .match .rest)) (record { room = refl; place = sym (add-zero (a .at)) }), omega arith)
 
@@ -130,6 +144,8 @@ put-field-name-spec =
     put-word-requires-6
     slice-aggregate-put-word-7
     put-word-requires-7
+    slice-aggregate-put-word-8
+    put-word-requires-8
     same-length
     returns
     same-length-2
@@ -144,4 +160,6 @@ put-field-name-spec =
     returns-6
     same-length-7
     returns-7
-    returns-8)
+    same-length-8
+    returns-8
+    returns-9)

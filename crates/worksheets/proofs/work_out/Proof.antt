@@ -92,6 +92,9 @@ work-savannas-requires c κs = acc (c .before .before .before .before .before .b
 work-soils-requires : tie.Need-work-soils-requires
 work-soils-requires c κs = acc (c .before .before .before .before .before .before .before .before .before .before .before .before .before .before)
 
+work-crops-requires : tie.Need-work-crops-requires
+work-crops-requires c κs = acc (c .before .before .before .before .before .before .before .before .before .before .before .before .before .before .before)
+
 scattered-rows-requires : tie.Need-scattered-rows-requires
 scattered-rows-requires c κs = search needs
 
@@ -99,7 +102,8 @@ returns : tie.Need-returns
 unfolding entered totalsOf
 returns c =
     let w = c .before in
-    let o = w .before in
+    let k = w .before in
+    let o = k .before in
     let f = o .before in
     let a = f .before in
     let b = a .before .before in
@@ -111,7 +115,7 @@ returns c =
     let gases = b .gases-of .ensures ∙ (λ i. gasesBy (ledger g i .onsite) (t .before .read-parameters .ensures i)) in
     let abandoned = a .work-abandoned .ensures ∙ ap abandonedOf (a .before .sum-abandoned .ensures) in
     let scattered = w .scattered-rows .ensures ∙ ap (λ (x : Counts). stockRows (x .scattered)) (acc (t .before .before .before) .counts) in
-    λ i. record { stocks = stocks i; conversion = conversion i; thinner = t .sum-conversion .ensures i .thinner; gases = gases i; abandoned = abandoned i; savannas = f .work-savannas .ensures i; soils = o .work-soils .ensures i; scattered = scattered i; matter = ledger g i .matter }
+    λ i. record { stocks = stocks i; conversion = conversion i; thinner = t .sum-conversion .ensures i .thinner; gases = gases i; abandoned = abandoned i; savannas = f .work-savannas .ensures i; soils = o .work-soils .ensures i; scattered = scattered i; matter = ledger g i .matter; crops = k .work-crops .ensures i }
 
 pub work-out-spec : {M : Type 1} → statement M
 work-out-spec =
@@ -130,5 +134,6 @@ work-out-spec =
     work-abandoned-requires
     work-savannas-requires
     work-soils-requires
+    work-crops-requires
     scattered-rows-requires
     returns)

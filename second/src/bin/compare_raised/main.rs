@@ -18,16 +18,12 @@ mod tally;
 #[cfg(not(door_missing))]
 mod run {
     use crate::tally::{Tally, SUBTOTALS};
-    use second::doubles::subtotal;
-    use second::drive::{exit, first_of, memory_difference, run, Arguments, Outcome, Plan};
-    use second::ffi::doubles::first_subtotal;
-    use second::ffi::lines::first_figures;
-    use second::input::Input;
-    use second::lent::Lent;
-    use second::lists::{rows_of, Lists};
+    use second::both::{both_doubles, both_figures};
+    use second::drive::{exit, run, Arguments, Outcome, Plan};
+    use second::lists::rows_of;
     use second::raised::{broken_pair, not_more_cleared, pair, Pair};
     use second::rng::Rng;
-    use second::sheets::{figures, NUMBERS};
+    use second::sheets::NUMBERS;
     use std::process::ExitCode;
 
     /// The premise holds of so many pairs, and one in so many is broken.
@@ -36,36 +32,6 @@ mod run {
     const INPUTS: usize = HELD * EVERY / (EVERY - 1);
     /// On-site, off-site and decay among the figures, three numbers each.
     const EXACT_AT: [usize; 3] = [24, 27, 33];
-
-    /// A pair as the report needs it.
-    struct Versions(Pair);
-
-    impl Input for Versions {
-        fn how(&self) -> &str {
-            &self.0.how
-        }
-
-        fn dump(&self) -> Vec<u8> {
-            [&self.0.first[..], &self.0.second].concat()
-        }
-
-        /// Of the second version.
-        fn edition(&self) -> u32 {
-            self.0.second[6].into()
-        }
-
-        fn sentences() -> Vec<String> {
-            Vec::new()
-        }
-
-        fn met(&self, _: u32) -> Vec<usize> {
-            Vec::new()
-        }
-
-        fn lists(&self) -> Lists {
-            rows_of(&self.0.second)
-        }
-    }
 
     /// What the first program says of a version.
     pub struct Found {
@@ -94,13 +60,19 @@ mod run {
             balances: 0,
             uneven: 0,
             retired: 0,
+            crops: 0,
+            crossed: 0,
         };
         let make = |index: usize, rng: &mut Rng| {
             let broken = index % EVERY == EVERY - 1;
-            Versions(if broken { broken_pair(rng) } else { pair(rng) })
+            if broken {
+                broken_pair(rng)
+            } else {
+                pair(rng)
+            }
         };
         let mut tally = Tally::new();
-        let ran = run(&plan, arguments, make, |Versions(pair), _| Outcome {
+        let ran = run(&plan, arguments, make, |pair, _| Outcome {
             answer: 0,
             difference: try_one(pair, &mut tally),
         });
@@ -145,33 +117,10 @@ mod run {
 
     /// What the first program says of these bytes, or where the second says another.
     fn ask(bytes: &[u8]) -> Result<Found, String> {
-        let mut found = Found {
-            doubles: [0.0; 3],
-            figures: [0; NUMBERS],
-        };
-        let mut due = [0; NUMBERS];
-        let answers = [
-            first_figures(bytes, Lent::whole(&mut found.figures)),
-            figures(bytes, &mut due),
-        ];
-        let mut difference = first_of([
-            (answers != [0; 2]).then(|| format!("answers {answers:?}")),
-            memory_difference("the figures", &found.figures, &due),
-        ]);
-        for (code, double) in (0..).zip(&mut found.doubles) {
-            let [mut room, mut room_due] = [[0; 8]; 2];
-            let answers = [
-                first_subtotal(bytes, code, Lent::whole(&mut room)),
-                subtotal(bytes, code, &mut room_due),
-            ];
-            *double = f64::from_le_bytes(room);
-            difference = first_of([
-                difference,
-                (answers != [0; 2]).then(|| format!("answers {answers:?} for code {code}")),
-                memory_difference("the double", &room, &room_due),
-            ]);
-        }
-        difference.map_or(Ok(found), Err)
+        Ok(Found {
+            figures: both_figures(bytes)?,
+            doubles: both_doubles(bytes)?,
+        })
     }
 }
 

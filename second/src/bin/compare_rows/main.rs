@@ -36,7 +36,7 @@ mod run {
     const BEFORE_9: [u32; 3] = [12, 13, 14];
     /// Editions and row counts that are tried with rooms of every length: full
     /// returns, some with kinds left out, and the parameters alone.
-    const EVERY_LENGTH: [(u16, &[usize]); 12] = [
+    const EVERY_LENGTH: [(u16, &[usize]); 14] = [
         (1, &[32, 32, 32]),
         (1, &[2, 0, 3]),
         (1, &[0, 1, 12]),
@@ -46,8 +46,10 @@ mod run {
         (2, &[0, 2, 0, 0, 13]),
         (2, &[0, 0, 0, 2, 3]),
         (2, &[0, 1, 0, 0, 2, 13]),
+        (2, &[0, 0, 1, 0, 0, 0, 13]),
         (2, &[]),
         (3, &[0, 13, 2, 1, 0, 2]),
+        (3, &[1, 0, 0, 0, 2, 0, 3]),
         (3, &[]),
     ];
 

@@ -23,6 +23,8 @@ pub fn compare(arguments: Arguments) -> bool {
         balances: 1_000,
         uneven: 100,
         retired: 100,
+        crops: 5_000,
+        crossed: 100,
     };
     let mut tally = Tally::new(9);
     let ran = run(&plan, arguments, inputs::with_figures, |case, rng| {

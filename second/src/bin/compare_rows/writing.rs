@@ -30,6 +30,8 @@ pub fn compare(arguments: Arguments) -> bool {
         balances: 1_000,
         uneven: 100,
         retired: 100,
+        crops: 5_000,
+        crossed: 100,
     };
     let make = |index: usize, rng: &mut Rng| {
         let turn = index / SWEEP_EVERY;

@@ -7,9 +7,9 @@
 //! `fenced cross [heap] [before|behind] [read|write]`: touches one byte outside
 //! an area on purpose and must be stopped. Without `heap` that is tried first.
 //! All answers and all memory are compared with the second program's. The exact
-//! halves among the figures are counted, and so are the returns with thinner
-//! rows and with savannas, and those by the wood that is cleared and used; each sort
-//! is due.
+//! halves among the figures are counted, and so are the returns by their rows,
+//! thinner ones, savannas and crops among them, and by the wood that is cleared
+//! and used; each sort is due.
 
 #[cfg(door_missing)]
 compile_error!(

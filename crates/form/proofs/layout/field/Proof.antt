@@ -28,6 +28,9 @@ savanna-requires c κs = rw (c .match .keys6) at (c .before .pre)
 soil-requires : tie.Need-soil-requires
 soil-requires c κs = rw (c .match .keys7) at (c .before .pre)
 
+crop-requires : tie.Need-crop-requires
+crop-requires c κs = rw (c .match .keys8) at (c .before .pre)
+
 returns : tie.Need-returns
 returns c = search needs
 
@@ -50,8 +53,11 @@ returns-7 : tie.Need-returns-7
 returns-7 c = search needs
 
 returns-8 : tie.Need-returns-8
+returns-8 c = search needs
+
+returns-9 : tie.Need-returns-9
 unfolding kinds
-returns-8 c = let a = c .before .args in sym (ap (λ (l : Layout). fieldAt l (a .i)) (no-kind (a .kind) (beyond kinds (a .kind) (c .match .rest))))
+returns-9 c = let a = c .before .args in sym (ap (λ (l : Layout). fieldAt l (a .i)) (no-kind (a .kind) (beyond kinds (a .kind) (c .match .rest))))
 
 pub field-spec : {M : Type 1} → statement M
 field-spec =
@@ -64,6 +70,7 @@ field-spec =
     abandoned-requires
     savanna-requires
     soil-requires
+    crop-requires
     returns
     returns-2
     returns-3
@@ -71,4 +78,5 @@ field-spec =
     returns-5
     returns-6
     returns-7
-    returns-8)
+    returns-8
+    returns-9)

@@ -31,8 +31,11 @@ returns-7 : tie.Need-returns-7
 returns-7 c = search needs
 
 returns-8 : tie.Need-returns-8
+returns-8 c = search needs
+
+returns-9 : tie.Need-returns-9
 unfolding kinds
-returns-8 c = (sym (ap length (no-kind (c .before .args .kind) (beyond kinds (c .before .args .kind) (c .match .rest)))), lit≤ tt)
+returns-9 c = (sym (ap length (no-kind (c .before .args .kind) (beyond kinds (c .before .args .kind) (c .match .rest)))), lit≤ tt)
 
 pub numbers-spec : {M : Type 1} → statement M
-numbers-spec = tie.close (tie.spec returns returns-2 returns-3 returns-4 returns-5 returns-6 returns-7 returns-8)
+numbers-spec = tie.close (tie.spec returns returns-2 returns-3 returns-4 returns-5 returns-6 returns-7 returns-8 returns-9)

@@ -1,42 +1,37 @@
--- `savannas::ratios_at` meets its contract. Assumes nothing.
-use Rattle.form.specs.Layout.{rowFrom}
+-- `burning::ratios_at` meets its contract. Assumes nothing.
 use native.Mathlib.Omega.{arith}
 use borrow.Author.Needs.{needs}
-use Rattle.savannas.proofs.ratios_at.Statement.{statement}
-use Rattle.savannas.proofs.ratios_at.Tie as tie
-
-add-two-at : tie.Need-add-two-at
-add-two-at c = search needs
+use Rattle.burning.proofs.ratios_at.Statement.{statement}
+use Rattle.burning.proofs.ratios_at.Tie as tie
 
 two-at-requires : tie.Need-two-at-requires
 two-at-requires c κs = search needs
 
-add-two-at-2 : tie.Need-add-two-at-2
-add-two-at-2 c = search needs
+add-two-at : tie.Need-add-two-at
+add-two-at c = search needs
 
 two-at-requires-2 : tie.Need-two-at-requires-2
 two-at-requires-2 c κs = search needs
 
-add-two-at-3 : tie.Need-add-two-at-3
-add-two-at-3 c = search needs
+add-two-at-2 : tie.Need-add-two-at-2
+add-two-at-2 c = search needs
 
 two-at-requires-3 : tie.Need-two-at-requires-3
 two-at-requires-3 c κs = search needs
 
-add-two-at-4 : tie.Need-add-two-at-4
-add-two-at-4 c = search needs
+add-two-at-3 : tie.Need-add-two-at-3
+add-two-at-3 c = search needs
 
 two-at-requires-4 : tie.Need-two-at-requires-4
 two-at-requires-4 c κs = search needs
 
-add-two-at-5 : tie.Need-add-two-at-5
-add-two-at-5 c = search needs
+add-two-at-4 : tie.Need-add-two-at-4
+add-two-at-4 c = search needs
 
 two-at-requires-5 : tie.Need-two-at-requires-5
 two-at-requires-5 c κs = search needs
 
 returns : tie.Need-returns
-unfolding rowFrom
 returns c =
     let o = c .before in
     let d = o .before in
@@ -47,14 +42,13 @@ pub ratios-at-spec : {M : Type 1} → statement M
 ratios-at-spec =
     tie.close
     (tie.spec
-    add-two-at
     two-at-requires
-    add-two-at-2
+    add-two-at
     two-at-requires-2
-    add-two-at-3
+    add-two-at-2
     two-at-requires-3
-    add-two-at-4
+    add-two-at-3
     two-at-requires-4
-    add-two-at-5
+    add-two-at-4
     two-at-requires-5
     returns)
