@@ -14,12 +14,27 @@ say() { echo "$command: $*" >&2; }
 fail() { say "$*"; exit 1; }
 wrong_use() { printf '%s\n' "$usage" >&2; exit 2; }
 
+# Put under a prefix by tools/install, ready to run: there is nothing to prove or to compile. The file has the version.
+is_installed() { [ -f "$home/installed" ]; }
+
 begin() { # COMMAND USAGE WORD..
     command=$1 usage=$2
+    ! is_installed || usage=$(installed_usage)
     case ${3-} in
         -h | --help) answer "$usage" ;;
         --version) answer "$command: $(version)" ;;
     esac
+}
+
+# The usage of an installed command, which is called by its name alone and has its pages beside it.
+installed_usage() {
+    local pages text=$usage
+    pages=$(readlink -m "$home/../../share/doc/niloferq")
+    text=${text//" ./"/" "}
+    text=${text//" examples/"/" "}
+    text=${text//" The first run proves and compiles, some minutes."/}
+    text=${text//"The first run proves and compiles, some minutes. "/} # where a line begins with it
+    printf '%s\n' "${text//"docs/"/"$pages/"}"
 }
 
 answer() { # TEXT
@@ -30,6 +45,7 @@ answer() { # TEXT
 # The header's version, and the commit where this is a clone.
 version() {
     local header commit
+    ! is_installed || { cat "$home/installed"; return; }
     header=$(sed -n 's/^#define NILOFERQ_VERSION \([0-9]*\).*/\1/p' "$home/include/niloferq.h")
     commit=$(git -C "$home" describe --always --dirty='-changed' --abbrev=12 --exclude='*' 2>/dev/null) || commit=unknown
     echo "header version $header, commit $commit"
@@ -80,6 +96,7 @@ tell_progress() { # CRATE
 
 # Made after the last change of a source, a file *.rt, which has the code: definitions and proofs stand in other files and are no part of what is made.
 up_to_date() { # FILE
+    ! is_installed || return 0
     [ -e "$1" ] && [ -z "$(find "$home/crates" -name '*.rt' -newer "$1" -print -quit)" ]
 }
 
@@ -104,12 +121,21 @@ prove() { # CRATE FILE, which is made; then the words for rt
 # The library for C, one for all commands.
 make_library() { prove door "$home/target/staticlib/libdoor.a" staticlib door; }
 
-# The compiler and the emulator.
-find_machine() { . "$home/tools/machine.sh"; }
+# The compiler and the emulator. An installed command needs the emulator alone, and that on another processor than x86-64 alone.
+find_machine() {
+    machine_runner=""
+    if ! is_installed; then
+        . "$home/tools/machine.sh"
+    elif [ "$(uname -m)" != x86_64 ]; then
+        machine_runner=qemu-x86_64
+        command -v $machine_runner >/dev/null || fail "qemu-x86_64 is missing: this program is for x86-64, and another processor needs Debian's packages qemu-user and libc6:amd64"
+    fi
+}
 
 # Compiles examples/NAME.c to target/examples, where it or what it is made of has changed.
 compile() { # NAME [LIBRARY]
     local program=$home/target/examples/$1
+    ! is_installed || return 0
     [ ! -x "$program" ] || [ -n "$(find "$home/examples/$1.c" "$home"/examples/*.h "$home/include" "${@:2}" -newer "$program" -print -quit)" ] || return 0
     command -v $machine_cc >/dev/null || fail "$machine_cc, a C compiler, is missing"
     mkdir -p "$home/target/examples" 2>/dev/null || fail "cannot write $home/target"
