@@ -1,7 +1,7 @@
 /* Tries what the header says: areas of length 0, NULL among their pointers; each function on the worked day, and the figures of the day with thinner
  * rows, with scattered trees, with rows of each kind above 4 and with soils that changed. Reading and writing are in door_rows.c, returns byte by byte in
  * door_bytes.c, number 14 in door_trees.c, number 12 in door_wood.c, number 13 in door_soil.c, the cleared biomass in door_matter.c, what crop residues leave
- * as it is in door_crop.c, table 5-2 in door_table52.c, the explanation and the heaviest rows in door_explain.c, the national line in door_nation.c; all of
+ * as it is in door_crop.c, table 5-2 in door_table52.c, the explanation and the heaviest rows in door_explain.c, the national line in door_nation.c, rows as text in door_texts.c; all of
  * them take the kinds from the table in door_kinds.c. */
 #include "door_test.h"
 #include <stdio.h>
@@ -320,6 +320,7 @@ int main(int count, char **words) {
     table52();
     explanations(day, length);
     nations(day, length);
+    texts(day, length);
     printf("door: %u tried, %u wrong\n", tried, wrong);
     return wrong != 0;
 }

@@ -89,7 +89,7 @@ void must_refuse(const struct rows *r, size_t room_len, size_t size_len, uint32_
 #define NO_CROPS "crop_carbon 0\ncrop_ch4 0\ncrop_co 0\ncrop_n2o 0\ncrop_nox 0\n"
 
 /* The trials of reading and writing, of returns byte by byte, of scattered trees with number 14, of numbers 12 and 13, of the cleared biomass, of crop
- * residues, of niloferq_table52, of niloferq_explain and niloferq_heaviest, and of niloferq_nation, with the worked day. */
+ * residues, of niloferq_table52, of niloferq_explain and niloferq_heaviest, of niloferq_nation, and of rows as text, with the worked day. */
 void reading(const uint8_t *day, size_t length);
 void writing(const uint8_t *day, size_t length);
 void returns_in_bytes(const uint8_t *day, size_t length);
@@ -101,5 +101,6 @@ void crops(void);
 void table52(void);
 void explanations(const uint8_t *day, size_t length);
 void nations(const uint8_t *day, size_t length);
+void texts(const uint8_t *day, size_t length);
 
 #endif

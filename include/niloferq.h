@@ -9,8 +9,9 @@
  * examples/door_test and works, though the compiler's guide does not promise it.
  *
  * A refusal is 1,000 times its number plus its place, by the paper's table; number 8 is not given any more; two of niloferq_table52 have
- * no number there and are 1 and 2; the refusal of a room that is too short, 9000 and when reading also 9001 to 9008, comes last. On a refusal no lent
- * element has changed, but for niloferq_lines, niloferq_explain and niloferq_nation: the text of a refusal is its lines, and it is written like any other.
+ * no number there and are 1 and 2; the faults of a text of rows (niloferq_pack) are 1 to 10; the refusal of a room that is too short, 9000 and when reading
+ * also 9001 to 9008, comes last. On a refusal no lent element has changed, but for niloferq_lines, niloferq_explain, niloferq_nation and
+ * niloferq_pack_why: the text of a refusal is its lines, and it is written like any other.
  *
  * The numbers of a return are tried in this order: 1 to 6, 14, 7, 12, 13; those of rows to be written: 10, 5, 6, 14, 7, 12, 13. Each is tried over the
  * whole input before the next.
@@ -131,10 +132,10 @@
 #include <stddef.h>
 #include <stdint.h>
 
-/* Of the functions below; 13 had seven kinds, 12 did not have the five figures of cleared biomass, 11 had two editions, no number 14 and no `scattered`, 10
+/* Of the functions below; 14 had no rows as text, 13 had seven kinds, 12 did not have the five figures of cleared biomass, 11 had two editions, no number 14 and no `scattered`, 10
  * six kinds and no number 13, 9 no national line, 8 no number 12, 7 named no row in an explanation, 6 had no explanation, 5 no table, 4 had five kinds, 3
  * number 8 and no `thinner`, 2 four kinds and no edition, 1 an area for each kind. */
-#define NILOFERQ_VERSION 14
+#define NILOFERQ_VERSION 15
 
 #define NILOFERQ_EDITIONS 3            /* the latest edition */
 #define NILOFERQ_KINDS 8               /* the kinds of rows */
@@ -152,6 +153,7 @@
 #define NILOFERQ_MOST_ROWS 32          /* the most rows of a kind in a return; of parameters there is always one */
 #define NILOFERQ_FIGURES 38            /* the figures of a return */
 #define NILOFERQ_MOST_RETURNS 500      /* the most returns of a national line */
+#define NILOFERQ_LONGEST_TEXT 131072   /* the most bytes of a text of rows */
 
 /* Rooms that are always enough. */
 #define NILOFERQ_ROWS_ROOM                                                                                        \
@@ -167,6 +169,8 @@
 #define NILOFERQ_EXPLAIN_ROOM 500                    /* bytes for an explanation */
 #define NILOFERQ_NATION_ROOM 16000                   /* bytes for a national line */
 #define NILOFERQ_HEAVIEST_ROOM 3                     /* elements for the heaviest row */
+#define NILOFERQ_PACK_WHY_ROOM 400                   /* bytes for why a text can't be packed */
+#define NILOFERQ_UNPACK_ROOM 33500                   /* bytes for a return's rows as text */
 
 #define NILOFERQ_COUNTRIES 90   /* the countries of table 5-2 */
 #define NILOFERQ_ZONES 6        /* its forest zones */
@@ -262,6 +266,27 @@ uint32_t niloferq_defaults(uint32_t *room, size_t room_len);
  *    size_len is 0. */
 uint32_t niloferq_write(uint32_t edition, const uint32_t *rows, size_t rows_len, const uint32_t *lengths, size_t lengths_len, uint8_t *room,
                         size_t room_len, uint32_t *size, size_t size_len);
+
+/* A text of rows, as a spreadsheet saves it, as a return: any bytes of any length. docs/ROWS.md has the text. NILOFERQ_RETURN_ROOM bytes and one element
+ * of size are always enough.
+ * 0: the blocks stand at the front of room, and the first element of size is their number of bytes; later elements of both keep their values.
+ * 1 to 10: the text's first fault, the lowest line and in it the first of: 1 long, 2 edition, 3 kind, 4 order, 5 rows, 6 fields, then of the first field at
+ *    fault 7 unit, 8 number, 9 decimals, 10 large. Then 10000 to 10008, 5000 to 7263, 12000, 13000 to 13263, 14000 to 14263: its rows are refused, as
+ *    niloferq_write refuses them. Last 9000: room_len is below the number of bytes, or size_len is 0. */
+uint32_t niloferq_pack(const uint8_t *text, size_t text_len, uint8_t *room, size_t room_len, uint32_t *size, size_t size_len);
+
+/* Why a text can't be packed: the lines that the program `pack` prints on standard error; of a text that can, `packed` and the number of bytes of its
+ * return. docs/ROWS.md has the lines.
+ * The lines' length, and they stand at the front of room, with no zero byte behind them; later bytes keep their values.
+ * 0: room_len is below the length, and room is unchanged. NILOFERQ_PACK_WHY_ROOM bytes are always enough. */
+size_t niloferq_pack_why(const uint8_t *text, size_t text_len, uint8_t *room, size_t room_len);
+
+/* The rows of a return as text that niloferq_pack packs to the same bytes. NILOFERQ_UNPACK_ROOM bytes and one element of size are always enough.
+ * 0: the text stands at the front of room, with no zero byte behind it, and the first element of size is its number of bytes; later elements of both keep
+ *    their values.
+ * 1000 to 7263, 12000, 13000 to 13263, 14000 to 14263: refused, by the numbers of a return in their order, above. Last 9000: room_len is below the
+ *    number of bytes, or size_len is 0. */
+uint32_t niloferq_unpack(const uint8_t *bytes, size_t bytes_len, uint8_t *room, size_t room_len, uint32_t *size, size_t size_len);
 
 /* Table 5-2 of document 001: the forest area of 1980 and of 1990, in tenths of kha, and the yearly conversion rate, in tenths of kha a year and
  * below zero where forest grew, of a country in a forest zone. Both are numbered from 0 in the document's order without totals:

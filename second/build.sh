@@ -1,9 +1,9 @@
 # Builds the second program beside the proved library. To be read by a shell in the repository's folder:
 #     . second/build.sh; second_run compare
 # The proved library is x86-64 code, so on another processor the second program is built for x86-64 too (tools/machine.sh).
-second_features="lines,doubles,rows,explain,tables,nation"
+second_features="lines,doubles,rows,explain,tables,nation,texts"
 # the longest first, since the gate runs two at a time
-comparisons="compare_nation compare_lines compare_rows compare_doubles compare_raised compare compare_explain compare_crops compare_sheets fenced compare_tables"
+comparisons="compare_nation compare_lines compare_rows compare_texts compare_doubles compare_raised compare compare_explain compare_crops compare_sheets fenced compare_tables"
 
 . tools/machine.sh
 

@@ -5,8 +5,8 @@
 use std::ffi::{c_int, c_void};
 use std::ops::{Deref, DerefMut};
 
-/// A multiple of every page size in use.
-const PAGE: usize = 65_536;
+/// A multiple of every page size in use, and longer than any text that is looked at.
+const PAGE: usize = 4 * 65_536;
 
 const NO_ACCESS: c_int = 0;
 const READ_WRITE: c_int = 1 | 2;

@@ -15,3 +15,4 @@ pub mod lines;
 pub mod nation;
 pub mod rows;
 pub mod tables;
+pub mod texts;

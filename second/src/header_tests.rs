@@ -12,6 +12,9 @@ use crate::text::FIGURES;
 /// The version that has all that this program has.
 const VERSION: usize = 14;
 
+/// The version that can pack and unpack.
+const WITH_TEXTS: usize = 15;
+
 /// A constant of the header.
 fn in_header(name: &str) -> usize {
     let header = include_str!("../../include/niloferq.h");
@@ -56,4 +59,14 @@ fn rooms_are_enough() {
         let case = inputs::drawn_explained(&mut Rng::for_input(234, index));
         assert!(explain::text(&case.bytes).as_bytes().len() <= explanation);
     }
+}
+
+/// The longest reason and the longest text, each made by hand elsewhere.
+#[test]
+fn rooms_of_texts_are_enough() {
+    if in_header("NILOFERQ_VERSION") < WITH_TEXTS {
+        return;
+    }
+    assert!(in_header("NILOFERQ_PACK_WHY_ROOM") >= 149);
+    assert!(in_header("NILOFERQ_UNPACK_ROOM") >= 18_288);
 }

@@ -45,6 +45,11 @@ impl<'a, T> Lent<'a, T> {
         Lent { memory, lent }
     }
 
+    /// The lent part by itself, for a stand-in that is no C function.
+    pub fn room(self) -> &'a mut [T] {
+        &mut self.memory[..self.lent]
+    }
+
     /// Pointer and length for C. The pointer is good for all of `memory`.
     pub fn parts(self) -> (*mut T, usize) {
         (self.memory.as_mut_ptr(), self.lent)

@@ -5,7 +5,7 @@ ghost use mathlib.Core.List.{flatten};
 ghost use Prim.Native.Nat.{_+_, _*_, _^_, _≤_, _<_};
 ghost use lib.ListN.{length, getD, take};
 ghost use Rattle.form.specs.Ruling.{ruling};
-ghost use Rattle.form.specs.Records.{filed};
+ghost use Rattle.form.specs.Records.{filed, filedRows};
 ghost use Rattle.form.specs.Sums.{soilType, uneven};
 ghost use Rattle.form.specs.Verdict.{rows, Formed};
 ghost use Rattle.filing.specs.Lists.{cut, rowsIn, rowOf, filedLists};
@@ -176,4 +176,14 @@ pub fn rule_unwritten(lengths: &[u32], area: &[u32]) -> Ruling
     let from = sum(&lengths[0..6]);
     let end = from + length_at(lengths, 6);
     rule_from(12 * blocks_in(&lengths[0..6]), &area[from..end])
+}
+
+// The two area sums of a soil type, of such lists.
+pub fn areas_in(lengths: &[u32], area: &[u32], soil: u32) -> Areas
+    requires { ⌜ Good (now lengths) (length (now area)) ⌝ }
+    ensures { λ r. ⌜ r ≡ areasOf (filedRows (filedLists (cut (now (lengths .entry)) (now (area .entry)))) 7) soil ⌝ }
+{
+    let from = sum(&lengths[0..6]);
+    let end = from + length_at(lengths, 6);
+    add_areas(&area[from..end], soil as u64)
 }

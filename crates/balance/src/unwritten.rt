@@ -83,7 +83,7 @@ fn sum_list(kind: usize, rows: &[u32]) -> Wide
 }
 
 // The wood of lists that 10 has found good: the conversion rows lie first in the area, the harvest rows behind the stocks.
-fn weigh_lists(lengths: &[u32], area: &[u32]) -> Wood
+pub fn weigh_lists(lengths: &[u32], area: &[u32]) -> Wood
     requires { ⌜ Good (now lengths) (length (now area)) ⌝ }
     ensures { λ r. ⌜ r ≡ woodOf (filedRows (filedLists (cut (now (lengths .entry)) (now (area .entry)))) 3) (filedRows (filedLists (cut (now (lengths .entry)) (now (area .entry)))) 1) ⌝ }
 {

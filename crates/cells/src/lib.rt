@@ -118,7 +118,7 @@ fn is_blank(b: u8, sep: u8) -> bool
 }
 
 // Past the blanks at the front of a part.
-fn front(line: &[u8], from: usize, to: usize, sep: u8) -> usize
+pub fn front(line: &[u8], from: usize, to: usize, sep: u8) -> usize
     requires { ⌜ (from ≤ to) × (to ≤ length (now line)) ⌝ }
     ensures { λ r. ⌜ (from ≤ r) × (r ≤ to) × (part r to (now (line .entry)) ≡ frontOff sep (part from to (now (line .entry)))) ⌝ }
 {

@@ -1,4 +1,6 @@
 // Standard input and output for programs that take some bytes up to a limit and print a text.
+ghost use Prim.Native.Nat.{_≤_, _<_};
+ghost use lib.ListN.{length, getD};
 ghost use Rattle.io.specs.Counts.{Counts};
 ghost use Rattle.console.specs.Within.{Within};
 use libc::STDERR_FILENO;
@@ -47,4 +49,21 @@ pub fn print(room: &[u8], done: Put, lost: &[u8])
     if let Put::Done(n) = done {
         put(&room[..n], lost);
     }
+}
+
+// The same on standard error: what was asked for is not there, and this is why. Nothing is said of what standard error does not take.
+pub fn complain(room: &[u8], done: Put)
+    requires { ⌜ Within done (now room) ⌝ }
+{
+    if let Put::Done(n) = done {
+        io::write_all(STDERR_FILENO, &room[..n]);
+    }
+}
+
+// As many bytes from the front of the room as the first size says.
+pub fn put_sized(room: &[u8], size: &[u32], lost: &[u8])
+    requires { ⌜ (0 < length (now size)) × (getD (now size) 0 0 ≤ length (now room)) ⌝ }
+{
+    let n = size[0] as usize;
+    put(&room[..n], lost);
 }

@@ -54,7 +54,7 @@ use Rattle.door.proofs.niloferq_explain as c-explain
 use Rattle.door.proofs.niloferq_nation as c-nation
 
 -- a text that fits is put
-done-in : (text room : List ℕ) (n : ℕ) → length text ≤ n → n ≤ length room → putOf text room ≡ Done (length text)
+pub done-in : (text room : List ℕ) (n : ℕ) → length text ≤ n → n ≤ length room → putOf text room ≡ Done (length text)
 done-in text room n h k = ap (λ (b : Bool). cond b Short (Done (length text))) (le-ltb (length room) (length text) (omega arith))
 
 -- a text is never empty, so that the size 0 is no text's

@@ -18,9 +18,13 @@ use Rattle.tabled.specs.Figures.{figuresRules}
 use Rattle.counted.specs.Counts.{judgeRules}
 use Rattle.charted.specs.Subtotal.{subtotalRules}
 use Rattle.weighed.specs.Heaviest.{heaviestRulesC}
-use Rattle.handed.specs.Rows.{readRulesC, writeRulesC}
+use Rattle.handed.specs.Rows.{readRulesC, writeRulesC, writeCall}
 use Rattle.handed.proofs.Few.{few-blocks}
+use Rattle.texts.specs.Texts.{TextRead, rows, faulty, textRead}
+use Rattle.unpacked.specs.Calls.{unpackRules}
+use Rattle.packing.specs.Packing.{ofRuling, packedBy, packCall}
 use Rattle.door.specs.Door.{codeOf, InPlace}
+use Rattle.door.specs.Texts.{PackInPlace}
 
 -- ---- numbers and places
 
@@ -75,6 +79,9 @@ module _ (s room : List ℕ) where
 pub write-bounded : (ed : ℕ) (area lengths room size : List ℕ) → Bounded (writeRulesC ed area lengths room size)
 write-bounded ed area lengths room size = bounded-then (listRules ed lengths area) _ (bounded-lists ed lengths area) (bounded (omega arith))
 
+pub unpack-bounded : (s room size : List ℕ) → Bounded (unpackRules s room size)
+unpack-bounded s room size = bounded-then (rules s) _ (bounded-bytes s) (bounded (omega arith))
+
 pub defaults-bounded : (room : List ℕ) → Bounded (tooShort 6 room ∷ [])
 defaults-bounded room = bounded (omega arith)
 
@@ -84,6 +91,19 @@ means-in-place b (Broken n p) m = b n p m .1
 
 pub in-place : (rs : List Rule) → Bounded rs → InPlace (ruling rs)
 in-place rs b = means-in-place b (ruling rs) (ruling-means rs)
+
+-- a text's fault has no place, and its rows have those of writing
+ruled-in-place : (v : Ruling) → InPlace v → PackInPlace (ofRuling v)
+ruled-in-place Clean h = tt
+ruled-in-place (Broken n p) h = h
+
+read-in-place : (room size : List ℕ) (t : TextRead) → PackInPlace (packedBy t room size)
+read-in-place room size (rows e lengths area) =
+    ruled-in-place (writeCall e area lengths room size) (in-place _ (write-bounded e area lengths room size))
+read-in-place room size (faulty f) = tt
+
+pub pack-in-place : (text room size : List ℕ) → PackInPlace (packCall text room size)
+pack-in-place text room size = read-in-place room size (textRead text)
 
 -- ---- codes, back to the rules
 

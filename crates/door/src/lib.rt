@@ -14,11 +14,16 @@ ghost use Rattle.charted.specs.Subtotal.{subtotalCall, bitsTold};
 ghost use Rattle.weighed.specs.Heaviest.{heaviestCall, heaviestTold};
 ghost use Rattle.offered.specs.Defaults.{defaultsCall, defaultsAfter};
 ghost use Rattle.handed.specs.Rows.{readCall, rowsRead, countsRead, writeCall, blocksWritten, sizeWritten};
+ghost use Rattle.unpacked.specs.Calls.{unpackCall, textUnpacked, sizeUnpacked};
+ghost use Rattle.packing.specs.Packing.{packCall, bytesPacked, sizePacked};
+ghost use Rattle.objections.specs.Objections.{packWhy, whyRoom};
 ghost use Rattle.door.specs.Door.{codeOf, InPlace, sizeOf, linesAfter};
 ghost use Rattle.door.specs.Explain.{explainAfter};
 ghost use Rattle.door.specs.Nation.{nationAfter};
 ghost use Rattle.door.specs.Table.{tableCode, tableCall, tableAfter};
+ghost use Rattle.door.specs.Texts.{packCode, PackInPlace, whyAfter};
 use form::Ruling;
+use packing::Packing;
 use phrases::Put;
 use table52::lent::Told;
 
@@ -38,6 +43,17 @@ fn size_of(p: Put) -> usize
     match p {
         Put::Done(n) => n,
         Put::Short => 0,
+    }
+}
+
+fn code_of_text(p: Packing) -> u32
+    requires { ⌜ PackInPlace p ⌝ }
+    ensures { λ r. ⌜ r ≡ packCode p ⌝ }
+{
+    match p {
+        Packing::Packed => 0,
+        Packing::Faulty(f) => f.fault,
+        Packing::Refused { number, place } => 1000 * (number as u32) + place,
     }
 }
 
@@ -154,4 +170,34 @@ pub extern "C" fn niloferq_nation(bytes: &[u8], room: &mut [u8]) -> usize
     ensures { λ _. ⌜ length (printedNation (now (bytes .entry))) ≤ nationRoom ⌝ }
 {
     size_of(national::nation(bytes, room))
+}
+
+// 0, the return of a text of rows at the front of the room and its number of bytes as the first size; or the text's fault or the refusal, and both rooms as they were.
+#[no_mangle]
+pub extern "C" fn niloferq_pack(text: &[u8], room: &mut [u8], size: &mut [u32]) -> u32
+    ensures { λ r. ⌜ r ≡ packCode (packCall (now (text .entry)) (now (room .entry)) (now (size .entry))) ⌝ }
+    ensures { λ _. ⌜ now (room .exit) ≡ bytesPacked (now (text .entry)) (now (room .entry)) (now (size .entry)) ⌝ }
+    ensures { λ _. ⌜ now (size .exit) ≡ sizePacked (now (text .entry)) (now (room .entry)) (now (size .entry)) ⌝ }
+{
+    code_of_text(packing::pack(text, room, size))
+}
+
+// Why a text of rows can't be packed at the front of the room, and the lines' length; or 0, and the room as it was, where it is too short.
+#[no_mangle]
+pub extern "C" fn niloferq_pack_why(text: &[u8], room: &mut [u8]) -> usize
+    ensures { λ r. ⌜ r ≡ sizeOf (putOf (packWhy (now (text .entry))) (now (room .entry))) ⌝ }
+    ensures { λ _. ⌜ now (room .exit) ≡ whyAfter (now (text .entry)) (now (room .entry)) ⌝ }
+    ensures { λ _. ⌜ length (packWhy (now (text .entry))) ≤ whyRoom ⌝ }
+{
+    size_of(objections::say_why(text, room))
+}
+
+// 0, the rows of a return as text at the front of the room and its number of bytes as the first size; or the refusal, and both rooms as they were.
+#[no_mangle]
+pub extern "C" fn niloferq_unpack(bytes: &[u8], room: &mut [u8], size: &mut [u32]) -> u32
+    ensures { λ r. ⌜ r ≡ codeOf (unpackCall (now (bytes .entry)) (now (room .entry)) (now (size .entry))) ⌝ }
+    ensures { λ _. ⌜ now (room .exit) ≡ textUnpacked (now (bytes .entry)) (now (room .entry)) (now (size .entry)) ⌝ }
+    ensures { λ _. ⌜ now (size .exit) ≡ sizeUnpacked (now (bytes .entry)) (now (room .entry)) (now (size .entry)) ⌝ }
+{
+    code_of(unpacked::unpack(bytes, room, size))
 }

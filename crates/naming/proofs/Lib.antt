@@ -1,2 +1,2 @@
 mod Texts
-mod Names
+pub mod Names

@@ -2,6 +2,7 @@
 --     word-fits      word i of a kind's names has at most 30 bytes
 --     word-named     where it was written, the name of field i was; no-name, another number has none
 --     kind-word      the kind's name, which kind-fits in 10 bytes
+--     short-in       a word of some words that are all short is short
 use Prim.Native.Nat.{ℕ, zero, suc, _≤_}
 use mathlib.Core.Path.{_≡_, refl, sym, ap, subst}
 use mathlib.Core.Bool.{Bool, true, _&&_}
@@ -23,11 +24,11 @@ use Rattle.naming.specs.Names.{fieldNames, namesOf, fieldName, kindNames
 name-word : (k i : ℕ) → spaces (flatMap (λ (w : List ℕ). w) (namesOf k)) ≡ 0 → wordAt i (spacedOut (namesOf k)) ≡ fieldName k i
 name-word k i e = word-is (namesOf k) i e
 
-allShort : ℕ → List (List ℕ) → Bool
+unfoldable pub allShort : ℕ → List (List ℕ) → Bool
 allShort n [] = true
 allShort n (w ∷ ws) = leb (length w) n && allShort n ws
 
-short-in : (n : ℕ) (ws : List (List ℕ)) → allShort n ws ≡ true → (i : ℕ) → length (getD ws i []) ≤ n
+pub short-in : (n : ℕ) (ws : List (List ℕ)) → allShort n ws ≡ true → (i : ℕ) → length (getD ws i []) ≤ n
 unfolding allShort
 short-in n [] e i = omega arith
 short-in n (w ∷ ws) e zero = leb-true (length w) n (and-true (leb (length w) n) (allShort n ws) e .0)

@@ -14,7 +14,7 @@ use reasons::Reason;
 use reasons::Row;
 
 // The name of a field, by its kind and its number. A new kind is a new line.
-fn put_field_name(kind: u32, i: usize, out: &mut [u8], at: usize) -> usize
+pub fn put_field_name(kind: u32, i: usize, out: &mut [u8], at: usize) -> usize
     requires { ⌜ at + 30 ≤ length (now out) ⌝ }
     ensures { λ r. ⌜ WrittenIn 30 (fieldName kind i) (now (out .entry)) (now (out .exit)) at r ⌝ }
 {
@@ -61,7 +61,7 @@ fn put_field_name(kind: u32, i: usize, out: &mut [u8], at: usize) -> usize
 }
 
 // The name of a kind. A new kind is a new word.
-fn put_kind_name(kind: u32, out: &mut [u8], at: usize) -> usize
+pub fn put_kind_name(kind: u32, out: &mut [u8], at: usize) -> usize
     requires { ⌜ at + 10 ≤ length (now out) ⌝ }
     ensures { λ r. ⌜ WrittenIn 10 (kindName kind) (now (out .entry)) (now (out .exit)) at r ⌝ }
 {
@@ -85,7 +85,7 @@ fn put_place(row: Row, out: &mut [u8], at: usize) -> usize
 }
 
 // Which row it is: where it stands, and its id. The parameters have none.
-fn put_named(row: Row, out: &mut [u8], at: usize) -> usize
+pub fn put_named(row: Row, out: &mut [u8], at: usize) -> usize
     requires { ⌜ at + 110 ≤ length (now out) ⌝ }
     ensures { λ r. ⌜ WrittenIn 110 (linesText (namedLines row)) (now (out .entry)) (now (out .exit)) at r ⌝ }
 {
@@ -108,12 +108,12 @@ fn put_limit(kind: u32, field: u32, value: u32, limit: u32, out: &mut [u8], at: 
     put_two(b"value limit ", value, limit, out, d)
 }
 
-// The three fractions and their sum.
-fn put_fractions(
+// The three fractions and their sum, which has room in 64 bits.
+pub fn put_fractions(
     onsite: u32,
     offsite: u32,
     decay: u32,
-    sum: u32,
+    sum: u64,
     out: &mut [u8],
     at: usize,
 ) -> usize
@@ -123,7 +123,6 @@ fn put_fractions(
     let onsite = onsite as u64;
     let offsite = offsite as u64;
     let decay = decay as u64;
-    let sum = sum as u64;
     let values = [0, 0, onsite, 0, 0, offsite, 0, 0, decay, 0, 0, sum];
     put_lines(b"onsite offsite decay sum ", &values, out, at)
 }
@@ -165,7 +164,7 @@ pub fn put_row(reason: Reason, out: &mut [u8], at: usize) -> usize
             sum,
         } => {
             let next = put_named(row, out, at);
-            put_fractions(onsite, offsite, decay, sum, out, next)
+            put_fractions(onsite, offsite, decay, sum as u64, out, next)
         }
         Reason::SoilUneven {
             row,

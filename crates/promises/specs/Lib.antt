@@ -17,6 +17,7 @@
 --     National    the returns of a file add up to the national line, in any order; where a run stops, and what it prints then
 --     Matter      where every tonne of the cleared biomass went: five totals that together are all of it, of a row, a return and a nation
 --     Residues    returns that differ only in crop rows have the same figures in every other sheet, the same doubles and the same heaviest rows
+--     Texts       a text of rows gets its return or its first fault; a return's rows as text pack to the same bytes; a row is the numbers that its fields say
 --     ShutOut     wrong answers that the contracts refuse
 -- These pages speak of the definitions. That whatever meets an entry point's contract is the answer they speak of, that each contract admits one answer and asks
 -- nothing of its caller, and that each entry point meets its contract, is the crate `contracts`.
@@ -39,4 +40,5 @@ pub mod Cleared
 pub mod National
 pub mod Matter
 pub mod Residues
+pub mod Texts
 pub mod ShutOut

@@ -1,5 +1,5 @@
 mod Above
-mod Rows
+pub mod Rows
 mod Refused
 mod Wood
 pub mod Explains

@@ -42,6 +42,9 @@ enum-known-reason-3 c = search needs
 put-named-requires-2 : tie.Need-put-named-requires-2
 put-named-requires-2 c κs = search needs
 
+cast-put-fractions : tie.Need-cast-put-fractions
+cast-put-fractions c = search needs
+
 put-fractions-requires : tie.Need-put-fractions-requires
 put-fractions-requires c κs = search needs
 
@@ -162,6 +165,7 @@ put-row-spec =
     put-limit-requires
     enum-known-reason-3
     put-named-requires-2
+    cast-put-fractions
     put-fractions-requires
     enum-known-reason-4
     put-named-requires-3

@@ -2,7 +2,7 @@
 //! run: `bench [FUNCTION..]`, all functions where none is named. The judge is
 //! also set beside a plain sum of the bytes, and what plain_returns.c has beside
 //! that (`/C`). The parts for the other functions come with the features
-//! `lines`, `doubles`, `rows`, `explain` and `nation`. Ten blocks, one and all of edition 2
+//! `lines`, `doubles`, `rows`, `explain`, `texts` and `nation`. Ten blocks, one and all of edition 2
 //! come first, then how each function grows from two blocks to one less than all, in fewer
 //! rounds, and last the national line of 500 full returns.
 
@@ -15,6 +15,8 @@ compile_error!(
 mod nation;
 #[cfg(all(not(door_missing), plain))]
 mod plain;
+#[cfg(all(not(door_missing), feature = "texts"))]
+mod texts;
 
 #[cfg(not(door_missing))]
 mod run {
@@ -102,6 +104,8 @@ mod run {
             rows::bench(load);
             #[cfg(feature = "explain")]
             explain::bench(load);
+            #[cfg(feature = "texts")]
+            crate::texts::bench(load);
         }
         #[cfg(feature = "nation")]
         crate::nation::bench(&mut rng);

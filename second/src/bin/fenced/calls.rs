@@ -29,7 +29,7 @@ pub type Fences = [Fence; AREAS];
 /// The number due, and what differs.
 pub type Found = (u32, Option<String>);
 
-fn found(answer: u32, due: u32, memory: impl IntoIterator<Item = Option<String>>) -> Found {
+pub fn found(answer: u32, due: u32, memory: impl IntoIterator<Item = Option<String>>) -> Found {
     let wrong = format!("first program {answer}, second program {due}");
     let wrong = (answer != due).then_some(wrong);
     (due / 1000, first_of([wrong].into_iter().chain(memory)))
@@ -116,11 +116,11 @@ pub fn nation_at(fences: &mut Fences, place: Place, file: &[u8], before: &[u8]) 
 }
 
 /// Functions that put a text into a room: of the second program, and of the first.
-type Text = fn(&[u8], &mut [u8]) -> usize;
-type FirstText = fn(&[u8], Lent<u8>) -> usize;
+pub type Text = fn(&[u8], &mut [u8]) -> usize;
+pub type FirstText = fn(&[u8], Lent<u8>) -> usize;
 
 /// A text of both programs. A room that is too short counts as number 9.
-fn text_at(
+pub fn text_at(
     fences: &mut Fences,
     place: Place,
     (bytes, before): (&[u8], &[u8]),

@@ -6,6 +6,7 @@
 //! `fenced heap [SEED [INPUTS]]`: each area allocated by itself, for valgrind.
 //! `fenced cross [heap] [before|behind] [read|write]`: touches one byte outside
 //! an area on purpose and must be stopped. Without `heap` that is tried first.
+//! The functions that pack and unpack come with the feature `texts`.
 //! All answers and all memory are compared with the second program's. The exact
 //! halves among the figures are counted, and so are the returns by their rows,
 //! thinner ones, savannas and crops among them, and by the wood that is cleared
@@ -22,6 +23,8 @@ mod calls;
 mod cross;
 #[cfg(not(door_missing))]
 mod rooms;
+#[cfg(all(not(door_missing), feature = "texts"))]
+mod texts;
 
 #[cfg(not(door_missing))]
 mod run {
@@ -30,6 +33,8 @@ mod run {
     use crate::calls::{explain_at, figures_at, heaviest_at, judge_at, lines_at, read_at};
     use crate::cross::{cross_on_purpose, fences_stop};
     use crate::rooms::{Fit, Rooms};
+    #[cfg(feature = "texts")]
+    use crate::texts::{fault_of, texts_at, TextRooms};
     use second::answers::Answers;
     use second::balances::Balances;
     use second::case::Case;
@@ -47,6 +52,12 @@ mod run {
     use second::sorts::RowSorts;
     use second::table52::Table;
     use second::{clashes, figures, mix, sweep, weights};
+    #[cfg(feature = "texts")]
+    use second::{
+        fault::WORDS,
+        texts::{self, TextCase},
+        typed::typed,
+    };
     use std::process::ExitCode;
 
     const INPUTS: usize = 2_000;
@@ -69,6 +80,15 @@ mod run {
         ("defaults", &[0, 9]),
         ("nation", &[0, 1, 2, 9]),
     ];
+    /// Those of the feature `texts`. Of packing, number 1 is any fault of the text.
+    #[cfg(feature = "texts")]
+    const TEXTS: &[(&str, &[u32])] = &[
+        ("pack", &[0, 1, 5, 6, 7, 9, 10, 12, 13, 14]),
+        ("pack_why", &[0, 1, 5, 6, 7, 9, 10, 12, 13, 14]),
+        ("unpack", JUDGED),
+    ];
+    #[cfg(not(feature = "texts"))]
+    const TEXTS: &[(&str, &[u32])] = &[];
     /// The longest file of returns: an area is not longer.
     const FILE: usize = 65_536;
 
@@ -93,21 +113,33 @@ mod run {
         };
         let mut fences = Fences::default();
         let mut coverage = Coverage::default();
-        let answers = FUNCTIONS.map(|(name, often)| {
+        let functions: Vec<_> = FUNCTIONS.iter().chain(TEXTS).collect();
+        let answers = functions.iter().map(|(name, often)| {
             let name = format!("{name} ");
             Answers::new(&name, often, [Due::Told, Due::Once], &mut coverage)
         });
+        let answers: Vec<Answers> = answers.collect();
         let halves = Halves::new(Due::Times(1), &mut coverage);
         let sorts = RowSorts::new(Due::Times(1), &mut coverage);
         let balances = Balances::new(Due::Times(1), &mut coverage);
+        #[cfg(feature = "texts")]
+        let faults = coverage.add(Due::Once, WORDS.map(|word| format!("pack, fault {word}")));
         let (table, mut calls) = (Table::read(), 0);
         for index in 0..arguments.inputs.unwrap_or(INPUTS) {
             let mut rng = Rng::for_input(arguments.seed, index as u64);
             let case = any_return(&mut rng);
             let lists = any_lists(&mut rng);
             let file = any_file(index, &mut rng);
+            #[cfg(feature = "texts")]
+            let text = any_text(&mut rng);
+            #[cfg(feature = "texts")]
+            if let Some(fault) = fault_of(&text.bytes) {
+                coverage.count(faults, fault - 1);
+            }
             for fit in [Fit::Exact, Fit::Short, Fit::Longer] {
                 let lent = Rooms::drawn((&case.bytes, &file), &lists, fit, &mut rng);
+                #[cfg(feature = "texts")]
+                let text_rooms = TextRooms::drawn(&text.bytes, &case.bytes, fit, &mut rng);
                 for &place in places {
                     let found = [
                         judge_at(&mut fences, place, &case.bytes, &lent.counts),
@@ -131,7 +163,14 @@ mod run {
                     // The last three have no edition, and are counted by the rows' all the same.
                     let editions = [returned; 7].into_iter().chain([lists.edition; 4]);
                     let found = found.into_iter().zip(editions);
-                    let named = FUNCTIONS.iter().zip(&answers).zip(found);
+                    #[cfg(feature = "texts")]
+                    let found = {
+                        let inputs = (&text.bytes[..], &case.bytes[..]);
+                        let more = texts_at(&mut fences, place, inputs, &text_rooms);
+                        let editions = [text.edition, text.edition, returned];
+                        found.chain(more.into_iter().zip(editions))
+                    };
+                    let named = functions.iter().zip(&answers).zip(found);
                     for (((name, _), answers), ((number, difference), edition)) in named {
                         calls += 1;
                         answers.note(edition, number, &mut coverage);
@@ -139,6 +178,8 @@ mod run {
                             let seed = arguments.seed;
                             println!("{name}, input {index} of seed {seed}, {fit:?}, {place:?}:");
                             println!("  {difference}; {}; {}", case.how, lists.how);
+                            #[cfg(feature = "texts")]
+                            println!("  the text: {}", text.how);
                             return ExitCode::FAILURE;
                         }
                     }
@@ -178,6 +219,16 @@ mod run {
         files
             .find(|file| file.len() <= FILE)
             .expect("most files are short")
+    }
+
+    /// Its edition is the one that it says, where that is known.
+    #[cfg(feature = "texts")]
+    fn any_text(rng: &mut Rng) -> TextCase {
+        let mut text = texts::case(rng);
+        if let Ok(typed) = typed(&text.bytes) {
+            text.edition = typed.edition;
+        }
+        text
     }
 
     fn any_lists(rng: &mut Rng) -> RowLists {

@@ -24,7 +24,7 @@ pub enum Fit {
 }
 
 impl Fit {
-    fn length(self, needed: usize, rng: &mut Rng) -> usize {
+    pub fn length(self, needed: usize, rng: &mut Rng) -> usize {
         match self {
             Fit::Exact => needed,
             Fit::Short if needed == 0 => 0,
@@ -102,7 +102,7 @@ fn number_near(on: usize, rng: &mut Rng) -> u32 {
     }
 }
 
-fn words(length: usize, rng: &mut Rng) -> Vec<u32> {
+pub fn words(length: usize, rng: &mut Rng) -> Vec<u32> {
     (0..length).map(|_| rng.word()).collect()
 }
 
@@ -110,7 +110,7 @@ fn long_words(length: usize, rng: &mut Rng) -> Vec<u64> {
     (0..length).map(|_| rng.draw()).collect()
 }
 
-fn any_bytes(length: usize, rng: &mut Rng) -> Vec<u8> {
+pub fn any_bytes(length: usize, rng: &mut Rng) -> Vec<u8> {
     let mut bytes = vec![0; length];
     rng.fill(&mut bytes);
     bytes

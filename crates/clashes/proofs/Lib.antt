@@ -1,0 +1,5 @@
+mod Finding
+pub mod Broken
+mod Told
+mod Wood
+pub mod Index

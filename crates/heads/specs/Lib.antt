@@ -1,0 +1,2 @@
+pub mod Heads
+mod Examples

@@ -1,0 +1,2 @@
+mod LineTexts
+mod Rulings

@@ -1,0 +1,2 @@
+pub mod Objections
+mod Examples

@@ -1,0 +1,11 @@
+pub mod Lines
+pub mod Heads
+pub mod Limits
+pub mod Neat
+pub mod Fields
+pub mod Rows
+pub mod Lengths
+pub mod ReadBack
+pub mod Packs
+pub mod Faults
+pub mod Worth

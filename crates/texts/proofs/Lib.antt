@@ -1,0 +1,9 @@
+pub mod Adding
+pub mod Checks
+pub mod Laid
+pub mod Lines
+pub mod RowLines
+pub mod Rows
+pub mod Small
+pub mod Told
+pub mod Turns

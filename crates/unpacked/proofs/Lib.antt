@@ -1,0 +1,5 @@
+pub mod Numbers
+pub mod Lines
+pub mod InTurn
+pub mod Outs
+pub mod Notes
