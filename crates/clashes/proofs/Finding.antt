@@ -1,6 +1,7 @@
 -- Which row stands at a place, kind by kind. Assumes nothing.
 --     Finding              what the loop knows: the place is behind the first k kinds; find-none, found, find-more, find-all
 --     used-before          the place before one of the same kind is used too
+--     part-of              a part of a part
 use Prim.Native.Nat.{ℕ, zero, suc, _+_, _-_, _*_, _≤_, _<_}
 use mathlib.Core.Path.{_≡_, refl, sym, ap, _∙_}
 use mathlib.Core.Bool.{true, cond, false≢true}
@@ -25,7 +26,7 @@ use Rattle.clashes.specs.Stands.{indexFrom, rowIndex, Stands}
 
 -- ---- a part of a part
 
-part-of : (n a m : ℕ) (l : List ℕ) → a + n ≤ m → take n (drop a (take m l)) ≡ take n (drop a l)
+pub part-of : (n a m : ℕ) (l : List ℕ) → a + n ≤ m → take n (drop a (take m l)) ≡ take n (drop a l)
 part-of n zero m l h = take-take n m l (omega arith)
 part-of n (suc a) m [] h = rw (take-nil m) refl
 part-of n (suc a) zero (x ∷ l) h = absurd (omega arith)

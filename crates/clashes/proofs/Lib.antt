@@ -1,4 +1,4 @@
-mod Finding
+pub mod Finding
 pub mod Broken
 mod Told
 mod Wood

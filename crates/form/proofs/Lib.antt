@@ -14,3 +14,4 @@ pub mod Lengths
 pub mod Meaning
 pub mod Periods
 pub mod Scattered
+pub mod Spared

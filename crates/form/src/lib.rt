@@ -12,7 +12,7 @@ ghost use Rattle.form.specs.Block.{recordAt, checkDue};
 ghost use Rattle.form.specs.Records.{countedDifference, recordNumbers};
 ghost use Rattle.form.specs.Verdict.{countIn};
 ghost use Rattle.form.specs.Standing.{blocksFor, firstBlock};
-ghost use Rattle.form.specs.Steps.{Few};
+ghost use Rattle.form.specs.Steps.{Few, passedOver};
 
 // How many kinds there are, the most blocks of a return, and its most bytes. Every bound follows from the first.
 pub const KINDS: usize = 8;
@@ -215,5 +215,16 @@ pub fn record_rule(i: usize) -> u8
         1 => 6,
         2 => 14,
         _ => 7,
+    }
+}
+
+// A rule of one row that no row of a kind can break in an edition, so that the kind is passed over: 7 is about conversion rows alone, 14 about stock rows of edition 3.
+pub fn spares(number: u32, edition: u32, kind: u32) -> bool
+    ensures { λ r. ⌜ r ≡ passedOver number edition kind ⌝ }
+{
+    match number {
+        14 => (edition != 3) | (kind != 2),
+        7 => kind != 1,
+        _ => false,
     }
 }

@@ -1,7 +1,7 @@
 -- The rules over the records of one list, by the list's own numbers. Assumes nothing.
 use Prim.Native.Nat.{ℕ, suc, _+_, _-_, _*_, _%_, _≤_, _<_}
-use mathlib.Core.Path.{_≡_, refl, sym, ap₂, _∙_}
-use mathlib.Core.Bool.{true, false, not, _&&_, _||_, and-false}
+use mathlib.Core.Path.{_≡_, refl, sym, ap, ap₂, _∙_}
+use mathlib.Core.Bool.{Bool, true, false, not, _&&_, _||_, and-false, or-assoc}
 use mathlib.Core.List.{List, [], _∷_}
 use native.Mathlib.Nat.{add-zero}
 use native.Mathlib.Numerals.{add-one}
@@ -77,19 +77,16 @@ pub above-end : (l : Layout) (r : List ℕ) (i : ℕ) → length l ≤ i → abo
 unfolding aboveLimit
 above-end l r i h = rw (drop-of-length-le l h)
 
--- in a turn over the fields: number i of row j is above its limit, or the next field is tried
-module _ (kind : ℕ) (r : List ℕ) (j i : ℕ) {n lim : ℕ} (h : i < numbersOf kind) (en : n ≡ numbersOf kind) (el : lim ≡ fieldAt (layout kind) i .limit)
-    (so-far : aboveLimit (drop i (layout kind)) (drop i (rowOf kind r j)) ≡ aboveLimit (layout kind) (rowOf kind r j)) where
-  test : ltb (fieldAt (layout kind) i .limit) (getD (rowOf kind r j) i 0) ≡ ltb lim (getD r (n * j + i) 0)
-  test = rw (number-in kind r j i h, ← en, ← el)
+-- in a turn over the fields: number i of row j against its limit, behind what the fields before it said
+module _ (kind : ℕ) (r : List ℕ) (j i : ℕ) {n lim : ℕ} (h : i < numbersOf kind) (en : n ≡ numbersOf kind) (el : lim ≡ fieldAt (layout kind) i .limit) (above : Bool)
+    (so-far : (above || aboveLimit (drop i (layout kind)) (drop i (rowOf kind r j))) ≡ aboveLimit (layout kind) (rowOf kind r j)) where
+  here : aboveLimit (drop i (layout kind)) (drop i (rowOf kind r j))
+      ≡ (ltb lim (getD r (n * j + i) 0) || aboveLimit (drop (i + 1) (layout kind)) (drop (i + 1) (rowOf kind r j)))
+  here = above-step (layout kind) (rowOf kind r j) i h ∙ rw (number-in kind r j i h, ← en, ← el)
 
-  pub above-here : lim < getD r (n * j + i) 0 → true ≡ aboveLimit (layout kind) (rowOf kind r j)
-  above-here l =
-      rw (test ∙ lt-ltb lim (getD r (n * j + i) 0) l) at (sym (above-step (layout kind) (rowOf kind r j) i h)) ∙ so-far
-
-  pub above-next : getD r (n * j + i) 0 ≤ lim → aboveLimit (drop (i + 1) (layout kind)) (drop (i + 1) (rowOf kind r j)) ≡ aboveLimit (layout kind) (rowOf kind r j)
-  above-next l =
-      rw (test ∙ le-ltb lim (getD r (n * j + i) 0) l) at (sym (above-step (layout kind) (rowOf kind r j) i h)) ∙ so-far
+  pub above-next : (above || ltb lim (getD r (n * j + i) 0) || aboveLimit (drop (i + 1) (layout kind)) (drop (i + 1) (rowOf kind r j)))
+      ≡ aboveLimit (layout kind) (rowOf kind r j)
+  above-next = or-assoc above _ _ ∙ ap (λ (b : Bool). above || b) (sym here) ∙ so-far
 
 -- ---- lists that 10 finds no fault with
 

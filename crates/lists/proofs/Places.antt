@@ -2,7 +2,8 @@
 --     front, back     a rule over records behind others: in front as over the first, behind as over the second
 --     unused          an unused place breaks no rule
 --     first-kinds     the lowest place among the lists of a kind and those after it
---     list-found, list-clean    the lowest place of a list, tried row by row
+--     row-found, row-clean, row-spared    the lowest row of a list, tried one after the other or passed over
+--     rows-first      the lowest place of a list is that of its lowest row
 use Prim.Native.Nat.{ℕ, zero, suc, _+_, _-_, _*_, _≤_, _<_}
 use mathlib.Core.Path.{_≡_, refl, sym, ap, ap₂, subst, _∙_}
 use mathlib.Core.Bool.{Bool, true, false, cond, and-false}
@@ -17,11 +18,13 @@ use lib.Seq.{drop-cons}
 use borrow.Author.Tests.{lt-ltb, le-ltb, ne-eqb}
 use Rattle.form.specs.First.{orElse, first}
 use Rattle.form.specs.Records.{Filed, RowTest, badId, brokenBy, testNumbered, testOf}
+use Rattle.form.specs.Steps.{passedOver}
 use Rattle.form.specs.declared.Spot.{Spot}
 use Rattle.form.specs.declared.Spot.the-variants.{At, Nowhere}
 use Rattle.form.proofs.Search.{first-at, first-none, first-is, first-is-none, first-found, first-rest}
-use Rattle.filing.specs.Lists.{Lists, rowsIn, blocksOf, filedList, behind, filedFrom}
+use Rattle.filing.specs.Lists.{Lists, rowsIn, rowOf, blocksOf, filedList, behind, filedFrom}
 use Rattle.form.proofs.Tests.{either}
+use Rattle.form.proofs.Spared.{spared-row}
 use Rattle.lists.specs.Rules.{shifted, firstOf}
 
 -- ---- a record's rules read only what stands at its place and, for its id, at the place before
@@ -137,16 +140,38 @@ module _ (n e : ℕ) (l : Lists) (i start : ℕ) (h : i < length l) where
       ∙ shift-else start (firstOf n e f) (shifted (f .places) (firstOf n e g))
       ∙ ap (orElse (shifted start (firstOf n e f))) (shift-shift start (f .places) (firstOf n e g)))
 
--- the lowest place of a list, tried row by row
-module _ (n e kind : ℕ) (r : List ℕ) (start j : ℕ) (so-far : first (testOf n e (filedList kind r)) j ≡ Nowhere) where
-  pub list-found : testOf n e (filedList kind r) j ≡ true → j < rowsIn kind (length r) → At (start + j) ≡ shifted start (firstOf n e (filedList kind r))
-  unfolding filedList
-  list-found b l =
-      ap (shifted start) (sym (first-found (testOf n e (filedList kind r)) j (filedList kind r .places) so-far b (omega arith)))
+-- the lowest row, tried one after the other
+module _ (p : ℕ → Bool) (m start j : ℕ) (so-far : first p j ≡ Nowhere) where
+  pub row-found : p j ≡ true → j < m → At (start + j) ≡ shifted start (first p m)
+  row-found b l = ap (shifted start) (sym (first-found p j m so-far b l))
 
-  pub list-clean : rowsIn kind (length r) ≤ j → Nowhere ≡ shifted start (firstOf n e (filedList kind r))
+  pub row-clean : m ≤ j → Nowhere ≡ shifted start (first p m)
+  row-clean h = ap (shifted start) (sym (first-rest p j m so-far (λ k g o. absurd (omega arith))))
+
+-- a kind that is passed over
+pub row-spared : (n e kind : ℕ) (r : List ℕ) (start : ℕ) → passedOver n e kind ≡ true
+    → Nowhere ≡ shifted start (first (λ j. testNumbered n e kind (rowOf kind r j)) (rowsIn kind (length r)))
+row-spared n e kind r start h = ap (shifted start) (sym (first-is-none _ (rowsIn kind (length r)) (λ j l. spared-row n e kind (rowOf kind r j) h)))
+
+-- the lowest place of a list is that of its lowest row
+module _ (n e kind : ℕ) (r : List ℕ) where
+  rows-inside : rowsIn kind (length r) ≤ filedList kind r .places
   unfolding filedList
-  list-clean l =
-      let f = filedList kind r in
-      ap (shifted start)
-      (sym (first-rest (testOf n e f) j (f .places) so-far (λ k m o. unused f n e k (le-ltb k (rowsIn kind (length r)) (omega arith)))))
+  rows-inside = omega arith
+
+  behind-rows : (k : ℕ) → rowsIn kind (length r) ≤ k → testOf n e (filedList kind r) k ≡ false
+  unfolding filedList
+  behind-rows k h = unused (filedList kind r) n e k (le-ltb k (rowsIn kind (length r)) h)
+
+  pub rows-first : (p : ℕ → Bool) → ((j : ℕ) → j < rowsIn kind (length r) → p j ≡ testOf n e (filedList kind r) j)
+      → first p (rowsIn kind (length r)) ≡ firstOf n e (filedList kind r)
+  rows-first p same = go (first p (rowsIn kind (length r))) refl
+    where
+      go : (s : Spot) → first p (rowsIn kind (length r)) ≡ s → s ≡ firstOf n e (filedList kind r)
+      go (At i) q =
+          let h = first-at p q in
+          sym (first-is (testOf n e (filedList kind r)) (filedList kind r .places) i (omega (arith, h .0, rows-inside))
+          (sym (same i (h .0)) ∙ h .1) (λ k l. sym (same k (omega (arith, h .0))) ∙ h .2 k l))
+      go Nowhere q =
+          sym (first-rest (testOf n e (filedList kind r)) (rowsIn kind (length r)) (filedList kind r .places)
+          (first-is-none (testOf n e (filedList kind r)) (rowsIn kind (length r)) (λ k l. sym (same k l) ∙ first-none p q k l)) (λ k m o. behind-rows k m))

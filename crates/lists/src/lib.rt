@@ -5,7 +5,7 @@ ghost use lib.ListN.{length, getD, drop};
 ghost use Rattle.form.specs.First.{first};
 ghost use Rattle.form.specs.Ruling.{ruling};
 ghost use Rattle.form.specs.Layout.{kinds, layout, numbersOf, aboveLimit};
-ghost use Rattle.form.specs.Records.{scatteredTrees, overspent, badId, recordRules, testNumbered, testOf};
+ghost use Rattle.form.specs.Records.{scatteredTrees, overspent, badId, recordRules, testNumbered};
 ghost use Rattle.filing.specs.Lists.{cut, total, rowsIn, rowOf, blocksOf, filedList, filedLists};
 ghost use Rattle.lists.specs.Rules.{badList, badLengths, notAllowed, badAt, Good, FewRows, blocksFrom, shifted, firstOf};
 use form::KINDS;
@@ -18,6 +18,7 @@ use form::last_kind;
 use form::layout::field;
 use form::layout::numbers;
 use form::record_rule;
+use form::spares;
 
 // How many rows of a kind some numbers are.
 pub fn count(kind: usize, n: usize) -> usize
@@ -105,21 +106,71 @@ fn bad_id(kind: usize, rows: &[u32], j: usize) -> bool
     rows[n * j] <= rows[n * (j - 1)]
 }
 
-fn above_limit(kind: usize, rows: &[u32], j: usize) -> bool
+// The lowest row whose id is not above the one before it.
+fn first_bad_id(kind: usize, rows: &[u32], start: usize) -> Spot
+    requires { ⌜ (0 < kind) × (kind ≤ kinds) × (rowsIn kind (length (now rows)) ≤ 32) × (start < 2 ^ 24) ⌝ }
+    ensures { λ r. ⌜ r ≡ shifted start (first (badId (filedList kind (now (rows .entry)))) (rowsIn kind (length (now (rows .entry))))) ⌝ }
+{
+    let n = count(kind, rows.len());
+    let mut j: usize = 0;
+    while j < n {
+        if bad_id(kind, rows, j) {
+            return Spot::At((start + j) as u32);
+        }
+        j += 1;
+    }
+    Spot::Nowhere
+}
+
+// No early way out, so that the compiler makes straight code of the fields.
+fn above_fields(kind: usize, rows: &[u32], j: usize) -> bool
     requires { ⌜ j < rowsIn kind (length (now rows)) ⌝ }
     ensures { λ r. ⌜ r ≡ aboveLimit (layout kind) (rowOf kind (now (rows .entry)) j) ⌝ }
 {
     let n = numbers(kind);
     let from = n * j;
+    let mut above = false;
     let mut i: usize = 0;
     while i < n {
         let f = field(kind, i);
-        if f.limit < rows[from + i] {
-            return true;
-        }
+        above = above | (f.limit < rows[from + i]);
         i += 1;
     }
-    false
+    above
+}
+
+// The lowest row with a field above its limit, its list's first record standing at `start`.
+fn first_above_in(kind: usize, rows: &[u32], start: usize) -> Spot
+    requires { ⌜ (0 < kind) × (kind ≤ kinds) × (rowsIn kind (length (now rows)) ≤ 32) × (start < 2 ^ 24) ⌝ }
+    ensures { λ r. ⌜ r ≡ shifted start (first (λ j. aboveLimit (layout kind) (rowOf kind (now (rows .entry)) j)) (rowsIn kind (length (now (rows .entry))))) ⌝ }
+{
+    let n = count(kind, rows.len());
+    let mut j: usize = 0;
+    while j < n {
+        if above_fields(kind, rows, j) {
+            return Spot::At((start + j) as u32);
+        }
+        j += 1;
+    }
+    Spot::Nowhere
+}
+
+// The kind by its number, so that the compiler makes a loop of each kind's limits. A new kind is a new line.
+fn first_above(kind: usize, rows: &[u32], start: usize) -> Spot
+    requires { ⌜ (0 < kind) × (kind ≤ kinds) × (rowsIn kind (length (now rows)) ≤ 32) × (start < 2 ^ 24) ⌝ }
+    ensures { λ r. ⌜ r ≡ shifted start (first (λ j. aboveLimit (layout kind) (rowOf kind (now (rows .entry)) j)) (rowsIn kind (length (now (rows .entry))))) ⌝ }
+{
+    match kind {
+        1 => first_above_in(1, rows, start),
+        2 => first_above_in(2, rows, start),
+        3 => first_above_in(3, rows, start),
+        4 => first_above_in(4, rows, start),
+        5 => first_above_in(5, rows, start),
+        6 => first_above_in(6, rows, start),
+        7 => first_above_in(7, rows, start),
+        8 => first_above_in(8, rows, start),
+        _ => first_above_in(kind, rows, start),
+    }
 }
 
 fn wide(x: u32) -> u64
@@ -151,14 +202,11 @@ fn scattered(edition: u32, kind: usize, rows: &[u32], j: usize) -> bool
     rows[at + 1] == 1
 }
 
-// A rule of one row, by its number, of row j.
+// A rule of one row but 6, by its number, of row j.
 fn row_breaks(number: u32, edition: u32, kind: usize, rows: &[u32], j: usize) -> bool
-    requires { ⌜ j < rowsIn kind (length (now rows)) ⌝ }
+    requires { ⌜ (number ≡ 6 → ⊥) × (j < rowsIn kind (length (now rows))) ⌝ }
     ensures { λ r. ⌜ r ≡ testNumbered number edition kind (rowOf kind (now (rows .entry)) j) ⌝ }
 {
-    if number == 6 {
-        return above_limit(kind, rows, j);
-    }
     if number == 14 {
         return scattered(edition, kind, rows, j);
     }
@@ -172,15 +220,23 @@ fn row_breaks(number: u32, edition: u32, kind: usize, rows: &[u32], j: usize) ->
     false
 }
 
-// Rule 5, or a rule of one row, by its number, of row j.
-fn breaks(number: u32, edition: u32, kind: usize, rows: &[u32], j: usize) -> bool
-    requires { ⌜ (0 < kind) × (kind ≤ kinds) × (j < rowsIn kind (length (now rows))) ⌝ }
-    ensures { λ r. ⌜ r ≡ testOf number edition (filedList kind (now (rows .entry))) j ⌝ }
+// The lowest row that breaks it; a kind whose rows can't is passed over.
+fn first_row_in(number: u32, edition: u32, kind: usize, rows: &[u32], start: usize) -> Spot
+    requires { ⌜ (number ≡ 6 → ⊥) × (0 < kind) × (kind ≤ kinds) × (rowsIn kind (length (now rows)) ≤ 32) × (start < 2 ^ 24) ⌝ }
+    ensures { λ r. ⌜ r ≡ shifted start (first (λ j. testNumbered number edition kind (rowOf kind (now (rows .entry)) j)) (rowsIn kind (length (now (rows .entry))))) ⌝ }
 {
-    if number == 5 {
-        return bad_id(kind, rows, j);
+    if spares(number, edition, kind as u32) {
+        return Spot::Nowhere;
     }
-    row_breaks(number, edition, kind, rows, j)
+    let n = count(kind, rows.len());
+    let mut j: usize = 0;
+    while j < n {
+        if row_breaks(number, edition, kind, rows, j) {
+            return Spot::At((start + j) as u32);
+        }
+        j += 1;
+    }
+    Spot::Nowhere
 }
 
 // The lowest place where a list breaks a rule, its first record standing at `start`.
@@ -188,15 +244,11 @@ fn first_in(number: u32, edition: u32, kind: usize, rows: &[u32], start: usize) 
     requires { ⌜ (0 < kind) × (kind ≤ kinds) × (rowsIn kind (length (now rows)) ≤ 32) × (start < 2 ^ 24) ⌝ }
     ensures { λ r. ⌜ r ≡ shifted start (firstOf number edition (filedList kind (now (rows .entry)))) ⌝ }
 {
-    let n = count(kind, rows.len());
-    let mut j: usize = 0;
-    while j < n {
-        if breaks(number, edition, kind, rows, j) {
-            return Spot::At((start + j) as u32);
-        }
-        j += 1;
+    match number {
+        5 => first_bad_id(kind, rows, start),
+        6 => first_above(kind, rows, start),
+        _ => first_row_in(number, edition, kind, rows, start),
     }
-    Spot::Nowhere
 }
 
 // How many blocks a list of n numbers takes.

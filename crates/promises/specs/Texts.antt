@@ -6,9 +6,9 @@ use mathlib.Core.Path.{_≡_, refl, sym, ap, _∙_}
 use mathlib.Core.Bool.{true, false, _||_}
 use mathlib.Core.List.{List, [], _∷_, _++_}
 use native.Mathlib.Omega.{arith}
-use borrow.Author.Tests.{le-ltb}
+use borrow.Author.Tests.{le-ltb, ne-eqb}
 use lib.Dec.{ltb}
-use lib.ListN.{length, getD}
+use lib.ListN.{length, getD, take}
 use Rattle.form.specs.Layout.{numbersOf}
 use Rattle.form.specs.Block.{longest}
 use Rattle.form.specs.Ruling.{ruling, onFront}
@@ -19,26 +19,38 @@ use Rattle.form.specs.declared.Ruling.the-variants.{Clean, Broken}
 use Rattle.form.specs.declared.Verdict.the-variants.{Accepted}
 use Rattle.form.proofs.Order.{kept-before, one-kept, clean-ruling}
 use Rattle.standing.proofs.Accepted.{accepted-ruling, formed, whole-blocks}
-use Rattle.filing.specs.Lists.{cut}
+use Rattle.filing.specs.Lists.{cut, filedLists}
+use Rattle.filing.specs.Written.{usedFrom}
 use Rattle.lists.specs.Rules.{listRules}
 use Rattle.rows.specs.Writing.{written}
 use Rattle.trips.proofs.RoundTrips.{accepted-again}
 use Rattle.handed.specs.Rows.{writeCall, blocksAfter, sizeAfter}
+use Rattle.phrases.specs.Ascii.{codes}
+use Rattle.phrases.specs.Lines.{numberLine}
 use Rattle.numerals.specs.Numerals.{isMark, AllDigits, valueOf}
 use Rattle.cells.specs.Cells.{cellAt}
+use Rattle.cells.specs.Lines.{textLines}
 use Rattle.columns.specs.Columns.{decimalsOf, isUnit}
 use Rattle.rowtext.specs.Said.{commaMarks, unitIn, numbersSaid, rowSaid}
 use Rattle.rowtext.specs.declared.RowSaid.the-variants.{Whole}
+use Rattle.heads.specs.Heads.{headOf}
 use Rattle.heads.specs.declared.TextFault.{TextFault}
-use Rattle.texts.specs.Texts.{TextRead, rows, faulty, textRead}
+use Rattle.heads.specs.declared.Head.the-variants.{Edition}
+use Rattle.texts.specs.Texts.{TextRead, rows, faulty, textRead, rowLine}
+use Rattle.texts.specs.Steps.{headLine, saidIn, countIn}
+use Rattle.texts.proofs.Told.{text-told}
+use Rattle.clashes.specs.Stands.{rowIndex}
 use Rattle.unpacked.specs.Unpacked.{unpackedText}
 use Rattle.unpacked.specs.Rooms.{unpackRoom}
 use Rattle.unpacked.specs.Calls.{unpackRooms, unpackCall, textUnpacked, sizeUnpacked}
 use Rattle.unpacked.specs.Calls as unpack
 use Rattle.packing.specs.Packing.{ofRuling, packedBy, packCall, bytesBy, bytesPacked, sizeBy, sizePacked}
+use Rattle.objections.specs.Objections.{lineLines}
 use Rattle.textrips.proofs.Faults.{fault-known}
 use Rattle.textrips.proofs.Worth.{whole-worth, marked-worth}
 use Rattle.textrips.proofs.Packs.{Packs, packs, Says, its-return, return-accepted, rooms-hold, packs-again, unpacked-packs, unpacked-fits}
+use Rattle.rowlines.specs.LineSays.{LineSays}
+use Rattle.rowlines.proofs.Named.{line-says, rows-before, place-used, why-line}
 use Rattle.door.specs.Door.{codeOf}
 use Rattle.door.specs.Texts.{packCode}
 use Rattle.promises.specs.Demand1.{c-write-by-order}
@@ -111,6 +123,22 @@ pack-fits text e lengths area said clean room size long one =
     let w = whole-blocks s (countsOf s) (formed s (countsOf s) (accepted-again e lengths area clean)) in
     ap packCode (packs text e lengths area said clean room size (omega (arith, w .1, w .2, long)) one .answered)
 
+-- ---- niloferq_pack_why: "and for 5, 6, 7, 13 and 14 `line N`, the line of that row"
+
+-- a refusal of the text's rows, by any number but 10, which is of the lists, and 12, which is of no row
+module _ (text : List ℕ) (e : ℕ) (lengths area : List ℕ) (said : textRead text ≡ rows e lengths area) (m p : ℕ) (broken : ruling (listRules e lengths area) ≡ Broken m p)
+    (ten : m ≡ 10 → ⊥) (twelve : m ≡ 12 → ⊥) where
+  -- `line N` is told, and line N of the text says the row that would stand at the place: its kind and all its numbers
+  pub named-line : (lineLines text lengths m p ≡ numberLine (codes "line") (rowLine (rowIndex lengths p) text) ∷ [])
+      × LineSays text e (filedLists (cut lengths area) .kind p) (filedLists (cut lengths area) .row p) (rowLine (rowIndex lengths p) text)
+  named-line = (rw (ne-eqb m 12 twelve) refl, why-line text e lengths area said m p broken ten twelve)
+
+  -- where several lines say the same, it is the right one: as many rows stand between the first line that counts and it as there are rows before the place
+  pub right-line : (separator : ℕ) → headOf (headLine 0 (textLines text) .number) (headLine 0 (textLines text) .line) ≡ Edition e separator
+      → countIn separator (take (rowLine (rowIndex lengths p) text - suc (headLine 0 (textLines text) .number)) (headLine 0 (textLines text) .behind))
+      ≡ usedFrom (filedLists (cut lengths area)) 0 p
+  right-line = rows-before text e lengths area said p (place-used e lengths area m p broken ten twelve)
+
 -- ---- niloferq_unpack
 
 -- "the text that `unpack` makes of an accepted return packs to the same bytes"
@@ -137,8 +165,24 @@ unpack-unchanged s room size (Broken n p) h = (refl, refl)
 pub unpack-refused : (s room size : List ℕ) → (codeOf (unpackCall s room size) ≡ 0 → ⊥) → (textUnpacked s room size ≡ room) × (sizeUnpacked s room size ≡ size)
 unpack-refused s room size h = unpack-unchanged s room size (unpackCall s room size) h
 
--- ---- "the rows of a packed text are the numbers that its fields say (.. digits, mark, missing decimals)": of a row of a kind that was read from a line, and a field of it that is
--- no unit, whose cell begins with digits
+-- ---- "the rows of a packed text are the numbers that its fields say (.. digits, mark, missing decimals)"
+
+-- every line is read: behind the first that counts, which says the edition and the separator, the numbers of each line in turn are the area
+pub record EveryLine (text : List ℕ) (e : ℕ) (area : List ℕ) : Type 0 where
+  pub separator : ℕ
+  pub head : headOf (headLine 0 (textLines text) .number) (headLine 0 (textLines text) .line) ≡ Edition e separator
+  pub said : area ≡ saidIn separator (headLine 0 (textLines text) .behind)
+
+module _ (text : List ℕ) (e : ℕ) (lengths area : List ℕ) (read : textRead text ≡ rows e lengths area) where
+  pub every-line : EveryLine text e area
+  every-line = let told = text-told text read in record { separator = told .separator; head = told .head; said = told .said }
+
+  -- and each row, at the place where it would stand, is what a line says
+  pub every-row : (p : ℕ) → filedLists (cut lengths area) .used p ≡ true
+      → LineSays text e (filedLists (cut lengths area) .kind p) (filedLists (cut lengths area) .row p) (rowLine (rowIndex lengths p) text)
+  every-row = line-says text e lengths area read
+
+-- what a line's fields say: of a row of a kind that was read from a line, and a field of it that is no unit, whose cell begins with digits
 module _ (sep kind : ℕ) (l : List ℕ) (read : rowSaid sep kind l ≡ Whole) (i : ℕ) (h : i < numbersOf kind) (number : isUnit kind i ≡ false)
     (a : List ℕ) (are : AllDigits a) (some : 0 < length a) where
   -- digits alone: their number, times ten for each decimal of the field

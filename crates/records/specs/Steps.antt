@@ -1,7 +1,6 @@
 -- What the scan over the records looks for.
 use Prim.Native.Nat.{ℕ}
-use mathlib.Core.Path.{_≡_}
-use mathlib.Core.Bool.{Bool, true, false}
+use mathlib.Core.Bool.{Bool}
 use mathlib.Core.List.{List}
 use Rattle.form.specs.Block.{edition}
 use Rattle.form.specs.Records.{filed, brokenBy, testNumbered, testOf}
@@ -13,7 +12,3 @@ rowTest n s = brokenBy (filed s) (edition s 0) (testNumbered n)
 -- the same, or that of rule 5
 abbrev pub recordTest : ℕ → List ℕ → ℕ → Bool
 recordTest n s = testOf n (edition s 0) (filed s)
-
--- what is known of a rule, an edition and a kind that are passed over together: no row of the kind breaks the rule in the edition
-pub record Spared (n e k : ℕ) (over : Bool) : Type 0 where
-  pub kept : over ≡ true → (r : List ℕ) → testNumbered n e k r ≡ false

@@ -7,7 +7,7 @@ ghost use Rattle.form.specs.First.{first};
 ghost use Rattle.form.specs.Layout.{layout, conversion, stock, rowAt, aboveLimit};
 ghost use Rattle.form.specs.Block.{blocks, countOf, edition};
 ghost use Rattle.form.specs.Records.{filed, hasId, isScattered, badId, overspent, testNumbered};
-ghost use Rattle.records.specs.Steps.{rowTest, recordTest, Spared};
+ghost use Rattle.records.specs.Steps.{rowTest, recordTest};
 use form::KINDS;
 use form::PARAMETERS;
 use form::Spot;
@@ -16,6 +16,7 @@ use form::four_at;
 use form::layout::field;
 use form::layout::numbers;
 use form::number_at;
+use form::spares;
 use form::two_at;
 
 // How many of a block's twelve records are used.
@@ -88,17 +89,6 @@ fn breaks(bytes: &[u8], number: u32, kind: u32, at: usize) -> bool
         6 => above_at(bytes, kind, at),
         14 => (two_at(bytes, 6) == 3) & ((kind == 2) & scattered_at(bytes, at)),
         7 => (kind == 1) & overspent_at(bytes, at),
-        _ => false,
-    }
-}
-
-// A rule that no row of a kind can break in an edition, so that the kind's blocks are passed over: 7 is about conversion rows alone, 14 about stock rows of edition 3.
-fn spares(number: u32, edition: u32, kind: u32) -> bool
-    ensures { λ r. ⌜ Spared number edition kind r ⌝ }
-{
-    match number {
-        14 => (edition != 3) | (kind != 2),
-        7 => kind != 1,
         _ => false,
     }
 }

@@ -1,75 +1,44 @@
 -- `lists::first_in` meets its contract. Assumes nothing.
-use Prim.Native.Nat.{_-_, _≤_}
-use mathlib.Core.Path.{_≡_, sym, _∙_}
-use Rattle.form.specs.First.{first}
-use Rattle.form.specs.Records.{testOf}
-use Rattle.form.specs.declared.Spot.the-variants.{Nowhere}
-use Rattle.form.proofs.Search.{first-zero, first-more}
-use Rattle.filing.specs.Lists.{filedList}
-use Rattle.lists.proofs.Places.{list-found, list-clean}
+use mathlib.Core.Path.{_≡_, refl, sym, ap, _∙_}
+use Rattle.form.specs.Layout.{layout, aboveLimit}
+use Rattle.form.specs.Records.{badId, testNumbered}
+use Rattle.filing.specs.Lists.{rowOf, filedList}
+use Rattle.lists.specs.Rules.{shifted}
+use Rattle.lists.proofs.Numbers.{row-of}
+use Rattle.lists.proofs.Places.{rows-first}
 use borrow.Author.Needs.{needs}
-use native.Mathlib.Omega.{arith}
+use borrow.Author.Tests.{ne-eqb}
 use Rattle.lists.proofs.first_in.Statement.{statement}
 use Rattle.lists.proofs.first_in.Tie as tie
 
-abbrev Inv-loop : tie.InvT-loop
-Inv-loop number edition kind rows start n j₀ j = (j ≤ n) × (first (testOf number edition (filedList kind rows)) j ≡ Nowhere)
+first-bad-id-requires : tie.Need-first-bad-id-requires
+first-bad-id-requires c κs = search needs
 
-abbrev μ-loop : tie.MeasureT-loop
-μ-loop number edition kind rows start n j₀ j = n - j
+first-above-requires : tie.Need-first-above-requires
+first-above-requires c κs = search needs
 
-count-requires : tie.Need-count-requires Inv-loop μ-loop
-count-requires c κs = (c .before .pre .0, c .before .pre .1)
+first-row-in-requires : tie.Need-first-row-in-requires
+first-row-in-requires c κs = search needs
 
-loop-holds : tie.Need-loop-holds Inv-loop μ-loop
-loop-holds c = (search needs, first-zero _)
-
-breaks-requires : tie.Need-breaks-requires Inv-loop μ-loop
-breaks-requires c κs = (c .before .before .before .before .pre .0, c .before .before .before .before .pre .1, omega (arith, c .before .before .count .ensures .0))
-
-add-t11 : tie.Need-add-t11 Inv-loop μ-loop
-add-t11 c = search needs
-
-cast-t12 : tie.Need-cast-t12 Inv-loop μ-loop
-cast-t12 c = search needs
-
-returns : tie.Need-returns Inv-loop μ-loop
+returns : tie.Need-returns
 returns c =
-    let at-breaks = c .before in
-    let v = at-breaks .before .before .loop in
-    let a = at-breaks .before .before .before .before .before .args in
-    list-found (a .number) (a .edition) (a .kind) (a .rows .now) (a .start) (v .j) (v .inv .1) (sym (at-breaks .breaks .ensures) ∙ c .if1 .taken) (omega (arith, at-breaks .before .before .before .count .ensures .0))
+    let a = c .before .before .before .args in
+    let r = a .rows .now in
+    rw (c .before .match .keys1) (c .first-bad-id .ensures ∙ ap (shifted (a .start)) (rows-first 5 (a .edition) (a .kind) r (badId (filedList (a .kind) r)) (λ j l. refl)))
 
-add-j : tie.Need-add-j Inv-loop μ-loop
-add-j c = search needs
-
-loop-less : tie.Need-loop-less Inv-loop μ-loop
-loop-less c = search needs
-
-loop-again : tie.Need-loop-again Inv-loop μ-loop
-loop-again c =
-    let at-breaks = c .before in
-    (search needs, first-more _ _ (at-breaks .before .before .loop .inv .1) (sym (at-breaks .breaks .ensures) ∙ c .if1 .left))
-
-returns-2 : tie.Need-returns-2 Inv-loop μ-loop
+returns-2 : tie.Need-returns-2
 returns-2 c =
-    let v = c .before .loop in
-    let a = c .before .before .before .before .args in
-    list-clean (a .number) (a .edition) (a .kind) (a .rows .now) (a .start) (v .j) (v .inv .1) (omega (arith, c .before .before .count .ensures .0))
+    let a = c .before .before .before .args in
+    let r = a .rows .now in
+    rw (c .before .match .keys2) (c .first-above .ensures ∙ ap (shifted (a .start)) (rows-first 6 (a .edition) (a .kind) r (λ j. aboveLimit (layout (a .kind)) (rowOf (a .kind) r j)) (λ j l. sym (row-of (a .edition) (testNumbered 6) (a .kind) r j l))))
+
+returns-3 : tie.Need-returns-3
+returns-3 c =
+    let a = c .before .before .before .args in
+    let r = a .rows .now in
+    c .first-row-in .ensures
+    ∙ ap (shifted (a .start)) (rows-first (a .number) (a .edition) (a .kind) r (λ j. testNumbered (a .number) (a .edition) (a .kind) (rowOf (a .kind) r j))
+    (λ j l. rw (ne-eqb (a .number) 5 (c .before .match .rest .0 .1)) (sym (row-of (a .edition) (testNumbered (a .number)) (a .kind) r j l))))
 
 pub first-in-spec : {M : Type 1} → statement M
-first-in-spec =
-    tie.close
-    (tie.spec
-    Inv-loop
-    μ-loop
-    count-requires
-    loop-holds
-    breaks-requires
-    add-t11
-    cast-t12
-    returns
-    add-j
-    loop-less
-    loop-again
-    returns-2)
+first-in-spec = tie.close (tie.spec first-bad-id-requires first-above-requires first-row-in-requires returns returns-2 returns-3)

@@ -48,7 +48,7 @@ returns c =
     let e = c .before .before in
     let k = e .before in
     let a = k .before .before .args in
-    sym (spared (now (a .bytes)) (a .b) (a .number) (c .before .spares .ensures) (e .two-at .ensures .0) (k .byte-at .ensures .0) (c .if1 .taken))
+    sym (spared (now (a .bytes)) (a .b) (a .number) (rw (e .two-at .ensures .0, k .byte-at .ensures .0) at (sym (c .before .spares .ensures) ∙ c .if1 .taken)))
 
 used-in-requires : tie.Need-used-in-requires Inv-loop μ-loop
 used-in-requires c κs = search needs

@@ -1,0 +1,2 @@
+-- What a line of a text says of a row.
+pub mod LineSays
