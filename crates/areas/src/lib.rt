@@ -1,5 +1,7 @@
 // Rule 13: the areas of a soil type, now and twenty years ago, add up to the same. It is tried over rows as they lie in lent memory, so that one search serves a
 // return, whose soil rows are decoded first, and rows that are to be written.
+#![tactic(auto)]
+
 ghost use Rattle.std.specs.Prelude.{◌≡◌, ◌+◌, ◌*◌, ◌^◌, ◌≤◌, ◌<◌, length, get_or, take};
 ghost use mathlib.Core.List.{flatten};
 ghost use Rattle.form.specs.Ruling.{ruling};
@@ -15,14 +17,14 @@ use form::{Counts, Ruling, Spot, first_block};
 use lists::{blocks_in, count, length_at, sum};
 
 // The two area sums of a soil type.
-#[derive(Drop)]
+#[derive(Clone, Copy)]
 pub struct Areas {
     pub now: u64,
     pub then: u64,
 }
 
 // The lowest uneven soil type that was found, and the first row of it. While none was: a type above all, and no row.
-#[derive(Drop)]
+#[derive(Clone, Copy)]
 struct Lowest {
     pub soil: u64,
     pub row: usize,

@@ -1,4 +1,6 @@
 // The rules that add rows up, in their order: 12, wood, which is worked out here, and 13, areas. Of a return's bytes here, and of rows to be written in `unwritten`.
+#![tactic(auto)]
+
 pub mod unwritten;
 
 ghost use Rattle.std.specs.Prelude.{◌≡◌};
@@ -15,7 +17,7 @@ use totals::DryMatter;
 use wide::{less, times};
 
 // The wood that was used, 100 K, and the wood that clearing gave, L.
-#[derive(Drop)]
+#[derive(Clone, Copy)]
 pub struct Wood {
     pub used: DryMatter,
     pub cleared: DryMatter,

@@ -1,4 +1,6 @@
 // Rules 2 to 4 over all blocks: the zero bytes of a block, rule 4 of it whole, and the lowest block that breaks a rule.
+#![tactic(auto)]
+
 ghost use Rattle.std.specs.Prelude.{◌≡◌, ◌+◌, ◌*◌, ◌^◌, ◌≤◌, ◌<◌, length};
 ghost use Rattle.form.specs.First.{first, any};
 ghost use Rattle.form.specs.Layout.{layout, stray_at};

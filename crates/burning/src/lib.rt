@@ -1,4 +1,6 @@
 // What burning gives off: of carbon by ratios what goes off with each gas, of a row or of all rows; and the gases in tonnes.
+#![tactic(auto)]
+
 ghost use Rattle.std.specs.Prelude.{◌≡◌, ◌+◌, ◌^◌, ◌≤◌, ◌<◌, length};
 ghost use Rattle.wide.specs.Numbers.{value};
 ghost use Rattle.burning.specs.Released.{Thousandths, ratios_at, released_of, plus, none, Room};
@@ -10,7 +12,7 @@ use wide::rounding::rounded;
 use wide::{Wide, add, of, times};
 
 // N/C and the gases' ratios, in thousandths.
-#[derive(Drop)]
+#[derive(Clone, Copy)]
 pub struct Ratios {
     pub nc: u32,
     pub ch4: u32,
@@ -20,14 +22,14 @@ pub struct Ratios {
 }
 
 // What goes off with a gas: so much of the carbon, or of the nitrogen.
-#[derive(Drop)]
+#[derive(Clone, Copy)]
 pub struct CarbonReleased(pub Wide);
 
-#[derive(Drop)]
+#[derive(Clone, Copy)]
 pub struct NitrogenReleased(pub Wide);
 
 // The carbon that burns, and what of it goes off with each gas: one row's, or those of all rows.
-#[derive(Drop)]
+#[derive(Clone, Copy)]
 pub struct Released {
     pub carbon: Carbon,
     pub ch4: CarbonReleased,
@@ -37,10 +39,10 @@ pub struct Released {
 }
 
 // Tonnes of a gas.
-#[derive(Drop)]
+#[derive(Clone, Copy)]
 pub struct Gas(pub Wide);
 
-#[derive(Drop)]
+#[derive(Clone, Copy)]
 pub struct Gases {
     pub ch4: Gas,
     pub co: Gas,

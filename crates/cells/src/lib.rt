@@ -1,11 +1,13 @@
 // The lines of a text, and the fields of a line. Nothing is copied: what is found comes back as places in the caller's bytes.
+#![tactic(auto)]
+
 ghost use Rattle.std.specs.Prelude.{◌≡◌, ◌+◌, ◌≤◌, ◌<◌, min, length, drop, get_or};
 ghost use Rattle.cells.specs.Lines.{part, text_start, LineAt};
 ghost use Rattle.cells.specs.Cells.{blank_in, front_off, end_off, quotes_off, cleaned, found_in, EndAt, CellIn, FieldAt};
 ghost use Rattle.cells.specs.Cells.{is_filler, is_empty_line, is_note, small, same_word};
 
 // Where a line stands, without its end, and where the next begins.
-#[derive(Drop)]
+#[derive(Clone, Copy)]
 pub struct Line {
     pub from: usize,
     pub to: usize,
@@ -13,14 +15,14 @@ pub struct Line {
 }
 
 // Where a cleaned field stands.
-#[derive(Drop)]
+#[derive(Clone, Copy)]
 pub struct Cell {
     pub from: usize,
     pub to: usize,
 }
 
 // The same, and where the next field begins.
-#[derive(Drop)]
+#[derive(Clone, Copy)]
 pub struct Field {
     pub from: usize,
     pub to: usize,

@@ -1,4 +1,6 @@
 // A subtotal's double for the charting program: its bits in lent room.
+#![tactic(auto)]
+
 ghost use Rattle.std.specs.Prelude.{◌≡◌, ◌≤◌, length};
 ghost use Rattle.form.specs.Ruling.{on_front};
 ghost use Rattle.form.specs.Bytes.{little_endian};

@@ -1,4 +1,6 @@
 // Why rows that are to be written were refused: the lines of the values that clash, worked out from the rows in lent memory.
+#![tactic(auto)]
+
 mod values;
 
 ghost use Rattle.std.specs.Prelude.{◌≡◌, true, ◌+◌, ◌≤◌, length};
@@ -22,7 +24,7 @@ use phrases::put_lines;
 use reasons::Row;
 
 // The row at a place: its kind, where its numbers begin in the area, and how many rows of all kinds stand before it.
-#[derive(Drop)]
+#[derive(Clone, Copy)]
 pub struct Whereabouts {
     pub kind: usize,
     pub from: usize,

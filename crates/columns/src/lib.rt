@@ -1,4 +1,6 @@
 // The decimals of each field by its kind and its number, and the kinds by their names. Told by tests, as the layouts are.
+#![tactic(auto)]
+
 ghost use Rattle.std.specs.Prelude.{◌≡◌, ◌≤◌, ◌<◌, length, get_or};
 ghost use Rattle.form.specs.Layout.{kinds, numbers_of};
 ghost use Rattle.columns.specs.Columns.{plain, conversion, stock, harvest, abandoned, savanna, soil, crop, decimals_of, kind_named};

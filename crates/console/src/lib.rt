@@ -1,4 +1,6 @@
 // Standard input and output for programs that take some bytes up to a limit and print a text.
+#![tactic(auto)]
+
 ghost use Rattle.std.specs.Prelude.{◌≤◌, ◌<◌, length, get_or};
 ghost use Rattle.io.specs.Counts.{IsPrefixLen};
 ghost use Rattle.console.specs.Within.{Within};
@@ -7,7 +9,7 @@ use libc::{STDERR_FILENO, STDIN_FILENO, STDOUT_FILENO};
 use phrases::Put;
 
 // How many bytes were taken, and whether that is all that the room or the input had.
-#[derive(Drop)]
+#[derive(Clone, Copy)]
 pub struct Taken {
     pub whole: bool,
     pub count: usize,

@@ -1,4 +1,6 @@
 // The judge's answer for programs in C: the edition, then a count for each kind, last how many stock rows are of scattered trees, in lent room.
+#![tactic(auto)]
+
 ghost use Rattle.std.specs.Prelude.{◌≡◌, ◌≤◌, length, get_or};
 ghost use Rattle.form.specs.Ruling.{on_front};
 ghost use Rattle.counted.specs.Counts.{held, counts_room, judge_call, counts_judged};

@@ -1,4 +1,6 @@
 // Worksheet 4-4: the carbon of crop residues that burn in the field, from rows read in the caller's bytes in place, and the gases that it goes off with.
+#![tactic(auto)]
+
 ghost use Rattle.std.specs.Prelude.{◌≡◌, false, ◌+◌, ◌^◌, ◌≤◌, length};
 ghost use Rattle.form.specs.Layout.{crop, row_at, above_limit};
 ghost use Rattle.form.specs.Verdict.{rows, Formed};
@@ -11,7 +13,7 @@ use form::{Counts, first_block, four_at, row_start, two_at};
 use totals::{Carbon, DryMatterPart};
 use wide::{of, times};
 
-#[derive(Drop)]
+#[derive(Clone, Copy)]
 pub struct Crops {
     pub carbon: Carbon,
     pub gases: Gases,

@@ -1,4 +1,6 @@
 // A file of returns end to end: what comes next in it, by the number of blocks in a return's first header.
+#![tactic(auto)]
+
 ghost use Rattle.std.specs.Prelude.{◌≡◌, ◌≤◌, ◌<◌, length};
 ghost use Rattle.cutting.specs.Cutting.{sized_by, next_after, wanted_by, wanted_of};
 ghost use Rattle.form.specs.Block.{longest};
@@ -10,7 +12,7 @@ pub const MOST_RETURNS: u32 = 500;
 
 // Why a run goes no further: the file is whole, or the first header says a number of blocks that no return has, or the file ends inside a return, or it has
 // a return too many.
-#[derive(Drop)]
+#[derive(Clone, Copy)]
 pub enum Stop {
     Whole,
     Blocks(u32),
@@ -19,7 +21,7 @@ pub enum Stop {
 }
 
 // A return of so many bytes, or the end of the run.
-#[derive(Drop)]
+#[derive(Clone, Copy)]
 pub enum Next {
     Return(usize),
     Stopped(Stop),

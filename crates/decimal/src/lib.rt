@@ -1,4 +1,6 @@
 // Numbers as decimal text, written to lent room at a place. `put` has zeros in front, `write` none.
+#![tactic(auto)]
+
 ghost use Rattle.std.specs.Prelude.{◌≡◌, ◌+◌, ◌^◌, ◌<◌, ◌≤◌, length};
 ghost use Rattle.wide.specs.Numbers.{value};
 ghost use Rattle.wide.specs.Signs.{amount, Canonical};

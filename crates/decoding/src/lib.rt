@@ -1,4 +1,6 @@
 // Rows decoded from the records of the caller's bytes, by the layouts that `filing` writes them by.
+#![tactic(auto)]
+
 ghost use Rattle.std.specs.Prelude.{◌≡◌, ◌+◌, ◌*◌, ◌≤◌, ◌<◌, length};
 ghost use Rattle.std.proofs.lemmas.List.Edits.{sets};
 ghost use Rattle.form.specs.Layout.{layout, numbers_of, row_at};

@@ -1,5 +1,7 @@
 // The door for programs in C: each function hands on to the crate that knows its subject, and makes a number of the ruling.
 // A slice is a pointer and then a length.
+#![tactic(auto)]
+
 ghost use Rattle.std.specs.Prelude.{◌≤◌, ◌≡◌, length};
 ghost use Rattle.phrases.specs.Room.{put_of};
 ghost use Rattle.report.specs.Lines.{lines_room, printed};

@@ -1,4 +1,6 @@
 // The three carbon subtotals as doubles, from the caller's own bytes.
+#![tactic(auto)]
+
 ghost use Rattle.std.specs.Prelude.{◌≡◌, ◌+◌, ◌≤◌, length};
 ghost use Rattle.form.specs.Layout.{conversion, row_at};
 ghost use Rattle.form.specs.Verdict.{rows, verdict_of};
@@ -9,14 +11,14 @@ ghost use Rattle.doubles.specs.Steps.{burnt_of, double_parts_of, plus_of};
 use form::{Counts, Verdict, counted_difference, four_at, row_start, two_at};
 use held::Checked;
 
-#[derive(Drop)]
+#[derive(Clone, Copy)]
 pub struct Doubles {
     pub onsite: f64,
     pub offsite: f64,
     pub decay: f64,
 }
 
-#[derive(Drop)]
+#[derive(Clone, Copy)]
 pub enum Answer {
     Figures(Doubles),
     Refused { number: u8, place: u32 },

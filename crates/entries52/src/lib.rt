@@ -1,4 +1,6 @@
 // The entries of table 5-2 of document 001: the forest area of 1980, of 1990 and the yearly conversion rate, by number.
+#![tactic(auto)]
+
 mod figures;
 
 ghost use Rattle.std.specs.Prelude.{◌≡◌, ◌+◌, ◌*◌, ◌<◌, get_or};
@@ -10,14 +12,14 @@ ghost use Rattle.entries52.specs.Cells.{cells, figure_of};
 use crate::figures::{BLANK, FIGURES, MARKED};
 
 // A figure in tenths of kha, or in tenths of kha a year; a blank of the document has no number that could be taken for one.
-#[derive(Drop)]
+#[derive(Clone, Copy)]
 pub enum Figure {
     Given(i32),
     NotGiven,
 }
 
 // What the table has of a country in a zone; the mark says that the source breaks the rule of the rates there.
-#[derive(Drop)]
+#[derive(Clone, Copy)]
 pub struct Entry {
     pub area1980: Figure,
     pub area1990: Figure,

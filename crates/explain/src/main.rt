@@ -1,4 +1,6 @@
 // Reads a return on standard input and prints why it was refused, or which rows weigh most and where the cleared biomass went.
+#![tactic(auto)]
+
 ghost use Rattle.std.specs.Prelude.{◌≤◌, length};
 ghost use Rattle.explained.specs.Explained.{explain_room};
 

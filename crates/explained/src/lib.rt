@@ -1,4 +1,6 @@
 // Why a return was refused, or which rows weigh most and where its cleared biomass went: the explanation of any bytes, and its text in lent room.
+#![tactic(auto)]
+
 mod text;
 
 ghost use Rattle.std.specs.Prelude.{◌≡◌, ◌≤◌, length};
@@ -14,7 +16,7 @@ use reasons::{Reason, reason_of};
 // Room that is always enough for the text.
 pub const EXPLAIN_ROOM: usize = 500;
 
-#[derive(Drop)]
+#[derive(Clone, Copy)]
 pub enum Explanation {
     Accepted(Weights, Matter),
     Refused(Reason),

@@ -1,4 +1,6 @@
 // What became of the cleared biomass, as five lines of text: those that the national line and an explanation end with.
+#![tactic(auto)]
+
 ghost use Rattle.std.specs.Prelude.{◌≡◌, ◌+◌, ◌^◌, ◌≤◌, length};
 ghost use Rattle.phrases.specs.Lines.{WrittenIn};
 ghost use Rattle.matter.specs.Matter.{MatterMost};

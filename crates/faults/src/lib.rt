@@ -1,4 +1,6 @@
 // What is wrong with a block by number 4: the first fault in the order of the paper's sentence.
+#![tactic(auto)]
+
 ghost use Rattle.std.specs.Prelude.{◌≡◌, ◌^◌, ◌<◌, length};
 ghost use Rattle.form.specs.Layout.{layout};
 ghost use Rattle.form.specs.Block.{blocks};
@@ -11,7 +13,7 @@ use sequence::{
 };
 
 // The faults, with the values that a clerk needs beside the block's header.
-#[derive(Drop)]
+#[derive(Clone, Copy)]
 pub enum Fault {
     Order { kind_before: u32 },
     End,

@@ -1,4 +1,6 @@
 // What a return is: the types that the definitions speak of, and numbers in the caller's bytes, read in place.
+#![tactic(auto)]
+
 pub mod layout;
 
 ghost use Rattle.std.specs.Prelude.{◌≡◌, cond, ◌+◌, ◌*◌, ◌/◌, ◌%◌, ◌^◌, ◌≤◌, ◌<◌, length, get_or, eqb};
@@ -24,7 +26,7 @@ pub const LONGEST: usize = 512 * MOST_BLOCKS;
 pub const RECORD_RULES: usize = 4;
 
 // A field of a record: the zero bytes before it, its width in bytes, and its limit.
-#[derive(Drop)]
+#[derive(Clone, Copy)]
 pub struct Field {
     pub zeros: usize,
     pub width: usize,
@@ -32,21 +34,21 @@ pub struct Field {
 }
 
 // The lowest place where a test holds.
-#[derive(Drop)]
+#[derive(Clone, Copy)]
 pub enum Spot {
     At(u32),
     Nowhere,
 }
 
 // The first broken rule with its lowest place.
-#[derive(Drop)]
+#[derive(Clone, Copy)]
 pub enum Ruling {
     Clean,
     Broken { number: u8, place: u32 },
 }
 
 // What a return holds: its edition, how many rows of each kind, and how many of its stock rows are of scattered trees. A new kind is a new line.
-#[derive(Drop)]
+#[derive(Clone, Copy)]
 pub struct Counts {
     pub edition: u32,
     pub conversion: u32,
@@ -60,7 +62,7 @@ pub struct Counts {
     pub scattered: u32,
 }
 
-#[derive(Drop)]
+#[derive(Clone, Copy)]
 pub enum Verdict {
     Accepted(Counts),
     Refused { number: u8, place: u32 },

@@ -1,4 +1,6 @@
 // What the returns of a file add up to, return by return.
+#![tactic(auto)]
+
 ghost use Rattle.std.specs.Prelude.{◌≡◌, ◌≤◌, []};
 ghost use Rattle.form.specs.Verdict.{verdict_of};
 ghost use Rattle.form.specs.declared.Verdict.TheVariants.{Accepted};
@@ -14,7 +16,7 @@ use totals::sum_conversion;
 use worksheets::sheets::read_parameters;
 
 // How many returns were accepted and refused, and the ledger of the accepted ones.
-#[derive(Drop)]
+#[derive(Clone, Copy)]
 pub struct Tally {
     pub accepted: u32,
     pub refused: u32,

@@ -1,4 +1,6 @@
 // Rows read and written for programs in C: the counts, or the size, in lent room beside the rows or the blocks.
+#![tactic(auto)]
+
 ghost use Rattle.std.specs.Prelude.{◌≡◌, []};
 ghost use Rattle.handed.specs.Rows.{read_call, rows_read, counts_read, write_call, blocks_written, size_written};
 

@@ -1,4 +1,6 @@
 // Rules 1 to 3: the length, and each block's check and header.
+#![tactic(auto)]
+
 ghost use Rattle.std.specs.Prelude.{◌≡◌, ◌<◌};
 ghost use Rattle.form.specs.Block.{blocks, bad_length, bad_check, bad_header};
 

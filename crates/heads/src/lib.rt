@@ -1,4 +1,6 @@
 // The first line of a text that counts: the edition, and the separator of the file.
+#![tactic(auto)]
+
 ghost use Rattle.std.specs.Prelude.{◌≡◌, true, false, ◌+◌, ◌≤◌, ◌<◌, length, take, drop};
 ghost use Rattle.cells.specs.Cells.{cell_at, same_word};
 ghost use Rattle.numerals.specs.Numerals.{read_number};
@@ -9,7 +11,7 @@ use cells::{found, front, is_empty_line, is_note, next_field, same_word};
 use numerals::{Numeral, read_number};
 
 // A fault of a text: its line, its number by the order of the words, and what is told with it; what is not told is 0.
-#[derive(Drop)]
+#[derive(Clone, Copy)]
 pub struct TextFault {
     pub line: u32,
     pub fault: u32,
@@ -20,7 +22,7 @@ pub struct TextFault {
 }
 
 // What the first line that counts says.
-#[derive(Drop)]
+#[derive(Clone, Copy)]
 pub enum Head {
     Edition { edition: u32, separator: u8 },
     Fault(TextFault),

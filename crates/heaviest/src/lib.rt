@@ -1,4 +1,6 @@
 // The row that weighs most in each of the three carbon subtotals, from the caller's own bytes.
+#![tactic(auto)]
+
 ghost use Rattle.std.specs.Prelude.{◌≡◌};
 ghost use Rattle.form.specs.Verdict.{Formed};
 ghost use Rattle.heaviest.specs.Heaviest.{heavier, heavier_three, heaviest_of, weight_by, named_of, heaviest_answer};
@@ -7,21 +9,21 @@ use form::{Counts, Verdict, four_at, row_start};
 use totals::{Parts, parts_at};
 
 // A row by its id, and its exact part in a subtotal: 0 where no row has any.
-#[derive(Drop)]
+#[derive(Clone, Copy)]
 pub struct Weight {
     pub id: u32,
     pub part: u64,
 }
 
 // The heaviest row of each subtotal.
-#[derive(Drop)]
+#[derive(Clone, Copy)]
 pub struct Weights {
     pub onsite: Weight,
     pub offsite: Weight,
     pub decay: Weight,
 }
 
-#[derive(Drop)]
+#[derive(Clone, Copy)]
 pub enum Named {
     Row { id: u32, part: u64 },
     None,

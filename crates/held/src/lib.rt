@@ -1,4 +1,6 @@
 // A checked return: the caller's own bytes with its row counts beside them.
+#![tactic(auto)]
+
 ghost use Rattle.std.specs.Prelude.{◌≡◌};
 ghost use Rattle.form.specs.Verdict.{verdict_of};
 ghost use Rattle.form.specs.declared.Verdict.TheVariants.{Accepted};
@@ -6,7 +8,7 @@ ghost use Rattle.held.specs.Checked.{checked_of};
 
 use form::Counts;
 
-#[derive(Drop)]
+#[derive(Clone, Copy)]
 pub struct Checked<'a> {
     pub bytes: &'a [u8],
     pub counts: Counts,

@@ -1,4 +1,6 @@
 // The judge: any bytes of any length are accepted, with the row counts, or refused, with one number and one place.
+#![tactic(auto)]
+
 ghost use Rattle.std.specs.Prelude.{◌≡◌, ◌^◌, ◌<◌, length};
 ghost use Rattle.form.specs.Ruling.{ruling};
 ghost use Rattle.form.specs.Block.{edition};

@@ -1,4 +1,6 @@
 // The columns of 5-1 and 5-2 that add up over returns, and the one step that derives the others from them.
+#![tactic(auto)]
+
 pub mod several;
 
 ghost use Rattle.std.specs.Prelude.{◌≡◌, ◌^◌, ◌<◌, ◌≤◌};
@@ -14,7 +16,7 @@ use units::{
 };
 
 // What adds up over returns.
-#[derive(Drop)]
+#[derive(Clone, Copy)]
 pub struct Ledger {
     pub e: Carbon,
     pub k: DryMatter,
@@ -27,7 +29,7 @@ pub struct Ledger {
 }
 
 // Worksheet 5-1.
-#[derive(Drop)]
+#[derive(Clone, Copy)]
 pub struct Stocks {
     pub e: Carbon,
     pub k: DryMatter,
@@ -40,7 +42,7 @@ pub struct Stocks {
 }
 
 // Worksheet 5-2, but for the count of thinner periods.
-#[derive(Drop)]
+#[derive(Clone, Copy)]
 pub struct Conversion {
     pub onsite: Carbon,
     pub offsite: Carbon,

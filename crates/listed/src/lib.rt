@@ -1,4 +1,6 @@
 // The figures as one list, in the order in which they are printed, and as numbers.
+#![tactic(auto)]
+
 ghost use Rattle.std.specs.Prelude.{◌≡◌, cond, ◌+◌, ◌≤◌, length};
 ghost use Rattle.decimal.specs.Digits.{WrittenAt};
 ghost use Rattle.listed.specs.Listed.{listed, values_of, three_in, figure_numbers, numbers_room, TwoWords, AllTwoWords};

@@ -1,4 +1,6 @@
 // The rules of rows that are to be written: 10 by kind, then 5, 6, 14 and 7 where each record would stand.
+#![tactic(auto)]
+
 ghost use Rattle.std.specs.Prelude.{◌≡◌, suc, ◌+◌, ◌*◌, ◌^◌, ◌≤◌, ◌<◌, length, get_or, drop};
 ghost use Rattle.form.specs.First.{first};
 ghost use Rattle.form.specs.Ruling.{ruling};

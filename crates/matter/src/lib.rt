@@ -1,4 +1,6 @@
 // Where every tonne of cleared biomass went: burned to gas or to charcoal, on site or off, or left unburned, from rows read in the caller's bytes in place.
+#![tactic(auto)]
+
 pub mod several;
 
 ghost use Rattle.std.specs.Prelude.{◌≡◌, false, ◌+◌, ◌*◌, ◌^◌, ◌≤◌, length};
@@ -14,14 +16,14 @@ use totals::{DryMatter, DryMatterPart, lost, share_of};
 use wide::of;
 
 // What burning made of dry matter.
-#[derive(Drop)]
+#[derive(Clone, Copy)]
 pub struct Burned {
     pub oxidised: DryMatter,
     pub charcoal: DryMatter,
 }
 
 // The five masses, in 10^-9 kt: of a row, of a return or of several.
-#[derive(Drop)]
+#[derive(Clone, Copy)]
 pub struct Matter {
     pub onsite: Burned,
     pub offsite: Burned,

@@ -1,4 +1,6 @@
 // The lines of a refused row: which row it is, and the values that clash, with the names of the kinds and of their fields.
+#![tactic(auto)]
+
 ghost use Rattle.std.specs.Prelude.{◌+◌, ◌≤◌, length};
 ghost use Rattle.phrases.specs.Lines.{WrittenIn, lines_text};
 ghost use Rattle.naming.specs.Names.{field_name, kind_name};

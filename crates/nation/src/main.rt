@@ -1,4 +1,6 @@
 // Reads a file of returns end to end on standard input, a return at a time, and prints the national line.
+#![tactic(auto)]
+
 ghost use Rattle.std.specs.Prelude.{◌≡◌, ◌≤◌, length};
 ghost use Rattle.form.specs.Block.{longest};
 ghost use Rattle.national.specs.Steps.{nation_room, Ready};
@@ -11,7 +13,7 @@ use libc::STDERR_FILENO;
 use national::{NATION_ROOM, Run, Turn, begin, finish, settle};
 
 // A turn, and whether the input could be read.
-#[derive(Drop)]
+#[derive(Clone, Copy)]
 struct Read {
     turn: Turn,
     whole: bool,

@@ -1,4 +1,6 @@
 // The national line: what the returns of a file add up to, and its text in lent room.
+#![tactic(auto)]
+
 mod parts;
 
 ghost use Rattle.std.specs.Prelude.{◌≡◌, [], ◌+◌, ◌*◌, ◌≤◌, length, drop};
@@ -18,21 +20,21 @@ use phrases::{Put, put_short};
 pub const NATION_ROOM: usize = 16000;
 
 // A run so far: what its returns add up to, and the place where its text goes on.
-#[derive(Drop)]
+#[derive(Clone, Copy)]
 pub struct Run {
     pub tally: Tally,
     pub at: usize,
 }
 
 // A run, and why it goes no further.
-#[derive(Drop)]
+#[derive(Clone, Copy)]
 pub struct Ended {
     pub run: Run,
     pub stop: Stop,
 }
 
 // A turn of a program that reads a return at a time: the run so far, whether it is over, and why.
-#[derive(Drop)]
+#[derive(Clone, Copy)]
 pub struct Turn {
     pub run: Run,
     pub over: bool,

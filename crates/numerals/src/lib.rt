@@ -1,10 +1,12 @@
 // A decimal number read from the bytes of a text field.
+#![tactic(auto)]
+
 ghost use Rattle.std.specs.Prelude.{◌≡◌, ◌+◌, ◌-◌, ◌*◌, ◌^◌, ◌≤◌, ◌<◌, length, drop};
 ghost use Rattle.numerals.specs.Numerals.{is_digit, is_mark, digits_in, with_digits, only_digits, is_number, behind_mark, capped};
 ghost use Rattle.numerals.specs.Numerals.{unless_large, read_parts, read_number};
 
 // What a field says: a number of units, or why it says none.
-#[derive(Drop)]
+#[derive(Clone, Copy)]
 pub enum Numeral {
     Units(u32),
     NoNumber,

@@ -1,4 +1,6 @@
 // Why a text of rows can't be packed: the lines of its refusal, or how many bytes its return has, in lent room.
+#![tactic(auto)]
+
 mod refused;
 mod told;
 

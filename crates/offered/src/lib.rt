@@ -1,4 +1,6 @@
 // The workbook's default parameters, for programs in C that ask for them, in lent room.
+#![tactic(auto)]
+
 ghost use Rattle.std.specs.Prelude.{◌≡◌};
 ghost use Rattle.offered.specs.Defaults.{defaults_call, defaults_after};
 

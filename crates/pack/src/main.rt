@@ -1,4 +1,6 @@
 // Reads a text of rows on standard input and writes its return to standard output; what is wrong with it goes to standard error.
+#![tactic(auto)]
+
 ghost use Rattle.std.specs.Prelude.{◌≤◌, length};
 ghost use Rattle.form.specs.Block.{longest};
 ghost use Rattle.objections.specs.Objections.{why_room};

@@ -1,4 +1,6 @@
 // A text packed to a return in lent room.
+#![tactic(auto)]
+
 ghost use Rattle.std.specs.Prelude.{◌≡◌, ◌≤◌, length, replicate};
 ghost use Rattle.form.specs.Layout.{kinds};
 ghost use Rattle.handed.specs.Rows.{write_call, blocks_written, size_written};
@@ -10,7 +12,7 @@ use heads::TextFault;
 use texts::{AREA_ROOM, Entered, enter};
 
 // What becomes of a text: its return, its own first fault, or the rule of writing that its rows break.
-#[derive(Drop)]
+#[derive(Clone, Copy)]
 pub enum Packing {
     Packed,
     Faulty(TextFault),

@@ -1,4 +1,6 @@
 // Text in lent room: lines of names with a value behind each, words, and a text where the room is perhaps too short.
+#![tactic(auto)]
+
 pub mod text;
 
 ghost use Rattle.std.specs.Prelude.{◌≡◌, ◌+◌, ◌*◌, ◌≤◌, length, take, drop};
@@ -11,7 +13,7 @@ ghost use Rattle.phrases.specs.Room.{put_of, text_after};
 use text::{plain, put_byte, put_value, value_at};
 
 // How a text was put into lent room.
-#[derive(Drop)]
+#[derive(Clone, Copy)]
 pub enum Put {
     Done(usize),
     Short,

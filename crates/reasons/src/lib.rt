@@ -1,4 +1,6 @@
 // Why a return was refused: the values that clash at the refusal's place.
+#![tactic(auto)]
+
 mod records;
 
 ghost use Rattle.std.specs.Prelude.{◌≡◌, ◌^◌, ◌<◌, length};
@@ -14,7 +16,7 @@ use form::{byte_at, check_due, four_at, two_at};
 use judge::count_rows;
 
 // A block's header, as it stands there.
-#[derive(Drop)]
+#[derive(Clone, Copy)]
 pub struct Header {
     pub kind: u32,
     pub count: u32,
@@ -24,7 +26,7 @@ pub struct Header {
 }
 
 // The row that a refusal names: its place, its kind, and what stands where its id does.
-#[derive(Drop)]
+#[derive(Clone, Copy)]
 pub struct Row {
     pub place: u32,
     pub kind: u32,
@@ -32,7 +34,7 @@ pub struct Row {
 }
 
 // The values that clash, a case for each refusal number. A new number is a new case; one of a row has the row first.
-#[derive(Drop)]
+#[derive(Clone, Copy)]
 pub enum Reason {
     BadLength {
         length: usize,

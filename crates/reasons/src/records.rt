@@ -14,7 +14,7 @@ use form::{byte_at, four_at, number_at, row_start, two_at};
 use judge::count_rows;
 
 // A field above its limit: its number in the row, what it is, and what it may be.
-#[derive(Drop)]
+#[derive(Clone, Copy)]
 pub struct Above {
     pub field: u32,
     pub value: u32,

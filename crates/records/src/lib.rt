@@ -1,4 +1,6 @@
 // Rules 5, 6, 14 and 7: the records of a return, block by block over those that are used.
+#![tactic(auto)]
+
 ghost use Rattle.std.specs.Prelude.{◌≡◌, false, ◌+◌, ◌*◌, ◌^◌, ◌≤◌, ◌<◌, min, length};
 ghost use Rattle.form.specs.First.{first};
 ghost use Rattle.form.specs.Layout.{layout, conversion, stock, row_at, above_limit};

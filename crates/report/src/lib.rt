@@ -1,4 +1,6 @@
 // The lines that `sheets` prints, as text in lent room.
+#![tactic(auto)]
+
 mod text;
 
 ghost use Rattle.std.specs.Prelude.{◌≤◌, ◌≡◌, length};

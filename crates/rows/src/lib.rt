@@ -1,4 +1,6 @@
 // Rows read from a return to lent memory, and written as a return. Lent memory is stored to only when every test has passed.
+#![tactic(auto)]
+
 ghost use Rattle.std.specs.Prelude.{◌≡◌, suc, ◌+◌, ◌*◌, ◌≤◌, ◌<◌, length};
 ghost use Rattle.std.proofs.lemmas.List.Edits.{sets};
 ghost use Rattle.form.specs.First.{first};
@@ -19,7 +21,7 @@ use judge::judge;
 use lists::{blocks_in, blocks_of, first_bad_list, length_at, rule_records};
 
 // How many bytes were written, or a refusal's number and place.
-#[derive(Drop)]
+#[derive(Clone, Copy)]
 pub enum Written {
     Done(usize),
     Refused { number: u8, place: u32 },

@@ -1,4 +1,6 @@
 // One row of a text: its fields, from left to right, as the numbers that they say.
+#![tactic(auto)]
+
 ghost use Rattle.std.specs.Prelude.{◌≡◌, cond, ◌+◌, ◌≤◌, ◌<◌, length};
 ghost use Rattle.std.proofs.lemmas.List.Edits.{sets};
 ghost use Rattle.form.specs.Layout.{numbers_of};
@@ -11,14 +13,14 @@ use form::layout::numbers;
 use numerals::{Numeral, read_number};
 
 // What a field says: a number, or the number of its fault.
-#[derive(Drop)]
+#[derive(Clone, Copy)]
 pub enum Said {
     Number(u32),
     Wrong(u32),
 }
 
 // What a row says: all its numbers, or the first fault and its field.
-#[derive(Drop)]
+#[derive(Clone, Copy)]
 pub enum RowSaid {
     Whole,
     Fault { fault: u32, field: u32 },

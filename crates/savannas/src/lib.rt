@@ -1,4 +1,6 @@
 // Worksheet 4-3: the carbon of savannas that burn, from rows read in the caller's bytes in place, and the gases that it goes off with.
+#![tactic(auto)]
+
 ghost use Rattle.std.specs.Prelude.{◌≡◌, false, ◌+◌, ◌*◌, ◌^◌, ◌≤◌, length};
 ghost use Rattle.form.specs.Layout.{savanna, row_at, above_limit};
 ghost use Rattle.form.specs.Verdict.{rows, Formed};
@@ -11,7 +13,7 @@ use form::{Counts, first_block, four_at, row_start, two_at};
 use totals::{Carbon, DryMatterPart};
 use wide::{of, times};
 
-#[derive(Drop)]
+#[derive(Clone, Copy)]
 pub struct Savannas {
     pub carbon: Carbon,
     pub gases: Gases,

@@ -1,4 +1,6 @@
 // Rule 4's tests of a block's kind and count, by themselves and beside the blocks before and behind it.
+#![tactic(auto)]
+
 ghost use Rattle.std.specs.Prelude.{◌≡◌, ◌&&◌, ◌^◌, ◌<◌, length, ltb, eqb};
 ghost use Rattle.form.specs.Block.{blocks, kind_falls, low_behind, ends_low, none_before, blocks_below, bad_count, not_filled};
 

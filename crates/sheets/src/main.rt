@@ -1,4 +1,6 @@
 // Reads a return on standard input and prints its lines.
+#![tactic(auto)]
+
 ghost use Rattle.std.specs.Prelude.{◌≤◌, length};
 ghost use Rattle.report.specs.Lines.{lines_room};
 

@@ -1,4 +1,6 @@
 // Worksheets 5-5 and 5-5A: the stocks of carbon in mineral soils, now and twenty years ago, from rows read in the caller's bytes in place, and what they change by in a year.
+#![tactic(auto)]
+
 ghost use Rattle.std.specs.Prelude.{◌≡◌, false, ◌+◌, ◌*◌, ◌^◌, ◌≤◌, ◌<◌, length};
 ghost use Rattle.form.specs.Layout.{soil, row_at, above_limit};
 ghost use Rattle.form.specs.Verdict.{rows, Formed};
@@ -10,29 +12,29 @@ use wide::of;
 use wide::signed::{Signed, difference, rounded_signed};
 
 // Soil carbon of a hectare, in 10^-7 t.
-#[derive(Drop)]
+#[derive(Clone, Copy)]
 pub struct SoilCarbon(pub u64);
 
 // A stock of soil carbon on an area, in 10^-4 t: a sum over 32 rows fits one word.
-#[derive(Drop)]
+#[derive(Clone, Copy)]
 pub struct SoilStock(pub u64);
 
 // The stocks of a row, or of all rows.
-#[derive(Drop)]
+#[derive(Clone, Copy)]
 pub struct SoilStocks {
     pub now: SoilStock,
     pub then: SoilStock,
 }
 
 // Stocks now less stocks then, in 10^-4 t of carbon.
-#[derive(Drop)]
+#[derive(Clone, Copy)]
 pub struct SoilGain(pub Signed);
 
 // What that is in one of the twenty years, in tonnes of carbon.
-#[derive(Drop)]
+#[derive(Clone, Copy)]
 pub struct SoilChange(pub Signed);
 
-#[derive(Drop)]
+#[derive(Clone, Copy)]
 pub struct Soils {
     pub soil: SoilGain,
     pub change: SoilChange,

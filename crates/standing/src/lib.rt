@@ -1,1 +1,2 @@
 // Theorems only: where the rows of a return stand.
+#![tactic(auto)]

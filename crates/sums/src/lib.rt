@@ -1,5 +1,7 @@
 // Sums of one number a row: E of the stocks, K of the harvest, L of the conversion, and worksheet 5-4's uptake of land given up by farmers. One loop for all kinds.
 // And, for the counts themselves, how many stock rows are of scattered trees.
+#![tactic(auto)]
+
 ghost use Rattle.std.specs.Prelude.{◌≡◌, false, ◌+◌, ◌^◌, ◌≤◌, ◌<◌, length};
 ghost use Rattle.form.specs.Layout.{kinds, layout, conversion, stock, harvest, abandoned, row_at, above_limit};
 ghost use Rattle.form.specs.Verdict.{row_count, rows, counts_of, Formed};

@@ -7,7 +7,7 @@ use crate::{Lookup, look_up};
 use entries52::{Entry, Figure};
 
 // What became of a lookup with lent room.
-#[derive(Drop)]
+#[derive(Clone, Copy)]
 pub enum Told {
     Done,
     NoCountry,

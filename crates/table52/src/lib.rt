@@ -1,4 +1,6 @@
 // The lookup in table 5-2 of document 001: the forest area of 1980, of 1990 and the yearly conversion rate, by country and forest zone.
+#![tactic(auto)]
+
 pub mod lent;
 
 ghost use Rattle.std.specs.Prelude.{◌≡◌};
@@ -10,7 +12,7 @@ pub const COUNTRIES: u32 = 90;
 
 pub const ZONES: u32 = 6;
 
-#[derive(Drop)]
+#[derive(Clone, Copy)]
 pub enum Lookup {
     Found(Entry),
     NoCountry,

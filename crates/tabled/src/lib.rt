@@ -1,4 +1,6 @@
 // The figures as numbers for programs in C: three each, in the order of the list.
+#![tactic(auto)]
+
 ghost use Rattle.std.specs.Prelude.{◌≡◌};
 ghost use Rattle.tabled.specs.Figures.{figures_answer, figures_after};
 

@@ -1,1 +1,3 @@
 // Rows as text and back: theorems only.
+#![tactic(auto)]
+

@@ -1,4 +1,6 @@
 // A text as an edition and rows in lent room, or its first fault.
+#![tactic(auto)]
+
 ghost use Rattle.std.specs.Prelude.{◌≡◌, [], ◌∷◌, suc, ◌+◌, ◌-◌, ◌≤◌, ◌<◌, length, get_or, replicate, drop};
 ghost use Rattle.std.proofs.lemmas.List.Edits.{sets};
 ghost use Rattle.form.specs.Layout.{kinds, numbers_of};
@@ -20,14 +22,14 @@ use rowtext::{RowSaid, read_row};
 pub const AREA_ROOM: usize = 2336;
 
 // What a line behind the first that counts says: a row of a kind, or its fault.
-#[derive(Drop)]
+#[derive(Clone, Copy)]
 pub enum Check {
     Row(u32),
     Fault(TextFault),
 }
 
 // The rows so far, beside the lent lengths and area: the kind of the last row, how many rows of it there are, and how many numbers of the area are used.
-#[derive(Drop)]
+#[derive(Clone, Copy)]
 pub struct Kept {
     pub kind: usize,
     pub count: usize,
@@ -35,14 +37,14 @@ pub struct Kept {
 }
 
 // The rows after a line, or its fault.
-#[derive(Drop)]
+#[derive(Clone, Copy)]
 pub enum Taken {
     On(Kept),
     Fault(TextFault),
 }
 
 // The first line that counts: its number, 0 where there is none, where it stands, and where the next begins.
-#[derive(Drop)]
+#[derive(Clone, Copy)]
 pub struct First {
     pub number: u32,
     pub from: usize,
@@ -51,7 +53,7 @@ pub struct First {
 }
 
 // Any text: its rows, kind after kind, at the front of the area, and the length of each kind's part; or its first fault.
-#[derive(Drop)]
+#[derive(Clone, Copy)]
 pub enum Entered {
     Rows { edition: u32, used: usize },
     Fault(TextFault),

@@ -1,4 +1,6 @@
 // Sums over the conversion rows, read in the caller's bytes in place.
+#![tactic(auto)]
+
 ghost use Rattle.std.specs.Prelude.{◌≡◌, ◌+◌, ◌*◌, ◌/◌, ◌%◌, ◌^◌, ◌≤◌, ◌<◌, length, false, cond};
 ghost use Rattle.form.specs.Layout.{conversion, row_at, above_limit};
 ghost use Rattle.form.specs.Records.{thinner, counted_difference};
@@ -11,24 +13,24 @@ use form::{Counts, counted_difference, four_at, row_start, two_at};
 use wide::{Wide, add_word, of};
 
 // Masses of one substance, each counted in the unit of its column.
-#[derive(Drop)]
+#[derive(Clone, Copy)]
 pub struct DryMatter(pub Wide);
 
-#[derive(Drop)]
+#[derive(Clone, Copy)]
 pub struct Carbon(pub Wide);
 
 // How many periods of rows.
-#[derive(Drop)]
+#[derive(Clone, Copy)]
 pub struct Periods(pub Wide);
 
 // A row's part in a sum: one substance, or its periods, in one word.
-#[derive(Drop)]
+#[derive(Clone, Copy)]
 pub struct DryMatterPart(pub u64);
 
-#[derive(Drop)]
+#[derive(Clone, Copy)]
 pub struct CarbonPart(pub u64);
 
-#[derive(Drop)]
+#[derive(Clone, Copy)]
 pub struct PeriodsPart(pub u64);
 
 // The biomass that an area loses.
@@ -64,7 +66,7 @@ fn burned(biomass: DryMatterPart, fraction: u32, oxidised: u32, carbon: u32) -> 
 }
 
 // One conversion row's part in each sum.
-#[derive(Drop)]
+#[derive(Clone, Copy)]
 pub struct Parts {
     pub cleared: DryMatterPart,
     pub onsite: CarbonPart,
@@ -140,7 +142,7 @@ pub fn parts_at(bytes: &[u8], at: usize) -> Parts
 }
 
 // The sums over the conversion rows.
-#[derive(Drop)]
+#[derive(Clone, Copy)]
 pub struct Totals {
     pub cleared: DryMatter,
     pub onsite: Carbon,

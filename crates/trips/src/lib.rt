@@ -1,1 +1,3 @@
 // The round trips: theorems only, about what rows::read and rows::write promise.
+#![tactic(auto)]
+

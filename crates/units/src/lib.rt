@@ -1,4 +1,6 @@
 // The other masses. One substance becomes another only by a step named here.
+#![tactic(auto)]
+
 ghost use Rattle.std.specs.Prelude.{◌≡◌, ◌+◌, ◌*◌, ◌^◌, ◌<◌};
 ghost use Rattle.wide.specs.Numbers.{value};
 ghost use Rattle.units.specs.Columns.{column_m, column_o, column_p, column_q, reported, sum_of_both, co2_of, uptake_co2};
@@ -9,17 +11,17 @@ use wide::signed::{Signed, difference, minus, negated, rounded_signed, times_sig
 use wide::{Wide, add, times};
 
 // Dry matter, carbon and tonnes of CO2 that may be below zero.
-#[derive(Drop)]
+#[derive(Clone, Copy)]
 pub struct NetDryMatter(pub Signed);
 
-#[derive(Drop)]
+#[derive(Clone, Copy)]
 pub struct NetCarbon(pub Signed);
 
-#[derive(Drop)]
+#[derive(Clone, Copy)]
 pub struct NetCo2(pub Signed);
 
 // Tonnes of CO2.
-#[derive(Drop)]
+#[derive(Clone, Copy)]
 pub struct Co2(pub Wide);
 
 // M: the wood used, less the wood that clearing gave.

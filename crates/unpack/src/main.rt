@@ -1,4 +1,6 @@
 // Reads a return on standard input and writes its rows as text to standard output; why a return is refused goes to standard error.
+#![tactic(auto)]
+
 ghost use Rattle.std.specs.Prelude.{◌≤◌, length};
 ghost use Rattle.explained.specs.Explained.{explain_room};
 ghost use Rattle.unpacked.specs.Rooms.{unpack_room};

@@ -1,4 +1,6 @@
 // The row that weighs most in a subtotal, as three numbers for programs in C, in lent room.
+#![tactic(auto)]
+
 ghost use Rattle.std.specs.Prelude.{◌≡◌};
 ghost use Rattle.weighed.specs.Heaviest.{three, three_call, three_after, heaviest_call, heaviest_told};
 

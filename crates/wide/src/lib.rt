@@ -1,4 +1,6 @@
 // Exact numbers beyond one word.
+#![tactic(auto)]
+
 pub mod rounding;
 pub mod signed;
 
@@ -6,7 +8,7 @@ ghost use Rattle.std.specs.Prelude.{◌≡◌, ◌+◌, ◌-◌, ◌*◌, ◌/�
 ghost use Rattle.wide.specs.Numbers.{value, Is};
 
 // A number in two words. Sums and products are kept below 2 ^ 120, so that no carry out of the upper word is lost.
-#[derive(Drop)]
+#[derive(Clone, Copy)]
 pub struct Wide {
     pub lo: u64,
     pub hi: u64,
@@ -93,7 +95,7 @@ pub fn times(a: Wide, k: u32) -> Wide
 }
 
 // A quotient and what is left.
-#[derive(Drop)]
+#[derive(Clone, Copy)]
 pub struct Parts {
     pub quotient: Wide,
     pub rest: u64,

@@ -6,7 +6,7 @@ ghost use Rattle.wide.specs.Rounding.{even_of, settled, nearest};
 use crate::{Wide, add, add_word, divide, less, of, times};
 
 // A quotient and what is left of a divisor that may be wider than a word.
-#[derive(Drop)]
+#[derive(Clone, Copy)]
 pub struct Share {
     pub quotient: Wide,
     pub rest: Wide,

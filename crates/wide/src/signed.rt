@@ -7,7 +7,7 @@ use crate::rounding::rounded;
 use crate::{Wide, add, is_zero, less, sub, times};
 
 // Below zero, or not, and how far from it.
-#[derive(Drop)]
+#[derive(Clone, Copy)]
 pub struct Signed {
     pub below: bool,
     pub size: Wide,

@@ -1,4 +1,6 @@
 // The lines of a refusal behind its first: the values that clash, with their names.
+#![tactic(auto)]
+
 mod lines;
 
 ghost use Rattle.std.specs.Prelude.{◌≡◌, ◌+◌, ◌≤◌, [], ◌∷◌, length};

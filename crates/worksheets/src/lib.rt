@@ -1,4 +1,6 @@
 // Worksheets 5-1 to 5-5, 4-3 and 4-4, and where the cleared biomass went: the figures of a return, or its refusal.
+#![tactic(auto)]
+
 pub mod sheets;
 
 ghost use Rattle.std.specs.Prelude.{◌≡◌};

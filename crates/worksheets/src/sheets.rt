@@ -17,7 +17,7 @@ use units::{Co2, uptake_co2};
 use wide::{Wide, of};
 
 // The parameter row, in thousandths.
-#[derive(Drop)]
+#[derive(Clone, Copy)]
 pub struct Parameters {
     pub n: u32,
     pub ch4: u32,
@@ -94,7 +94,7 @@ pub fn gases_of(c: Carbon, p: Parameters) -> Gases
 }
 
 // Worksheet 5-4.
-#[derive(Drop)]
+#[derive(Clone, Copy)]
 pub struct Abandoned {
     pub uptake: Carbon,
     pub co2: Co2,
@@ -109,7 +109,7 @@ pub fn work_abandoned(uptake: Carbon) -> Abandoned
 }
 
 // How many stock rows: a plain count, and no mass.
-#[derive(Drop)]
+#[derive(Clone, Copy)]
 pub struct StockRows(pub Wide);
 
 // The rows of scattered trees, as the judge counted them.
@@ -119,7 +119,7 @@ pub fn scattered_rows(c: Counts) -> StockRows
     StockRows(of(c.scattered as u64))
 }
 
-#[derive(Drop)]
+#[derive(Clone, Copy)]
 pub struct Figures {
     pub stocks: Stocks,
     pub conversion: Conversion,
@@ -134,7 +134,7 @@ pub struct Figures {
 }
 
 // The figures, or a refusal's number and place.
-#[derive(Drop)]
+#[derive(Clone, Copy)]
 pub enum Answer {
     Figures(Figures),
     Refused { number: u8, place: u32 },

@@ -1,0 +1,16 @@
+use Prim.Native.Nat.{◌+◌}
+use mathlib.Core.List.{[], ◌∷◌}
+use lib.ListN.{length}
+use Rattle.phrases.proofs.Bounds.{plain-short, plain-written}
+use native.Mathlib.Omega.{arith}
+use borrow.Author.Rules.{rules}
+use Rattle.phrases.proofs.put_two.Goals as goal
+
+pub put_lines-requires : goal.put_lines-requires
+put_lines-requires c =
+    (omega (arith, c.requires.0), omega (arith, c.requires, plain-short c.args.names.now (c.args.m ∷ c.args.n ∷ []) (search rules, (search rules, tt))))
+
+pub returns : goal.returns
+returns c =
+    let names = c.args.names.now in
+    plain-written names (c.args.m ∷ c.args.n ∷ []) (search rules, (search rules, tt)) (length names + 42) (omega (arith, c.requires.0)) c.put_lines.ensures

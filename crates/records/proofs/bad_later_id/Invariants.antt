@@ -1,0 +1,18 @@
+use Prim.Native.Nat.{◌+◌, ◌-◌, ◌*◌, ◌≤◌}
+use mathlib.Core.Path.{◌≡◌, ◌∙◌}
+use Rattle.form.specs.declared.Spot.TheVariants.{Nowhere}
+use Rattle.form.specs.First.{first}
+use Rattle.form.specs.Bytes.{number}
+use Rattle.form.specs.Block.{record_at}
+use Rattle.form.specs.Records.{filed, bad_id}
+use Rattle.records.proofs.bad_later_id.Given as goal
+
+abbrev pub invariant-loop-r : goal.invariant-loop-r
+invariant-loop-r l =
+    (1 ≤ l.r)
+    × (l.r ≤ 12)
+    × (first (λ i. bad_id (filed l.bytes) (12 * l.b + i)) l.r ≡ Nowhere)
+    × (l.last ≡ number 4 l.bytes (record_at l.b (l.r - 1)))
+
+abbrev pub decreases-loop-r : goal.decreases-loop-r
+decreases-loop-r l = l.used - l.r
