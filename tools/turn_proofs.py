@@ -274,7 +274,7 @@ class Function:
             pos = m.end()
         def one(m):
             head, rest = m[1], m[2]
-            if head not in env:
+            if head not in env or not rest and m.string[m.end():].startswith(" = "):
                 return m[0]
             fields = rest.split(".")[1:]
             at = env[head]
@@ -346,6 +346,7 @@ class Function:
             while rest and not re.match(r"(unfolding |" + re.escape(d["name"]) + r" )", rest):
                 more, _, rest = rest.partition("\n")
                 sig += "\n" + more
+            sig = re.sub(r"^((?:abbrev )?[^\s(]+) : ((?:tie|lts)\.\S+(?: invariant_loop\S* decreases_loop\S*)*) → ", r"\1 : (c : \2) → ", sig, count=1)
             m = re.search(r" : \((\S+) : (?:tie|lts)\.([^\s)]+)[^)]*\)(.*)$", sig, re.S)
             unfolds = []
             while rest.startswith("unfolding "):

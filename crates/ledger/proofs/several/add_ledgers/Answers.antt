@@ -5,10 +5,10 @@ pub returns : goal.returns
 unfolding plus
 returns c =
     λ i. record {
-      c = c.both.ensures i;
-      c = c.both_masses.ensures i;
-      c = c.both_masses-2.ensures i;
-      c = c.both_removed.ensures i;
+      e = c.both.ensures i;
+      k = c.both_masses.ensures i;
+      l = c.both_masses-2.ensures i;
+      o = c.both_removed.ensures i;
       onsite = c.both-2.ensures i;
       offsite = c.both-3.ensures i;
       decay = c.both-4.ensures i;
