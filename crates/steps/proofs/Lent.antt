@@ -34,8 +34,8 @@ module _ {M : Type 1} {𝓤 : Ura M} (𝓛 : Logic 𝓤) where
       qed 𝓛 (‵ ((ShrSlice ℓ κ u8).own_val x vs) ∷ ‵ (flft κ q) ∷ [])
       {P = H.⇛ (guard 𝓤 ((i : ℕ) → i < length x.now → byte_at x.now i < 256) (Lent ℓ κ q x vs))} (
       updating ! $ fsplit ! $ fsplit ! $ feq_l ! (λ e. fjoin ! $
-      use2 𝓛 (later (given (AllWt (f_int w8) x.now) (‵ (OwnH 𝓛 (f_int w8) κ q x.ref_ptr.0 x.ref_ptr.1 x.ghost_name x.now) ⊛ ‵ (flft κ q))))
-      (shs_known 𝓛 (f_int w8) κ q x.ref_ptr.0 x.ref_ptr.1 x.ghost_name x.now) $ await ! tt $ learn ! (λ a. split ! $ fsplit ! $
+      use2 𝓛 (later (given (AllWt (f_int w8) x.now) (‵ (OwnH 𝓛 (f_int w8) κ q x.ref_ptr.0 x.ref_ptr.1 x.now) ⊛ ‵ (flft κ q))))
+      (shs_known 𝓛 (f_int w8) κ q x.ref_ptr.0 x.ref_ptr.1 x.now) $ await ! tt $ learn ! (λ a. split ! $ fsplit ! $
       feq_i ! (List Val) vs (shr_slice_vals x) e $ fjoin ! $ fjoin ! $ at_once ! $ check ! (below x.now a) $ done !)))
 
   -- what follows from what is known
