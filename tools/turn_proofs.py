@@ -148,6 +148,10 @@ class Function:
         if not fields:
             return cur, None
         f = norm(fields[0])
+        if not any(norm(p[2][0]) == f for p in n["places"]):
+            for p in n["places"]:
+                if p[2][0] and norm(p[2][0]).lower() == f.lower():
+                    f = norm(p[2][0])
         for end in ("_lem", "_here"):
             if f.endswith(end):
                 f = f[:-len(end)]
@@ -266,7 +270,7 @@ class Function:
                     text = text[:m.start()] + text[m.end():]
                     pos = m.start()
                     continue
-                if new and self.has_clauses(new):
+                if new and (self.has_clauses(new) or "given" in before + fields):
                     env[m[1]] = (at, before + fields)
                     text = text[:m.start()] + text[m.end():]
                     pos = m.start()
@@ -321,7 +325,7 @@ class Function:
             flat = lambda s: " ".join(s.split())
             for u in h["unfolds"]:
                 self.unfolds.append(u)
-            return f"(let {name}' : {flat(typ)} = {flat(body)} in {name}')"
+            return f"(let {name}' : {flat(typ)} = {flat(body)} in {name}'{' _' * h['hidden']})"
         if helpers:
             names = "|".join(sorted(map(re.escape, helpers), key=len, reverse=True))
             pat = re.compile(r"\(?(?<![^\s(){};,\[\]])(" + names + r") @([^@]*)@\)?")
@@ -359,13 +363,21 @@ class Function:
             result = m[3].strip()
             if result.startswith("→"):
                 result = result[1:].strip()
-            result = result.replace("{", "(").replace("}", ")") if re.match(r"\{", result) else result
+            hidden, more = [], result
+            while True:
+                g = re.match(r"\{([^:{}]*) : [^{}]*\} →\s*", more)
+                if not g:
+                    break
+                hidden += g[1].split()
+                more = more[g.end():]
+            if hidden:
+                result = re.sub(r"\{([^:{}]* : [^{}]*)\} →", r"(\1) →", result[: len(result) - len(more)]) + more
             body = b[3]
-            if b[2].split():
-                body = " λ " + b[2].strip().replace("{", "").replace("}", "") + "." + body
+            if hidden or b[2].split():
+                body = " λ " + " ".join(hidden + b[2].split()) + "." + body
             if b[1] != m[1]:
                 result = re.sub(r"(?<![^\s(){};,])" + re.escape(m[1]) + r"(?=[.\s)])", b[1], result)
-            out[d["name"]] = {"params": [b[1]], "place": m[2], "result": result, "body": body, "unfolds": unfolds}
+            out[d["name"]] = {"params": [b[1]], "place": m[2], "result": result, "body": body, "unfolds": unfolds, "hidden": len(hidden)}
         return out
 
     def answer(self, d):

@@ -490,9 +490,75 @@ in_turn_lem (e ∷ es) p =
     (due_said e (ap (λ (l : List (Ruling × Complete)). get_or l 0 (wanted e)) p))
     (in_turn_lem es (ap (λ (l : List (Ruling × Complete)). drop 1 l) p))
 
-pub all_worked : map works_out entries ≡ map wanted entries
+-- two parts of the table side by side
+joined : (es ds : List Entry) → map works_out es ≡ map wanted es → map works_out ds ≡ map wanted ds → map works_out (es ++ ds) ≡ map wanted (es ++ ds)
+joined [] ds p q = q
+joined (e ∷ es) ds p q =
+    ap₂ (λ (x : Ruling × Complete) (xs : List (Ruling × Complete)). x ∷ xs)
+    (ap (λ (l : List (Ruling × Complete)). get_or l 0 (wanted e)) p)
+    (joined es ds (ap (λ (l : List (Ruling × Complete)). drop 1 l) p) q)
+
+worked01 : map works_out table01 ≡ map wanted table01
 unfolding to_bits of_int mul add onsite_double offsite_double decay_double add_rows largest largest_fires blocks_from computed cut filed_list behind filed_from little_endian record_from in_turn head_of sealed weighed record_on used_from body_of block_of bytes_of rows_below row_from number even_of settled sum_of scattered_part stock_part harvest_part cleared_part onsite_part offsite_part decay_part counted_difference thinner_part stocks_of conversion_of gases_of abandoned_of abandoned_part savannas_of rows_from flatten total bad_list bad_lengths not_allowed list_rules carbon_share carbon_part value words_of totals_of entered released_of burned_by soil_carbon stock_now stock_then all_stocks soils_of lost_biomass oxidised_onsite_part charcoal_onsite_part oxidised_offsite_part charcoal_offsite_part unburned_part matter_of largest_crops residue_carbon crops_of
-all_worked = refl
+worked01 = refl
+
+worked_1 : map works_out table_1 ≡ map wanted table_1
+unfolding to_bits of_int mul add onsite_double offsite_double decay_double add_rows largest largest_fires blocks_from computed cut filed_list behind filed_from little_endian record_from in_turn head_of sealed weighed record_on used_from body_of block_of bytes_of rows_below row_from number even_of settled sum_of scattered_part stock_part harvest_part cleared_part onsite_part offsite_part decay_part counted_difference thinner_part stocks_of conversion_of gases_of abandoned_of abandoned_part savannas_of rows_from flatten total bad_list bad_lengths not_allowed list_rules carbon_share carbon_part value words_of totals_of entered released_of burned_by soil_carbon stock_now stock_then all_stocks soils_of lost_biomass oxidised_onsite_part charcoal_onsite_part oxidised_offsite_part charcoal_offsite_part unburned_part matter_of largest_crops residue_carbon crops_of
+worked_1 = refl
+
+worked_2 : map works_out table_2 ≡ map wanted table_2
+unfolding to_bits of_int mul add onsite_double offsite_double decay_double add_rows largest largest_fires blocks_from computed cut filed_list behind filed_from little_endian record_from in_turn head_of sealed weighed record_on used_from body_of block_of bytes_of rows_below row_from number even_of settled sum_of scattered_part stock_part harvest_part cleared_part onsite_part offsite_part decay_part counted_difference thinner_part stocks_of conversion_of gases_of abandoned_of abandoned_part savannas_of rows_from flatten total bad_list bad_lengths not_allowed list_rules carbon_share carbon_part value words_of totals_of entered released_of burned_by soil_carbon stock_now stock_then all_stocks soils_of lost_biomass oxidised_onsite_part charcoal_onsite_part oxidised_offsite_part charcoal_offsite_part unburned_part matter_of largest_crops residue_carbon crops_of
+worked_2 = refl
+
+worked_3 : map works_out table_3 ≡ map wanted table_3
+unfolding to_bits of_int mul add onsite_double offsite_double decay_double add_rows largest largest_fires blocks_from computed cut filed_list behind filed_from little_endian record_from in_turn head_of sealed weighed record_on used_from body_of block_of bytes_of rows_below row_from number even_of settled sum_of scattered_part stock_part harvest_part cleared_part onsite_part offsite_part decay_part counted_difference thinner_part stocks_of conversion_of gases_of abandoned_of abandoned_part savannas_of rows_from flatten total bad_list bad_lengths not_allowed list_rules carbon_share carbon_part value words_of totals_of entered released_of burned_by soil_carbon stock_now stock_then all_stocks soils_of lost_biomass oxidised_onsite_part charcoal_onsite_part oxidised_offsite_part charcoal_offsite_part unburned_part matter_of largest_crops residue_carbon crops_of
+worked_3 = refl
+
+worked_5 : map works_out table_5 ≡ map wanted table_5
+unfolding to_bits of_int mul add onsite_double offsite_double decay_double add_rows largest largest_fires blocks_from computed cut filed_list behind filed_from little_endian record_from in_turn head_of sealed weighed record_on used_from body_of block_of bytes_of rows_below row_from number even_of settled sum_of scattered_part stock_part harvest_part cleared_part onsite_part offsite_part decay_part counted_difference thinner_part stocks_of conversion_of gases_of abandoned_of abandoned_part savannas_of rows_from flatten total bad_list bad_lengths not_allowed list_rules carbon_share carbon_part value words_of totals_of entered released_of burned_by soil_carbon stock_now stock_then all_stocks soils_of lost_biomass oxidised_onsite_part charcoal_onsite_part oxidised_offsite_part charcoal_offsite_part unburned_part matter_of largest_crops residue_carbon crops_of
+worked_5 = refl
+
+worked_8 : map works_out table_8 ≡ map wanted table_8
+unfolding to_bits of_int mul add onsite_double offsite_double decay_double add_rows largest largest_fires blocks_from computed cut filed_list behind filed_from little_endian record_from in_turn head_of sealed weighed record_on used_from body_of block_of bytes_of rows_below row_from number even_of settled sum_of scattered_part stock_part harvest_part cleared_part onsite_part offsite_part decay_part counted_difference thinner_part stocks_of conversion_of gases_of abandoned_of abandoned_part savannas_of rows_from flatten total bad_list bad_lengths not_allowed list_rules carbon_share carbon_part value words_of totals_of entered released_of burned_by soil_carbon stock_now stock_then all_stocks soils_of lost_biomass oxidised_onsite_part charcoal_onsite_part oxidised_offsite_part charcoal_offsite_part unburned_part matter_of largest_crops residue_carbon crops_of
+worked_8 = refl
+
+worked_11 : map works_out table_11 ≡ map wanted table_11
+unfolding to_bits of_int mul add onsite_double offsite_double decay_double add_rows largest largest_fires blocks_from computed cut filed_list behind filed_from little_endian record_from in_turn head_of sealed weighed record_on used_from body_of block_of bytes_of rows_below row_from number even_of settled sum_of scattered_part stock_part harvest_part cleared_part onsite_part offsite_part decay_part counted_difference thinner_part stocks_of conversion_of gases_of abandoned_of abandoned_part savannas_of rows_from flatten total bad_list bad_lengths not_allowed list_rules carbon_share carbon_part value words_of totals_of entered released_of burned_by soil_carbon stock_now stock_then all_stocks soils_of lost_biomass oxidised_onsite_part charcoal_onsite_part oxidised_offsite_part charcoal_offsite_part unburned_part matter_of largest_crops residue_carbon crops_of
+worked_11 = refl
+
+worked_12 : map works_out table_12 ≡ map wanted table_12
+unfolding to_bits of_int mul add onsite_double offsite_double decay_double add_rows largest largest_fires blocks_from computed cut filed_list behind filed_from little_endian record_from in_turn head_of sealed weighed record_on used_from body_of block_of bytes_of rows_below row_from number even_of settled sum_of scattered_part stock_part harvest_part cleared_part onsite_part offsite_part decay_part counted_difference thinner_part stocks_of conversion_of gases_of abandoned_of abandoned_part savannas_of rows_from flatten total bad_list bad_lengths not_allowed list_rules carbon_share carbon_part value words_of totals_of entered released_of burned_by soil_carbon stock_now stock_then all_stocks soils_of lost_biomass oxidised_onsite_part charcoal_onsite_part oxidised_offsite_part charcoal_offsite_part unburned_part matter_of largest_crops residue_carbon crops_of
+worked_12 = refl
+
+worked_13 : map works_out table_13 ≡ map wanted table_13
+unfolding to_bits of_int mul add onsite_double offsite_double decay_double add_rows largest largest_fires blocks_from computed cut filed_list behind filed_from little_endian record_from in_turn head_of sealed weighed record_on used_from body_of block_of bytes_of rows_below row_from number even_of settled sum_of scattered_part stock_part harvest_part cleared_part onsite_part offsite_part decay_part counted_difference thinner_part stocks_of conversion_of gases_of abandoned_of abandoned_part savannas_of rows_from flatten total bad_list bad_lengths not_allowed list_rules carbon_share carbon_part value words_of totals_of entered released_of burned_by soil_carbon stock_now stock_then all_stocks soils_of lost_biomass oxidised_onsite_part charcoal_onsite_part oxidised_offsite_part charcoal_offsite_part unburned_part matter_of largest_crops residue_carbon crops_of
+worked_13 = refl
+
+worked_14 : map works_out table_14 ≡ map wanted table_14
+unfolding to_bits of_int mul add onsite_double offsite_double decay_double add_rows largest largest_fires blocks_from computed cut filed_list behind filed_from little_endian record_from in_turn head_of sealed weighed record_on used_from body_of block_of bytes_of rows_below row_from number even_of settled sum_of scattered_part stock_part harvest_part cleared_part onsite_part offsite_part decay_part counted_difference thinner_part stocks_of conversion_of gases_of abandoned_of abandoned_part savannas_of rows_from flatten total bad_list bad_lengths not_allowed list_rules carbon_share carbon_part value words_of totals_of entered released_of burned_by soil_carbon stock_now stock_then all_stocks soils_of lost_biomass oxidised_onsite_part charcoal_onsite_part oxidised_offsite_part charcoal_offsite_part unburned_part matter_of largest_crops residue_carbon crops_of
+worked_14 = refl
+
+worked_tonnes : map works_out table_tonnes ≡ map wanted table_tonnes
+unfolding to_bits of_int mul add onsite_double offsite_double decay_double add_rows largest largest_fires blocks_from computed cut filed_list behind filed_from little_endian record_from in_turn head_of sealed weighed record_on used_from body_of block_of bytes_of rows_below row_from number even_of settled sum_of scattered_part stock_part harvest_part cleared_part onsite_part offsite_part decay_part counted_difference thinner_part stocks_of conversion_of gases_of abandoned_of abandoned_part savannas_of rows_from flatten total bad_list bad_lengths not_allowed list_rules carbon_share carbon_part value words_of totals_of entered released_of burned_by soil_carbon stock_now stock_then all_stocks soils_of lost_biomass oxidised_onsite_part charcoal_onsite_part oxidised_offsite_part charcoal_offsite_part unburned_part matter_of largest_crops residue_carbon crops_of
+worked_tonnes = refl
+
+worked_44 : map works_out table_44 ≡ map wanted table_44
+unfolding to_bits of_int mul add onsite_double offsite_double decay_double add_rows largest largest_fires blocks_from computed cut filed_list behind filed_from little_endian record_from in_turn head_of sealed weighed record_on used_from body_of block_of bytes_of rows_below row_from number even_of settled sum_of scattered_part stock_part harvest_part cleared_part onsite_part offsite_part decay_part counted_difference thinner_part stocks_of conversion_of gases_of abandoned_of abandoned_part savannas_of rows_from flatten total bad_list bad_lengths not_allowed list_rules carbon_share carbon_part value words_of totals_of entered released_of burned_by soil_carbon stock_now stock_then all_stocks soils_of lost_biomass oxidised_onsite_part charcoal_onsite_part oxidised_offsite_part charcoal_offsite_part unburned_part matter_of largest_crops residue_carbon crops_of
+worked_44 = refl
+
+pub all_worked : map works_out entries ≡ map wanted entries
+all_worked =
+    joined table01 (table_1 ++ (table_2 ++ (table_3 ++ (table_5 ++ (table_8 ++ (table_11 ++ (table_12 ++ (table_13 ++ (table_14 ++ (table_tonnes ++ table_44)))))))))) worked01
+    (joined table_1 (table_2 ++ (table_3 ++ (table_5 ++ (table_8 ++ (table_11 ++ (table_12 ++ (table_13 ++ (table_14 ++ (table_tonnes ++ table_44))))))))) worked_1
+    (joined table_2 (table_3 ++ (table_5 ++ (table_8 ++ (table_11 ++ (table_12 ++ (table_13 ++ (table_14 ++ (table_tonnes ++ table_44)))))))) worked_2
+    (joined table_3 (table_5 ++ (table_8 ++ (table_11 ++ (table_12 ++ (table_13 ++ (table_14 ++ (table_tonnes ++ table_44))))))) worked_3
+    (joined table_5 (table_8 ++ (table_11 ++ (table_12 ++ (table_13 ++ (table_14 ++ (table_tonnes ++ table_44)))))) worked_5
+    (joined table_8 (table_11 ++ (table_12 ++ (table_13 ++ (table_14 ++ (table_tonnes ++ table_44))))) worked_8
+    (joined table_11 (table_12 ++ (table_13 ++ (table_14 ++ (table_tonnes ++ table_44)))) worked_11
+    (joined table_12 (table_13 ++ (table_14 ++ (table_tonnes ++ table_44))) worked_12
+    (joined table_13 (table_14 ++ (table_tonnes ++ table_44)) worked_13
+    (joined table_14 (table_tonnes ++ table_44) worked_14
+    (joined table_tonnes table_44 worked_tonnes worked_44))))))))))
 
 -- every return of the table has the answer beside it, as the checker computes them
 pub all_answered : map (λ (c : Case). complete_of c.bytes) table ≡ map (λ (c : Case). c.answer) table
