@@ -1,5 +1,5 @@
 // The door for programs in C: each function hands on to the crate that knows its subject, and makes a number of the ruling.
-// A slice is a pointer and then a length.
+// The crate door_c exports each to C, under the same name and with the same contract.
 #![tactic(auto)]
 
 ghost use Rattle.std.specs.Prelude.{◌≤◌, ◌≡◌, length};
@@ -59,8 +59,7 @@ fn code_of_text(p: Packing) -> u32
 }
 
 // 0 and the edition and the counts at the front of the room; or the refusal, and the room as it was.
-#[unsafe(no_mangle)]
-pub extern "C" fn niloferq_judge(bytes: &[u8], counts: &mut [u32]) -> u32
+pub fn niloferq_judge(bytes: &[u8], counts: &mut [u32]) -> u32
     ensures value { result ≡ code_of (judge_call bytes.now counts.old) }
     ensures counts_after { counts.new ≡ counts_judged bytes.now counts.old }
 {
@@ -68,8 +67,7 @@ pub extern "C" fn niloferq_judge(bytes: &[u8], counts: &mut [u32]) -> u32
 }
 
 // 0 and the subtotal's bits at the front of the room; or the refusal, and the room as it was.
-#[unsafe(no_mangle)]
-pub extern "C" fn niloferq_subtotal(bytes: &[u8], code: u32, room: &mut [u8]) -> u32
+pub fn niloferq_subtotal(bytes: &[u8], code: u32, room: &mut [u8]) -> u32
     ensures value { result ≡ code_of (subtotal_call bytes.now code room.old) }
     ensures room_after { room.new ≡ bits_told bytes.now code room.old }
 {
@@ -77,8 +75,7 @@ pub extern "C" fn niloferq_subtotal(bytes: &[u8], code: u32, room: &mut [u8]) ->
 }
 
 // 0 and the row that weighs most in a subtotal at the front of the room; or the refusal, and the room as it was.
-#[unsafe(no_mangle)]
-pub extern "C" fn niloferq_heaviest(bytes: &[u8], code: u32, room: &mut [u64]) -> u32
+pub fn niloferq_heaviest(bytes: &[u8], code: u32, room: &mut [u64]) -> u32
     ensures value { result ≡ code_of (heaviest_call bytes.now code room.old) }
     ensures room_after { room.new ≡ heaviest_told bytes.now code room.old }
 {
@@ -86,8 +83,7 @@ pub extern "C" fn niloferq_heaviest(bytes: &[u8], code: u32, room: &mut [u64]) -
 }
 
 // 0 and the figures, three numbers each, at the front of the room, in the order of the lines that `sheets` prints; or the refusal, and the room as it was.
-#[unsafe(no_mangle)]
-pub extern "C" fn niloferq_figures(bytes: &[u8], room: &mut [u64]) -> u32
+pub fn niloferq_figures(bytes: &[u8], room: &mut [u64]) -> u32
     ensures value { result ≡ code_of (figures_answer bytes.now room.old) }
     ensures room_after { room.new ≡ figures_told bytes.now room.old }
 {
@@ -95,8 +91,7 @@ pub extern "C" fn niloferq_figures(bytes: &[u8], room: &mut [u64]) -> u32
 }
 
 // 0 and the default row's numbers at the front of the room; or the refusal, and the room as it was.
-#[unsafe(no_mangle)]
-pub extern "C" fn niloferq_defaults(room: &mut [u32]) -> u32
+pub fn niloferq_defaults(room: &mut [u32]) -> u32
     ensures value { result ≡ code_of (defaults_call room.old) }
     ensures room_after { room.new ≡ defaults_after room.old (defaults_call room.old) }
 {
@@ -104,8 +99,7 @@ pub extern "C" fn niloferq_defaults(room: &mut [u32]) -> u32
 }
 
 // 0, the rows, kind after kind, at the front of their room and the counts at the front of theirs; or the refusal, and both rooms as they were.
-#[unsafe(no_mangle)]
-pub extern "C" fn niloferq_read(bytes: &[u8], rows: &mut [u32], counts: &mut [u32]) -> u32
+pub fn niloferq_read(bytes: &[u8], rows: &mut [u32], counts: &mut [u32]) -> u32
     ensures value { result ≡ code_of (read_call bytes.now rows.old counts.old) }
     ensures rows_after { rows.new ≡ rows_read bytes.now rows.old counts.old }
     ensures counts_after { counts.new ≡ counts_read bytes.now rows.old counts.old }
@@ -114,8 +108,7 @@ pub extern "C" fn niloferq_read(bytes: &[u8], rows: &mut [u32], counts: &mut [u3
 }
 
 // 0, the blocks at the front of the room and their number of bytes as the first size; or the refusal, and both rooms as they were.
-#[unsafe(no_mangle)]
-pub extern "C" fn niloferq_write(
+pub fn niloferq_write(
     edition: u32,
     rows: &[u32],
     lengths: &[u32],
@@ -130,8 +123,7 @@ pub extern "C" fn niloferq_write(
 }
 
 // 0 and table 5-2's entry at the front of the room; or 1 or 2 for a country or a zone off the table, or the refusal of the room, and the room as it was.
-#[unsafe(no_mangle)]
-pub extern "C" fn niloferq_table52(country: u32, zone: u32, room: &mut [i32]) -> u32
+pub fn niloferq_table52(country: u32, zone: u32, room: &mut [i32]) -> u32
     ensures value { result ≡ table_code (table_call country zone room.old) }
     ensures room_after { room.new ≡ table_after country zone room.old }
 {
@@ -144,8 +136,7 @@ pub extern "C" fn niloferq_table52(country: u32, zone: u32, room: &mut [i32]) ->
 }
 
 // The text that `sheets` prints at the front of the room, and its length; or 0, and the room as it was, where it is too short.
-#[unsafe(no_mangle)]
-pub extern "C" fn niloferq_lines(bytes: &[u8], room: &mut [u8]) -> usize
+pub fn niloferq_lines(bytes: &[u8], room: &mut [u8]) -> usize
     ensures value { result ≡ size_of (put_of (printed bytes.now) room.old) }
     ensures room_after { room.new ≡ lines_after bytes.now room.old }
     ensures bytes_len_bound { length (printed bytes.now) ≤ lines_room }
@@ -154,8 +145,7 @@ pub extern "C" fn niloferq_lines(bytes: &[u8], room: &mut [u8]) -> usize
 }
 
 // The text that `explain` prints at the front of the room, and its length; or 0, and the room as it was, where it is too short.
-#[unsafe(no_mangle)]
-pub extern "C" fn niloferq_explain(bytes: &[u8], room: &mut [u8]) -> usize
+pub fn niloferq_explain(bytes: &[u8], room: &mut [u8]) -> usize
     ensures value { result ≡ size_of (put_of (explained bytes.now) room.old) }
     ensures room_after { room.new ≡ explain_after bytes.now room.old }
     ensures bytes_len_bound { length (explained bytes.now) ≤ explain_room }
@@ -164,8 +154,7 @@ pub extern "C" fn niloferq_explain(bytes: &[u8], room: &mut [u8]) -> usize
 }
 
 // The text that `nation` prints of a file of returns at the front of the room, and its length; or 0, and the room as it was, where it is too short.
-#[unsafe(no_mangle)]
-pub extern "C" fn niloferq_nation(bytes: &[u8], room: &mut [u8]) -> usize
+pub fn niloferq_nation(bytes: &[u8], room: &mut [u8]) -> usize
     ensures value { result ≡ size_of (put_of (printed_nation bytes.now) room.old) }
     ensures room_after { room.new ≡ nation_after bytes.now room.old }
     ensures bytes_len_bound { length (printed_nation bytes.now) ≤ nation_room }
@@ -174,8 +163,7 @@ pub extern "C" fn niloferq_nation(bytes: &[u8], room: &mut [u8]) -> usize
 }
 
 // 0, the return of a text of rows at the front of the room and its number of bytes as the first size; or the text's fault or the refusal, and both rooms as they were.
-#[unsafe(no_mangle)]
-pub extern "C" fn niloferq_pack(text: &[u8], room: &mut [u8], size: &mut [u32]) -> u32
+pub fn niloferq_pack(text: &[u8], room: &mut [u8], size: &mut [u32]) -> u32
     ensures value { result ≡ pack_code (pack_call text.now room.old size.old) }
     ensures room_after { room.new ≡ bytes_packed text.now room.old size.old }
     ensures size_after { size.new ≡ size_packed text.now room.old size.old }
@@ -184,8 +172,7 @@ pub extern "C" fn niloferq_pack(text: &[u8], room: &mut [u8], size: &mut [u32]) 
 }
 
 // Why a text of rows can't be packed at the front of the room, and the lines' length; or 0, and the room as it was, where it is too short.
-#[unsafe(no_mangle)]
-pub extern "C" fn niloferq_pack_why(text: &[u8], room: &mut [u8]) -> usize
+pub fn niloferq_pack_why(text: &[u8], room: &mut [u8]) -> usize
     ensures value { result ≡ size_of (put_of (pack_why text.now) room.old) }
     ensures room_after { room.new ≡ why_after text.now room.old }
     ensures text_len_bound { length (pack_why text.now) ≤ why_room }
@@ -194,8 +181,7 @@ pub extern "C" fn niloferq_pack_why(text: &[u8], room: &mut [u8]) -> usize
 }
 
 // 0, the rows of a return as text at the front of the room and its number of bytes as the first size; or the refusal, and both rooms as they were.
-#[unsafe(no_mangle)]
-pub extern "C" fn niloferq_unpack(bytes: &[u8], room: &mut [u8], size: &mut [u32]) -> u32
+pub fn niloferq_unpack(bytes: &[u8], room: &mut [u8], size: &mut [u32]) -> u32
     ensures value { result ≡ code_of (unpack_call bytes.now room.old size.old) }
     ensures room_after { room.new ≡ text_unpacked bytes.now room.old size.old }
     ensures size_after { size.new ≡ size_unpacked bytes.now room.old size.old }
