@@ -600,7 +600,7 @@ def main():
                     if not got:
                         continue
                     new, text, body = got
-                    if (goals is None or new in goals) and body not in ("search rules", "omega arith"):
+                    if (goals is None or new in goals) and (body not in ("search rules", "omega arith") or "\nunfolding " in text):
                         parts.append("\n".join(d["comment"] + [text]))
                         have.add(new)
             lemmas = f.lemmas()

@@ -24,12 +24,18 @@ use Rattle.steps.proofs.Clauses.{then, outer, paired, paired_and, followed_and}
 use Rattle.contracts.specs.Contract.{Says, says}
 use Rattle.contracts.specs.Answers.{with_room, sized}
 use Rattle.contracts.specs.Rooms.{done_in}
-use Rattle.packing.proofs.pack as pack
-use Rattle.unpacked.proofs.unpack as unpack
-use Rattle.objections.proofs.say_why as why
-use Rattle.door.proofs.niloferq_pack as c-pack
-use Rattle.door.proofs.niloferq_pack_why as c-why
-use Rattle.door.proofs.niloferq_unpack as c-unpack
+use Rattle.packing.specs.contracts.pack as pack
+use Rattle.packing.proofs.pack as proved-pack
+use Rattle.unpacked.specs.contracts.unpack as unpack
+use Rattle.unpacked.proofs.unpack as proved-unpack
+use Rattle.objections.specs.contracts.say_why as why
+use Rattle.objections.proofs.say_why as proved-why
+use Rattle.door.specs.contracts.niloferq_pack as c-pack
+use Rattle.door.proofs.niloferq_pack as proved-c-pack
+use Rattle.door.specs.contracts.niloferq_pack_why as c-why
+use Rattle.door.proofs.niloferq_pack_why as proved-c-why
+use Rattle.door.specs.contracts.niloferq_unpack as c-unpack
+use Rattle.door.proofs.niloferq_unpack as proved-c-unpack
 
 module _ {M : Type 1} {𝓤 : Ura M} (𝓛 : Logic 𝓤) (mem : Memory → SProp 𝓤) (run : Routine → Fun 𝓤) where
   -- the answer, the room and the size
@@ -69,20 +75,20 @@ module _ {M : Type 1} {𝓤 : Ura M} (𝓛 : Logic 𝓤) (mem : Memory → SProp
   why-fits κs a g r e = then 𝓤 _ _ (outer 𝓤 _ _ _) (λ p h. p.0 ∙ done_in (pack_why a.0.now) a.1.0.now why_room p.1 h)
 
 -- ---- each meets its contract
-pub pack_meets : {M : Type 1} → pack.Statement.statement M
-pack_meets = pack.Met.met
+pub pack_meets : {M : Type 1} → proved-pack.Statement.statement M
+pack_meets = proved-pack.Met.met
 
-pub unpack_meets : {M : Type 1} → unpack.Statement.statement M
-unpack_meets = unpack.Met.met
+pub unpack_meets : {M : Type 1} → proved-unpack.Statement.statement M
+unpack_meets = proved-unpack.Met.met
 
-pub why_meets : {M : Type 1} → why.Statement.statement M
-why_meets = why.Met.met
+pub why_meets : {M : Type 1} → proved-why.Statement.statement M
+why_meets = proved-why.Met.met
 
-pub c_pack_meets : {M : Type 1} → c-pack.Statement.statement M
-c_pack_meets = c-pack.Met.met
+pub c_pack_meets : {M : Type 1} → proved-c-pack.Statement.statement M
+c_pack_meets = proved-c-pack.Met.met
 
-pub c_why_meets : {M : Type 1} → c-why.Statement.statement M
-c_why_meets = c-why.Met.met
+pub c_why_meets : {M : Type 1} → proved-c-why.Statement.statement M
+c_why_meets = proved-c-why.Met.met
 
-pub c_unpack_meets : {M : Type 1} → c-unpack.Statement.statement M
-c_unpack_meets = c-unpack.Met.met
+pub c_unpack_meets : {M : Type 1} → proved-c-unpack.Statement.statement M
+c_unpack_meets = proved-c-unpack.Met.met

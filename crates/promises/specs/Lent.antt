@@ -6,7 +6,6 @@ use mir.Syntax.{Lifetime}
 use mir.Val.{Val}
 use base.Logic.{ent, guard}
 use base.Fml.{Lft, Share}
-use prog.Model.{Model}
 use types.Logic.{Logic}
 use Rattle.std.specs.Borrow.{Bor}
 use Rattle.form.specs.declared.Counts.{Counts}
@@ -30,7 +29,7 @@ pub same_again : (s : List ℕ) → Bytes s → SameAgain s
 same_again s small = record { rattle = read_writes_back s small; from_C = c_read_writes_back s small }
 
 -- in the memory that the functions are proved in: `Lent` is what a `&[u8]` owns, here the reference x for the lifetime κ, with a share of that lifetime
-module _ {M : Type 1} {𝓤 : Ura M} (𝓛 : Logic 𝓤) (𝓜 : Model 𝓤 𝓛.H)
+module _ {M : Type 1} {𝓤 : Ura M} (𝓛 : Logic 𝓤)
     (ℓ : Lifetime) (κ : Lft) (q : Share) (x : Bor (List ℕ)) (vs : List Val) where
   open 𝓛 use {H}
 

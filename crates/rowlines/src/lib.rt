@@ -1,3 +1,2 @@
 // The line that is named of a row that can't be written: theorems only.
 #![tactic(auto)]
-

@@ -1,3 +1,2 @@
 // Rows as text and back: theorems only.
 #![tactic(auto)]
-

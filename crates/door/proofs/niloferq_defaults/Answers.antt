@@ -1,0 +1,9 @@
+use mathlib.Core.Path.{sym, subst, ◌∙◌}
+use Rattle.door.specs.Door.{InPlace}
+use Rattle.door.proofs.Codes.{in_place, defaults-bounded}
+use Rattle.door.proofs.niloferq_defaults.Goals as goal
+
+pub code_of-requires : goal.code_of-requires
+code_of-requires c =
+    let a = c.args in
+    subst InPlace (sym c.tell.ensures.value) (in_place _ (defaults-bounded a.room.now))
