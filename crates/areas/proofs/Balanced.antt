@@ -2,23 +2,22 @@
 --     even_told        where a soil type is not uneven, its two sums are the same; told_even, the other way
 --     place_told       where 13 is broken, at no lower place: it is the first row of the lowest type whose sums differ; told_place, the other way
 --     kept-even        where no place breaks 13, the sums of every type are the same; even-kept, the other way
-use Prim.Native.Nat.{ℕ, zero, suc, ◌+◌, ◌<◌, ◌≤◌}
-use mathlib.Core.Path.{◌≡◌, refl, sym, ap, subst, ◌∙◌}
-use mathlib.Core.Bool.{Bool, true, false, not, ◌&&◌, and-false, true≢false, false≢true}
+use Prim.Native.Nat.{ℕ, zero, suc, ◌<◌}
+use mathlib.Core.Path.{◌≡◌, refl, sym, ap, ◌∙◌}
+use mathlib.Core.Bool.{Bool, true, false, ◌&&◌, and-false, true≢false}
 use mathlib.Core.List.{List, [], ◌∷◌}
 use native.Mathlib.Decide.{dec_lt, ℕ_discrete}
 use native.Mathlib.Omega.{arith}
-use borrow.Author.Tests.{lt-ltb, ltb-true, eq-eqb, ne_eqb, eqb-true, eqb-false, not-true, not-false}
+use borrow.Author.Tests.{lt-ltb, ltb-true, eq-eqb, ne_eqb, eqb-true, not-true}
 use lib.Dec.{ltb, eqb}
-use lib.ListN.{length, get_or}
+use lib.ListN.{length}
 use Rattle.form.specs.First.{first, any}
 use Rattle.form.specs.Ruling.{rule}
 use Rattle.form.specs.Records.{Filed, filed_rows}
 use Rattle.form.specs.Sums.{sum_of, soil_type, area_now, area_then, area_in, sum_now, sum_then, uneven, type_of, uneven_below, lowest_uneven, soil_uneven}
-use Rattle.form.specs.declared.Spot.{Spot}
-use Rattle.form.specs.declared.Spot.TheVariants.{At, Nowhere}
+use Rattle.form.specs.declared.Spot.TheVariants.{At}
 use Rattle.form.proofs.Tests.{and-true, same_of}
-use Rattle.form.proofs.Search.{first_at, first_none, first_is, any_none, any_each, any_found}
+use Rattle.form.proofs.Search.{first_is, any_none, any_each, any_found}
 use Rattle.form.proofs.Order.{BrokenAt}
 use Rattle.filing.proofs.Choice.{unless}
 use Rattle.areas.specs.Place.{FirstOfLowest}

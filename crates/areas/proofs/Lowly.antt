@@ -1,18 +1,15 @@
 -- The search for the first row of the lowest uneven soil type, over plain numbers. Assumes nothing.
 --     Lowly            what is known after the first j rows: nothing lower is uneven, and this is the first row of its type
 --     lowly_none, lowly-more, lowly-end    before the first row, one row more, and what was found in the end
-use Prim.Native.Nat.{ℕ, zero, suc, ◌+◌, ◌^◌, ◌≤◌, ◌<◌}
-use mathlib.Core.Path.{◌≡◌, refl, sym, ap, subst, ◌∙◌}
-use mathlib.Core.Bool.{Bool, true, false, cond, not, ◌&&◌, and-false, true≢false}
+use Prim.Native.Nat.{ℕ, ◌+◌, ◌^◌, ◌≤◌, ◌<◌}
+use mathlib.Core.Path.{◌≡◌, refl, sym, ap, ◌∙◌}
+use mathlib.Core.Bool.{Bool, true, false, not, ◌&&◌, and-false, true≢false}
 use native.Mathlib.Decide.{dec_lt, ℕ_discrete}
-use native.Mathlib.Numerals.{add-one}
 use native.Mathlib.Omega.{arith}
-use borrow.Author.Tests.{lt-ltb, le-ltb, ltb-true}
+use borrow.Author.Tests.{lt-ltb, le-ltb}
 use lib.Dec.{ltb}
 use Rattle.form.specs.First.{first, any}
-use Rattle.form.specs.declared.Spot.{Spot}
 use Rattle.form.specs.declared.Spot.TheVariants.{At, Nowhere}
-use Rattle.form.proofs.Tests.{and-true}
 use Rattle.form.proofs.Search.{first_is, first_is_none, any_none, any_found}
 
 -- the types of n rows, and which types are uneven

@@ -1,7 +1,7 @@
 -- Where the soil rows stand, and rule 13 there. Assumes nothing.
 --     line-ruling    the rule over all places, by the rows that stand one after the other
 --     unwritten_line    so do the rows of a list among those of all kinds; part_few, the first lengths are few too
-use Prim.Native.Nat.{ℕ, zero, suc, ◌+◌, ◌-◌, ◌*◌, ◌/◌, ◌≤◌, ◌<◌}
+use Prim.Native.Nat.{ℕ, zero, suc, ◌+◌, ◌-◌, ◌*◌, ◌≤◌, ◌<◌}
 use mathlib.Core.Path.{◌≡◌, refl, sym, ap, subst, ◌∙◌}
 use mathlib.Core.Bool.{Bool, true, false, cond, ◌&&◌}
 use mathlib.Core.List.{List, [], ◌∷◌}
@@ -28,7 +28,7 @@ use Rattle.filing.proofs.Choice.{unless}
 use Rattle.decoding.proofs.Decoded.{list-line}
 use Rattle.lists.specs.Rules.{FewRows, blocks_from, shifted}
 use Rattle.lists.proofs.Places.{kinds_from}
-use Rattle.areas.specs.Areas.{first_uneven, soil_rules, ruled_from}
+use Rattle.areas.specs.Areas.{soil_rules, ruled_from}
 
 -- ---- a test of the rows of a kind, at their places
 

@@ -1,7 +1,7 @@
 -- The soil rows of a return, and of lists to be written: which they are, and rule 13 of them. Assumes nothing.
 --     soils_decoded, return-ruling, no_soils    of a return; soils-place, where they stand; stored-rows, decoded to the front of a room
 --     lists-ruling     of lists; soils-part, the part of the area that is theirs
-use Prim.Native.Nat.{ℕ, suc, ◌+◌, ◌-◌, ◌*◌, ◌≤◌, ◌<◌}
+use Prim.Native.Nat.{ℕ, ◌+◌, ◌-◌, ◌*◌, ◌≤◌, ◌<◌}
 use mathlib.Core.Path.{◌≡◌, refl, sym, ap, ap₂, ◌∙◌}
 use mathlib.Core.List.{List, [], ◌∷◌, flatten}
 use native.Mathlib.Omega.{arith}
@@ -14,7 +14,6 @@ use Rattle.form.specs.Records.{filed, filed_rows}
 use Rattle.form.specs.Verdict.{row_count, rows, Formed}
 use Rattle.form.specs.Standing.{first_block, start_place}
 use Rattle.form.specs.declared.Counts.{Counts}
-use Rattle.form.specs.declared.Ruling.{Ruling}
 use Rattle.form.specs.declared.Ruling.TheVariants.{Clean}
 use Rattle.form.proofs.EachKind.{kinds_are}
 use Rattle.standing.proofs.Accepted.{counted, first_block_lem, rows-length, few_rows}

@@ -5,13 +5,13 @@
 --     soils_at, soils-count    its rows, by their numbers
 use Prim.Native.Nat.{ℕ, ◌+◌, ◌*◌, ◌^◌, ◌≤◌, ◌<◌}
 use mathlib.Core.Path.{◌≡◌, refl, sym, ap, ap₂, ◌∙◌}
-use mathlib.Core.List.{List, [], ◌∷◌, ◌++◌}
+use mathlib.Core.List.{List, []}
 use native.Mathlib.Nat.{add-zero, zero-add}
 use native.Mathlib.Omega.{arith}
 use borrow.Author.Tests.{eq-eqb, ne_eqb}
 use lib.ListN.{length, get_or}
 use Rattle.form.specs.Records.{rows_below}
-use Rattle.form.specs.Sums.{sum_of, soil_type, area_now, area_then, area_in, sum_now, sum_then}
+use Rattle.form.specs.Sums.{sum_of, soil_type, area_now, area_then, area_in}
 use Rattle.standing.proofs.StandRows.{from_length, from_at}
 use Rattle.filing.specs.Lists.{rows_in, row_of, filed_list}
 use Rattle.decoding.proofs.Decoded.{list-rows}

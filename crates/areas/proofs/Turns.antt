@@ -5,16 +5,15 @@
 use Prim.Native.Nat.{ℕ, ◌+◌, ◌*◌, ◌^◌, ◌≤◌, ◌<◌}
 use mathlib.Core.Path.{◌≡◌, refl, sym, ap, ap₂, subst, ◌∙◌}
 use mathlib.Core.Bool.{Bool, true, false, cond, not, ◌&&◌, and-false}
-use mathlib.Core.List.{List, []}
+use mathlib.Core.List.{List}
 use native.Mathlib.Omega.{arith}
 use borrow.Author.Tests.{lt-ltb, le-ltb, ltb-true, ltb-false}
 use lib.Dec.{ltb}
 use lib.ListN.{length, get_or}
 use Rattle.form.specs.First.{first, any}
 use Rattle.form.specs.Sums.{soil_type, uneven, type_of, uneven_below, lowest_uneven}
-use Rattle.form.specs.declared.Spot.{Spot}
 use Rattle.form.specs.declared.Spot.TheVariants.{At, Nowhere}
-use Rattle.filing.specs.Lists.{rows_in, row_of}
+use Rattle.filing.specs.Lists.{rows_in}
 use Rattle.areas.specs.Areas.{soils_in, lower_of, first_uneven}
 use Rattle.areas.specs.declared.Lowest.{Lowest}
 use Rattle.areas.proofs.Sums.{number_of, soils_at}

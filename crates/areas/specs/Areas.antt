@@ -3,7 +3,7 @@ use Rattle.std.specs.Prelude.{ℕ, ◌+◌, cond, ◌&&◌, List, [], ◌∷◌,
 use Rattle.form.specs.First.{first}
 use Rattle.form.specs.Ruling.{Rule, rule, refuse}
 use Rattle.form.specs.Records.{Filed, filed_rows}
-use Rattle.form.specs.Sums.{soil_type, area_now, area_then, area_in, sum_now, sum_then, uneven, type_of, lowest_uneven, soil_uneven}
+use Rattle.form.specs.Sums.{area_now, area_then, area_in, sum_now, sum_then, uneven, type_of, lowest_uneven, soil_uneven}
 use Rattle.form.specs.declared.Spot.{Spot}
 use Rattle.form.specs.declared.Ruling.{Ruling}
 use Rattle.form.specs.declared.Ruling.TheVariants.{Clean}

@@ -1,6 +1,6 @@
 -- The parts of rows to be written, by the list's own numbers, and how large they are. Assumes nothing.
 use Prim.Native.Nat.{ℕ, zero, suc, ◌+◌, ◌*◌, ◌^◌, ◌≤◌, ◌<◌}
-use mathlib.Core.Path.{◌≡◌, refl, ◌∙◌}
+use mathlib.Core.Path.{◌≡◌, refl}
 use mathlib.Core.List.{List}
 use native.Mathlib.Numerals.{bound}
 use native.Mathlib.Nat.{le-pred_of_lt}

@@ -1,13 +1,11 @@
 -- The parts of an area that are the lists of kinds 1 and 3. Assumes nothing.
-use Prim.Native.Nat.{ℕ, ◌+◌, ◌≤◌, ◌<◌}
+use Prim.Native.Nat.{ℕ, ◌+◌, ◌≤◌}
 use mathlib.Core.Path.{◌≡◌, sym}
 use mathlib.Core.List.{List}
 use native.Mathlib.Nat.{zero-add}
 use native.Mathlib.Omega.{arith}
-use lib.ListN.{length, get_or, take}
-use Rattle.form.specs.Layout.{kinds}
+use lib.ListN.{length, get_or}
 use Rattle.form.proofs.EachKind.{kinds_are}
-use Rattle.filing.specs.Lists.{total}
 use Rattle.filing.proofs.Cut.{total_none, total-next}
 use Rattle.lists.specs.Rules.{Good}
 use Rattle.lists.proofs.KindRows.{Part, kind-part}

@@ -5,7 +5,7 @@
 --     list-line       the rows of a list stand one after the other; list-rows, which are its rows
 use Prim.Native.Nat.{ℕ, zero, suc, ◌+◌, ◌*◌, ◌/◌, ◌≤◌, ◌<◌}
 use mathlib.Core.Path.{◌≡◌, refl, sym, ap, ◌∙◌}
-use mathlib.Core.List.{List, [], ◌∷◌, ◌++◌, flatten}
+use mathlib.Core.List.{List, ◌++◌, flatten}
 use native.Mathlib.Nat.{mul-le-mul, mul-div_cancel_left, zero-add}
 use native.Mathlib.Omega.{arith}
 use lib.ListN.{length}

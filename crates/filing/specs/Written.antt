@@ -1,6 +1,6 @@
 -- "The return": filed records as bytes.
 use Rattle.form.specs.Bytes.{little_endian}
-use Rattle.std.specs.Prelude.{ℕ, zero, suc, ◌+◌, ◌-◌, ◌*◌, ◌/◌, ◌%◌, cond, List, [], ◌∷◌, ◌++◌, length, get_or, drop, replicate}
+use Rattle.std.specs.Prelude.{ℕ, zero, suc, ◌+◌, ◌-◌, ◌*◌, ◌/◌, cond, List, [], ◌∷◌, ◌++◌, length, get_or, drop, replicate}
 use Rattle.form.specs.Layout.{Layout, layout}
 use Rattle.form.specs.Block.{weighed}
 use Rattle.form.specs.Records.{Filed}

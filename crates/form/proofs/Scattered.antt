@@ -1,6 +1,6 @@
 -- The rows of scattered trees, counted. Assumes nothing.
 --     none_counted    where no row is of scattered trees, there are none of them; part_of_one, a row is at most one of them
-use Prim.Native.Nat.{ℕ, zero, suc, ◌≤◌, ◌<◌}
+use Prim.Native.Nat.{ℕ, suc, ◌≤◌, ◌<◌}
 use mathlib.Core.Path.{◌≡◌, refl}
 use mathlib.Core.Bool.{Bool, true, false, cond}
 use mathlib.Core.List.{List, [], ◌∷◌}

@@ -1,5 +1,5 @@
 -- "the lowest place is given": the lowest place below n at which a test holds, or Nowhere.
-use Rattle.std.specs.Prelude.{ℕ, zero, suc, Bool, true, false, cond, ◌||◌}
+use Rattle.std.specs.Prelude.{ℕ, zero, suc, Bool, false, cond, ◌||◌}
 use Rattle.form.specs.declared.Spot.{Spot}
 use Rattle.form.specs.declared.Spot.TheVariants.{At, Nowhere}
 

@@ -1,5 +1,5 @@
 -- The rules of a return in 01's own words, before there was an edition 2: what an edition 1 return is still read by (standing/proofs/FirstEdition).
-use Rattle.std.specs.Prelude.{ℕ, ◌%◌, Bool, not, ◌&&◌, ◌||◌, List, [], ◌∷◌, ◌++◌, length, ltb, eqb}
+use Rattle.std.specs.Prelude.{ℕ, ◌%◌, Bool, not, ◌&&◌, ◌||◌, List, [], ◌∷◌, length, ltb, eqb}
 use Rattle.form.specs.Ruling.{Rule, rule}
 use Rattle.form.specs.Layout.{layout, above_limit}
 use Rattle.form.specs.Block.{blocks, kind_of, block_number, blocks_said, edition, bad_check, kind_falls, is_last, fourth_of_kind, bad_count, not_filled, over_filled, stray}

@@ -1,5 +1,5 @@
 -- Rules 5, 6, 14 and 7, stated once over records at places. A rule of one row is an entry of a list. "A record's place is 12 times its block plus its position."
-use Rattle.std.specs.Prelude.{ℕ, zero, suc, ◌+◌, ◌-◌, ◌*◌, ◌/◌, ◌%◌, Bool, false, cond, not, ◌&&◌, ◌||◌, List, [], ◌∷◌, ◌++◌, get_or, ltb, leb, eqb}
+use Rattle.std.specs.Prelude.{ℕ, zero, suc, ◌+◌, ◌-◌, ◌*◌, ◌/◌, ◌%◌, Bool, false, cond, not, ◌&&◌, List, [], ◌∷◌, ◌++◌, get_or, ltb, leb, eqb}
 use Rattle.form.specs.Ruling.{Rule, rule}
 use Rattle.form.specs.Layout.{kinds, parameters_kind, layout, row_at, above_limit}
 use Rattle.form.specs.Block.{blocks, kind_of, count_of, record_at}

@@ -2,23 +2,20 @@
 --     entered_as      the ledger of one, by what is entered
 --     plus_swap, plus-last     the order of addition does not matter; one more behind the others
 --     at_most_none, at_most_plus, at_most_bounded, at_most_addable   how large a sum can be, and that five hundred have room
-use Prim.Native.Nat.{ℕ, ◌+◌, ◌*◌, ◌≤◌, ◌<◌, ◌^◌}
-use mathlib.Core.Path.{◌≡◌, refl, sym, ap, ap₂, subst, ◌∙◌}
+use Prim.Native.Nat.{ℕ, ◌+◌, ◌≤◌}
+use mathlib.Core.Path.{◌≡◌, refl, sym, ap, ap₂, ◌∙◌}
 use mathlib.Core.Bool.{Bool, false}
 use mathlib.Core.List.{List, [], ◌∷◌, ◌++◌}
 use native.Mathlib.Omega.{arith}
-use lib.IntN.{ℤ, pos, nat_abs, ◌+ℤ◌, +ℤ_assoc, +ℤ_comm, pos-+ℤ-pos}
+use lib.IntN.{ℤ, pos, ◌+ℤ◌, +ℤ_assoc, +ℤ_comm, pos-+ℤ-pos}
 use Rattle.wide.specs.Numbers.{value, words_of}
-use Rattle.wide.specs.Signs.{amount, sized, sign, signed_of}
-use Rattle.wide.specs.declared.Wide.{Wide}
+use Rattle.wide.specs.Signs.{amount, sized, signed_of}
 use Rattle.wide.specs.declared.signed.Signed.{Signed}
 use Rattle.wide.proofs.Laws.{value_words}
 use Rattle.wide.proofs.SignLaws.{form-holds}
-use Rattle.totals.specs.Masses.{carbon, dry_matter}
 use Rattle.totals.specs.declared.Carbon.{Carbon}
 use Rattle.totals.specs.declared.DryMatter.{DryMatter}
 use Rattle.totals.specs.declared.Totals.{Totals}
-use Rattle.units.specs.Columns.{net_carbon}
 use Rattle.matter.specs.declared.Matter.{Matter}
 use Rattle.matter.proofs.Adding.{words_comm, words_assoc, matter_comm, matter_assoc}
 use Rattle.matter.proofs.Sizes.{most_le, most_none, most_plus}

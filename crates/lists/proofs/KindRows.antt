@@ -1,7 +1,7 @@
 -- The rows of a kind among the records that lists would make. Assumes nothing.
 --     rows_next, rows_all             a list's rows, one after the other; sum_more, what they add up to
 --     kind-part                       the part of an area that is the list of a kind: whose rows it has, and how few
-use Prim.Native.Nat.{ℕ, zero, suc, ◌+◌, ◌-◌, ◌*◌, ◌≤◌, ◌<◌}
+use Prim.Native.Nat.{ℕ, zero, suc, ◌+◌, ◌-◌, ◌≤◌, ◌<◌}
 use mathlib.Core.Path.{◌≡◌, refl, sym, ap, ap₂, ◌∙◌}
 use mathlib.Core.Bool.{and-false}
 use mathlib.Core.List.{List, [], ◌∷◌, ◌++◌, append-nil, append_assoc}

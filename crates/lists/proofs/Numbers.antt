@@ -9,7 +9,7 @@ use native.Mathlib.Omega.{arith}
 use lib.Dec.{ltb, leb, eqb}
 use lib.ListN.{length, get_or, drop, drop_of_length-le}
 use lib.Seq.{get_or-take, get_or-drop, drop-cons, drop-drop}
-use borrow.Author.Tests.{lt-ltb, le-ltb, le-leb, eq-eqb, ne_eqb, ltb-false, eqb-true, not-false}
+use borrow.Author.Tests.{lt-ltb, le-leb, eq-eqb, ne_eqb, ltb-false, eqb-true, not-false}
 use Rattle.form.specs.Layout.{field, Layout, kinds, parameters_kind, layout, numbers_of, above_limit, field_at}
 use Rattle.form.specs.Edition.{last_kind, known}
 use Rattle.form.specs.Records.{RowTest, id_of, scattered_trees, overspent, bad_id, broken_by, test_numbered}

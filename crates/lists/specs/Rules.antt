@@ -1,5 +1,5 @@
 -- "Writing: 10, then 5 to 9": the rules of the row lists alone, 10 by kind, and those of filed records where the records would stand: 5, 6, 14 and 7, then those that add rows up.
-use Rattle.std.specs.Prelude.{ℕ, zero, suc, ◌+◌, ◌-◌, ◌%◌, ◌≤◌, ◌<◌, ◌≡◌, Bool, false, not, ◌&&◌, ◌||◌, List, [], ◌∷◌, length, get_or, ltb, eqb}
+use Rattle.std.specs.Prelude.{ℕ, zero, suc, ◌+◌, ◌-◌, ◌%◌, ◌≤◌, ◌<◌, ◌≡◌, Bool, not, ◌&&◌, ◌||◌, List, [], ◌∷◌, length, get_or, ltb, eqb}
 use Rattle.form.specs.Layout.{kinds, parameters_kind, numbers_of}
 use Rattle.form.specs.Edition.{last_kind, known}
 use Rattle.form.specs.Ruling.{Rule, rule}

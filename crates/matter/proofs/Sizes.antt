@@ -27,7 +27,6 @@ use Rattle.totals.proofs.Accepted.{small, next, whole}
 use Rattle.totals.proofs.Limits.{period, onsites, offsites}
 use Rattle.totals.proofs.Sums.{sum_le}
 use Rattle.matter.specs.Matter.{lost_biomass, left_by, oxidised_onsite_part, charcoal_onsite_part, oxidised_offsite_part, charcoal_offsite_part, unburned_part, burned_of, row_matter, matter_of, no_matter, plus_matter, MatterMost}
-use Rattle.matter.specs.declared.Burned.{Burned}
 use Rattle.matter.specs.declared.Matter.{Matter}
 
 -- an area by a density, and biomass by two fractions

@@ -1,16 +1,16 @@
 -- The rows of an accepted return, kind by kind, as they are decoded. Assumes nothing.
 --     need_next       the room that the kinds need, one more
 --     judged, short, all_read    the answers, from rule to rule
-use Prim.Native.Nat.{ℕ, zero, suc, ◌+◌, ◌*◌, ◌/◌, ◌≤◌, ◌<◌}
-use mathlib.Core.Path.{◌≡◌, refl, sym, ap, ap₂, ◌∙◌}
-use mathlib.Core.List.{List, [], ◌∷◌, ◌++◌, flatten}
+use Prim.Native.Nat.{ℕ, suc, ◌+◌, ◌*◌, ◌≤◌, ◌<◌}
+use mathlib.Core.Path.{◌≡◌, refl, sym, ap, ◌∙◌}
+use mathlib.Core.List.{List, [], ◌∷◌}
 use native.Mathlib.Omega.{arith}
 use lib.ListN.{length}
 use borrow.Author.Tests.{ltb-false}
 use Rattle.form.specs.First.{first}
 use Rattle.form.specs.Layout.{kinds, numbers_of}
 use Rattle.form.specs.Ruling.{rule, ruling}
-use Rattle.form.specs.Verdict.{rules, row_count, rows, counts_of, count_in, verdict_by, verdict_of, Formed}
+use Rattle.form.specs.Verdict.{rules, row_count, verdict_by, verdict_of, Formed}
 use Rattle.form.specs.Standing.{blocks_for, start_block}
 use Rattle.form.specs.declared.Counts.{Counts}
 use Rattle.form.specs.declared.Spot.TheVariants.{At, Nowhere}

@@ -8,10 +8,10 @@
 --     first_block_lem        a kind's first block, by the counts
 --     rows_are           the rows of a kind stand one after the other from the place that the counts give; row_is, each by its bytes; inside, in the bytes
 --     row_kept           every rule of one row, by its number: within, 6 (limit_of, a field of a row); spent, 7 of a conversion row; none_scattered, 14
-use Prim.Native.Nat.{ℕ, zero, suc, ◌+◌, ◌-◌, ◌*◌, ◌/◌, ◌%◌, ◌<◌, ◌≤◌}
+use Prim.Native.Nat.{ℕ, zero, suc, ◌+◌, ◌*◌, ◌/◌, ◌%◌, ◌<◌, ◌≤◌}
 use mathlib.Core.Path.{◌≡◌, refl, sym, ap, ap₂, ◌∙◌}
 use mathlib.Core.Bool.{Bool, true, false, cond, not}
-use mathlib.Core.List.{List, [], ◌∷◌, ◌++◌}
+use mathlib.Core.List.{List, [], ◌∷◌}
 use native.Mathlib.Decide.{dec_lt}
 use native.Mathlib.Numerals.{one-add}
 use native.Mathlib.Omega.{arith}
@@ -19,14 +19,14 @@ use borrow.Author.Tests.{lt-ltb, ltb-false, eqb-false}
 use lib.ListN.{length, get_or, drop, get_or-eq_default}
 use lib.Seq.{get_or-drop}
 use lib.Dec.{ltb, eqb}
-use Rattle.form.specs.Ruling.{Rule, rule, ruling}
+use Rattle.form.specs.Ruling.{rule, ruling}
 use Rattle.form.specs.declared.Field.{Field}
 use Rattle.form.specs.Layout.{Layout, kinds, parameters_kind, layout, row_at, above_limit}
 use Rattle.form.specs.Edition.{last_kind}
-use Rattle.form.specs.Block.{most_blocks, longest, blocks, kind_of, edition, record_at, check_said, check_due, bad_length, bad_check, bad_header, bad_block}
+use Rattle.form.specs.Block.{most_blocks, longest, blocks, kind_of, edition, record_at, check_said, check_due, bad_length, bad_check, bad_block}
 use Rattle.form.specs.Records.{filed, RowTest, RowRule, row_rules, bad_id, broken_by, over_places, record_rules, is_scattered, overspent, numbered, test_numbered}
 use Rattle.form.specs.Sums.{sum_rules}
-use Rattle.form.specs.Verdict.{Formed, block_rules, form_rules, rules, count_below, row_count, rows, counts_of, count_list, count_in, verdict_of}
+use Rattle.form.specs.Verdict.{Formed, block_rules, form_rules, rules, row_count, rows, counts_of, count_list, count_in, verdict_of}
 use Rattle.form.specs.Standing.{blocks_for, start_block, first_block, start_place, rows_from}
 use Rattle.form.specs.declared.Counts.{Counts}
 use Rattle.form.specs.declared.Ruling.TheVariants.{Clean}

@@ -1,16 +1,16 @@
 -- Rows of a kind that stand one after the other, with none of them elsewhere. Assumes nothing.
 --     line-rows      they are the rows of the kind
 --     formed_line    so do the rows of each kind of a return that can be read row by row
-use Prim.Native.Nat.{ℕ, zero, suc, ◌+◌, ◌-◌, ◌*◌, ◌/◌, ◌%◌, ◌<◌, ◌≤◌, min}
+use Prim.Native.Nat.{ℕ, zero, suc, ◌+◌, ◌-◌, ◌/◌, ◌%◌, ◌<◌, ◌≤◌, min}
 use mathlib.Core.Path.{◌≡◌, refl, sym, ap, ◌∙◌}
 use mathlib.Core.Bool.{Bool, true, false, cond, ◌&&◌, true≢false}
 use mathlib.Core.List.{List}
 use native.Mathlib.Decide.{dec_lt}
 use native.Mathlib.Omega.{arith}
 use borrow.Author.Tests.{lt-ltb, ltb-true, eq-eqb, eqb-true}
-use lib.Dec.{ltb, eqb}
+use lib.Dec.{eqb}
 use Rattle.form.specs.Layout.{kinds}
-use Rattle.form.specs.Block.{blocks, kind_of, count_of}
+use Rattle.form.specs.Block.{blocks, count_of}
 use Rattle.form.specs.Records.{Filed, filed, filed_rows}
 use Rattle.form.specs.Verdict.{row_count, Formed}
 use Rattle.form.specs.Standing.{start_block, start_place, rows_from}

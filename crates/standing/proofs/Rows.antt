@@ -1,7 +1,7 @@
 -- Row i of a kind of a return that can be read row by row: where it stands, by the counts. Assumes nothing.
 --     kind_row          its bytes, from the kind's first block; conversion-row, parameter_row
 --     kept              its limits
-use Prim.Native.Nat.{ℕ, zero, suc, ◌+◌, ◌-◌, ◌*◌, ◌/◌, ◌%◌, ◌<◌, ◌≤◌}
+use Prim.Native.Nat.{ℕ, zero, suc, ◌+◌, ◌-◌, ◌/◌, ◌%◌, ◌<◌, ◌≤◌}
 use mathlib.Core.Path.{◌≡◌, refl, sym, ap, subst, ◌∙◌}
 use mathlib.Core.Bool.{false}
 use mathlib.Core.List.{List, []}

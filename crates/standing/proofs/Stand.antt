@@ -25,7 +25,7 @@ use Rattle.form.specs.declared.Spot.{Spot}
 use Rattle.form.specs.declared.Spot.TheVariants.{At, Nowhere}
 use Rattle.form.proofs.Search.{Says, first_says}
 use Rattle.form.proofs.Order.{AllKept, Kept, none, more}
-use Rattle.form.proofs.Tests.{all_fail, same_of, or_none, and_rest}
+use Rattle.form.proofs.Tests.{all_fail, same_of, and_rest}
 use Rattle.form.proofs.EachKind.{last-kinds}
 
 -- what rule 3 says of a block, test by test

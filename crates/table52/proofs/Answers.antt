@@ -18,7 +18,6 @@ use Rattle.entries52.specs.declared.Figure.TheVariants.{Given, NotGiven}
 use Rattle.entries52.specs.declared.Entry.{Entry}
 use Rattle.table52.specs.declared.Lookup.{Lookup}
 use Rattle.table52.specs.declared.Lookup.TheVariants.{Found, NoCountry, NoZone}
-use Rattle.table52.specs.declared.lent.Told.{Told}
 use Rattle.table52.specs.declared.lent.Told.TheVariants as told
 use Rattle.entries52.specs.Table.{countries, zones}
 use Rattle.entries52.specs.Entries.{same_number, rate_of, entry_at}

@@ -1,5 +1,5 @@
 -- An entry in lent memory, for programs in C: "answers the three figures with the mark, or says which is not given".
-use Rattle.std.specs.Prelude.{ℕ, Bool, cond, List, [], ◌∷◌, ◌++◌, length, drop, ℤ, pos, ltb}
+use Rattle.std.specs.Prelude.{Bool, cond, List, [], ◌∷◌, ◌++◌, length, drop, ℤ, pos, ltb}
 use Rattle.entries52.specs.declared.Figure.{Figure}
 use Rattle.entries52.specs.declared.Figure.TheVariants.{Given, NotGiven}
 use Rattle.entries52.specs.declared.Entry.{Entry}

@@ -19,7 +19,6 @@ use Rattle.form.specs.Sums.{sum_of, harvest_part, cleared_part, column_k, column
 use Rattle.totals.specs.Columns.{stock_part, onsite_part, offsite_part, decay_part, thinner_part, column_e, onsite_total, offsite_total, decay_total, thinner_total}
 use Rattle.totals.specs.Abandoned.{abandoned_part, uptake_total}
 use Rattle.totals.specs.Sums.{parts_of, Added, Summed, totals_of, Room}
-use Rattle.wide.specs.Numbers.{value}
 use Rattle.wide.proofs.Laws.{words, is_as}
 use Rattle.totals.specs.declared.Parts.{Parts}
 use Rattle.totals.specs.declared.Totals.{Totals}

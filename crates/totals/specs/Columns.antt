@@ -1,5 +1,5 @@
 -- The workbook's columns that are plain sums over rows, each an exact whole number in the unit of 01's "Worksheet rules".
-use Rattle.std.specs.Prelude.{ℕ, ◌+◌, ◌*◌, cond, List, [], ◌∷◌, get_or}
+use Rattle.std.specs.Prelude.{ℕ, ◌+◌, ◌*◌, cond, List, get_or}
 use Rattle.form.specs.Records.{area_of, before, after, onsite, onsite_oxidised, onsite_carbon, offsite, offsite_oxidised, offsite_carbon, ten_year_area, ten_year_before, ten_year_after, decay, decay_carbon, thinner, difference, ten_year_difference}
 use Rattle.form.specs.Sums.{sum_of}
 

@@ -1,4 +1,4 @@
-use mathlib.Core.Path.{◌≡◌, sym, ◌∙◌}
+use mathlib.Core.Path.{sym, ◌∙◌}
 use Rattle.filing.specs.Lists.{row_of}
 use Rattle.areas.proofs.Sums.{row_of_other, row_of_type}
 use native.Mathlib.Omega.{arith}

@@ -1,5 +1,4 @@
-use Prim.Native.Nat.{◌-◌, ◌^◌, ◌≤◌, ◌<◌}
-use mathlib.Core.Path.{◌≡◌, ◌∙◌}
+use Prim.Native.Nat.{◌-◌, ◌≤◌}
 use Rattle.form.specs.Sums.{uneven, type_of}
 use Rattle.areas.specs.Areas.{soils_in}
 use Rattle.areas.proofs.Lowly.{Lowly}

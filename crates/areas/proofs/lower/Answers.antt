@@ -1,4 +1,4 @@
-use mathlib.Core.Path.{◌≡◌, ◌∙◌, sym}
+use mathlib.Core.Path.{◌∙◌, sym}
 use Rattle.areas.specs.Areas.{soils_in}
 use Rattle.areas.proofs.Turns.{passed_over, taken_up, left-even}
 use native.Mathlib.Omega.{arith}

@@ -1,4 +1,3 @@
-use mathlib.Core.Path.{◌∙◌}
 use Prim.Native.Nat.{◌+◌, ◌*◌}
 use Rattle.areas.proofs.Sums.{number_of}
 use native.Mathlib.Omega.{arith}

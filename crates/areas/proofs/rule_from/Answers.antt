@@ -1,4 +1,4 @@
-use mathlib.Core.Path.{◌≡◌, sym, ◌∙◌}
+use mathlib.Core.Path.{sym, ◌∙◌}
 use Rattle.form.specs.Sums.{type_of, lowest_uneven}
 use Rattle.form.proofs.Search.{first_at}
 use Rattle.areas.specs.Areas.{soils_in}

@@ -1,5 +1,5 @@
-use mathlib.Core.Path.{◌≡◌, ◌∙◌}
-use Prim.Native.Nat.{◌+◌, ◌*◌, ◌≤◌}
+use mathlib.Core.Path.{◌∙◌}
+use Prim.Native.Nat.{◌+◌}
 use lib.ListN.{length-take}
 use native.Mathlib.Nat.{le_of_lt}
 use Rattle.lists.proofs.KindRows.{Part}

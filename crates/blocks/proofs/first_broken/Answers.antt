@@ -1,5 +1,4 @@
-use Prim.Native.Nat.{◌≤◌, ◌-◌}
-use mathlib.Core.Path.{◌≡◌, sym}
+use mathlib.Core.Path.{sym}
 use Rattle.form.proofs.Search.{first-zero, first_more, first_found}
 use borrow.Author.Rules.{rules}
 use Rattle.blocks.proofs.first_broken.Goals as goal

@@ -1,4 +1,4 @@
-use Prim.Native.Nat.{◌+◌, ◌-◌, ◌≤◌, ◌<◌}
+use Prim.Native.Nat.{◌+◌, ◌≤◌, ◌<◌}
 use mathlib.Core.Path.{refl}
 use Rattle.form.specs.Layout.{numbers_of, stray_from}
 use Rattle.form.proofs.Fields.{ends_40, looking_none, looking_in, looking_end, looking_more, looking_all}

@@ -1,4 +1,4 @@
-use Prim.Native.Nat.{◌+◌, ◌-◌, ◌≤◌, ◌<◌}
+use Prim.Native.Nat.{◌-◌}
 use Rattle.form.specs.Layout.{layout}
 use Rattle.form.proofs.Fields.{straying, Looking}
 use Rattle.blocks.proofs.stray_fields.Given as goal

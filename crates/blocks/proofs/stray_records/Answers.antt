@@ -1,7 +1,5 @@
-use Prim.Native.Nat.{◌≤◌, ◌-◌}
-use mathlib.Core.Path.{◌≡◌, sym, refl, ◌∙◌}
+use mathlib.Core.Path.{sym, refl, ◌∙◌}
 use Rattle.form.specs.First.{any}
-use Rattle.form.specs.Block.{stray_record}
 use Rattle.form.proofs.Search.{any_more, any_found}
 use borrow.Author.Rules.{rules}
 use Rattle.blocks.proofs.stray_records.Goals as goal

@@ -1,4 +1,4 @@
-use Prim.Native.Nat.{ℕ, ◌*◌, ◌^◌, ◌<◌}
+use Prim.Native.Nat.{ℕ, ◌*◌}
 use mathlib.Core.Path.{ap}
 use Rattle.wide.proofs.Laws.{words, is_as}
 use Rattle.burning.specs.Released.{released_of}

@@ -20,7 +20,7 @@ float_to_bits-by_code c =
 
 pub returns-in-Refused : goal.returns-in-Refused
 returns-in-Refused c =
- let said = refused_out _ c.args.code _ _ _ (sym c.subtotals.ensures ∙ c.in-Refused.is) in record { value = said.0; room_after = said.1 }
+    let said = refused_out _ c.args.code _ _ _ (sym c.subtotals.ensures ∙ c.in-Refused.is) in record { value = said.0; room_after = said.1 }
 
 pub returns-else-room-lt8 : goal.returns-else-room-lt8
 returns-else-room-lt8 c =

@@ -15,7 +15,7 @@ returns-then-number-eq12 c =
 
 pub find_row-w-requires : goal.find_row-w-requires
 find_row-w-requires c =
- record { good = c.requires.good; place_value = used_there c.args.edition (filed_lists (cut c.args.lengths.now c.args.area.now)) c.requires.area_value c.if-number-eq12.false }
+    record { good = c.requires.good; place_value = used_there c.args.edition (filed_lists (cut c.args.lengths.now c.args.area.now)) c.requires.area_value c.if-number-eq12.false }
 
 pub overflow_cast-row : goal.overflow_cast-row
 overflow_cast-row c = omega (arith, c.find_row-w.ensures.known-kind.1, few_kinds)
@@ -25,4 +25,4 @@ bounds-area-from c = let w = c.find_row-w.ensures in omega (arith, some_numbers 
 
 pub put_of_row-requires : goal.put_of_row-requires
 put_of_row-requires c =
- record { good = c.requires.good; area_value = c.requires.area_value; fact = (c.if-number-eq12.false, here c.find_row-w.ensures c.numbers.ensures.0 refl); at_in_bounds = search rules }
+    record { good = c.requires.good; area_value = c.requires.area_value; fact = (c.if-number-eq12.false, here c.find_row-w.ensures c.numbers.ensures.0 refl); at_in_bounds = search rules }

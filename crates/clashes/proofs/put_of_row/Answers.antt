@@ -8,7 +8,7 @@ use Rattle.clashes.proofs.put_of_row.Goals as goal
 
 pub id_below-requires : goal.id_below-requires
 id_below-requires c =
- record { good = c.requires.good; place_value = (at_id c.args.edition (filed_lists (cut c.args.lengths.now c.args.area.now)) c.requires.area_value c.in-5.is).broken }
+    record { good = c.requires.good; place_value = (at_id c.args.edition (filed_lists (cut c.args.lengths.now c.args.area.now)) c.requires.area_value c.in-5.is).broken }
 
 pub put_fractions_above-requires : goal.put_fractions_above-requires
 put_fractions_above-requires c =

@@ -1,4 +1,3 @@
-use Prim.Native.Nat.{◌-◌, ◌≤◌}
 use mathlib.Core.Path.{◌≡◌, ◌∙◌}
 use mathlib.Core.Bool.{false}
 use lib.Dec.{lit<, lit≤}
@@ -20,7 +19,7 @@ pub loop-i-init : goal.loop-i-init
 loop-i-init c = (search rules, c.nothing-t.ensures ∙ first residue_carbon crop_ratios)
 
 pub row_at-requires : goal.row_at-requires
-row_at-requires c =  record { at_in_bounds = (let row' : Stands c.args.bytes.now 8 c.loop-i.i c.row_start.result = kind_row c.args.bytes.now c.args.c c.requires 8 (lit≤ tt) (omega (arith, kinds_are)) c.first_block-first.ensures.0 (search rules) c.row_start.ensures in row').inside; at_value = (let within' : above_limit crop (row_at crop c.args.bytes.now c.row_start.result) ≡ false = let w = (let row' : Stands c.args.bytes.now 8 c.loop-i.i c.row_start.result = kind_row c.args.bytes.now c.args.c c.requires 8 (lit≤ tt) (omega (arith, kinds_are)) c.first_block-first.ensures.0 (search rules) c.row_start.ensures in row') in rw (← w.row) (kept c.args.bytes.now c.args.c c.requires 8 c.loop-i.i (lit≤ tt) (omega (arith, kinds_are)) w.there) in within') }
+row_at-requires c = record { at_in_bounds = (let row' : Stands c.args.bytes.now 8 c.loop-i.i c.row_start.result = kind_row c.args.bytes.now c.args.c c.requires 8 (lit≤ tt) (omega (arith, kinds_are)) c.first_block-first.ensures.0 (search rules) c.row_start.ensures in row').inside; at_value = (let within' : above_limit crop (row_at crop c.args.bytes.now c.row_start.result) ≡ false = let w = (let row' : Stands c.args.bytes.now 8 c.loop-i.i c.row_start.result = kind_row c.args.bytes.now c.args.c c.requires 8 (lit≤ tt) (omega (arith, kinds_are)) c.first_block-first.ensures.0 (search rules) c.row_start.ensures in row') in rw (← w.row) (kept c.args.bytes.now c.args.c c.requires 8 c.loop-i.i (lit≤ tt) (omega (arith, kinds_are)) w.there) in within') }
 
 pub add_row-t-requires : goal.add_row-t-requires
 add_row-t-requires c =

@@ -1,5 +1,5 @@
 use mathlib.Core.Path.{refl}
-use Prim.Native.Nat.{◌/◌, ◌%◌}
+use Prim.Native.Nat.{◌/◌}
 use Rattle.decimal.proofs.DigitLaws.{padded-length, put_after}
 use native.Mathlib.Omega.{arith}
 use Rattle.decimal.proofs.put_eight.Goals as goal

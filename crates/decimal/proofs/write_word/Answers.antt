@@ -1,5 +1,4 @@
 use mathlib.Core.Path.{refl}
-use Prim.Native.Nat.{◌/◌, ◌%◌}
 use Rattle.decimal.proofs.DigitLaws.{length-after, write_after}
 use native.Mathlib.Omega.{arith}
 use Rattle.decimal.proofs.write_word.Goals as goal

@@ -1,4 +1,4 @@
-use Prim.Native.Nat.{◌+◌, ◌-◌, ◌≤◌, ◌<◌}
+use Prim.Native.Nat.{◌+◌, ◌≤◌, ◌<◌}
 use lib.ListN.{length}
 use Rattle.form.specs.Layout.{layout, numbers_of}
 use Rattle.form.proofs.Fields.{ends_40, field_in, Readable, field_readable}

@@ -1,4 +1,4 @@
-use Prim.Native.Nat.{◌+◌, ◌-◌, ◌≤◌, ◌<◌}
+use Prim.Native.Nat.{◌-◌}
 use Rattle.form.specs.Layout.{layout}
 use Rattle.filing.proofs.Fields.{Decoding}
 use Rattle.decoding.proofs.decode_row.Given as goal

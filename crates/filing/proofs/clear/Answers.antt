@@ -1,6 +1,4 @@
-use Prim.Native.Nat.{◌+◌, ◌-◌}
 use mathlib.Core.Path.{refl}
-use mathlib.Core.List.{◌∷◌}
 use native.Mathlib.Omega.{arith}
 use Rattle.filing.proofs.Stores.{zeros_turn, filling_more, filling_all}
 use Rattle.filing.proofs.clear.Goals as goal

@@ -1,5 +1,4 @@
-use Prim.Native.Nat.{◌+◌, ◌-◌, ◌*◌, ◌/◌}
-use mathlib.Core.Path.{◌≡◌}
+use Prim.Native.Nat.{◌+◌, ◌-◌, ◌*◌}
 use Rattle.filing.specs.Lists.{filed_list}
 use Rattle.filing.specs.Written.{block_of}
 use Rattle.filing.proofs.Stores.{Filling}

@@ -1,4 +1,3 @@
-use Prim.Native.Nat.{◌≤◌, ◌+◌, ◌*◌}
 use Rattle.filing.proofs.Parts.{list-row, list_none}
 use Rattle.filing.proofs.write_place.Goals as goal
 

@@ -1,5 +1,3 @@
-use Prim.Native.Nat.{◌+◌, ◌-◌, ◌*◌}
-use mathlib.Core.Path.{◌≡◌}
 use native.Mathlib.Omega.{arith}
 use Rattle.filing.specs.Lists.{filed_list}
 use Rattle.filing.proofs.Stores.{filling_more, filling_all}

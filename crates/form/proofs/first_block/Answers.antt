@@ -1,5 +1,5 @@
-use Prim.Native.Nat.{ℕ, ◌+◌, ◌-◌, ◌*◌, ◌≤◌}
-use mathlib.Core.Path.{◌≡◌, sym, ap, ap₂, ◌∙◌}
+use Prim.Native.Nat.{ℕ, ◌+◌, ◌≤◌}
+use mathlib.Core.Path.{sym, ap, ap₂, ◌∙◌}
 use Rattle.form.specs.Standing.{blocks_for}
 use Rattle.form.proofs.Counting.{first_one, first_next}
 use borrow.Author.Rules.{rules}

@@ -1,4 +1,3 @@
-use Prim.Native.Nat.{◌≤◌, ◌-◌}
 use mathlib.Core.Path.{◌≡◌, sym}
 use Rattle.form.proofs.Numbers.{bits_none, bits_more, stray_bits}
 use borrow.Author.Rules.{rules}

@@ -1,5 +1,5 @@
 use mathlib.Core.Path.{sym, ap, subst, ◌∙◌}
-use Prim.Native.Nat.{◌*◌, ◌^◌, ◌<◌}
+use Prim.Native.Nat.{◌^◌, ◌<◌}
 use native.Mathlib.Omega.{arith}
 use Rattle.wide.specs.Numbers.{value}
 use Rattle.totals.proofs.Limits.{thousand}

@@ -1,7 +1,6 @@
 use Rattle.lists.proofs.Numbers.{id_later, id_parameters, id_none}
 use Rattle.form.proofs.Fields.{kind-numbers}
 use mathlib.Core.Path.{sym}
-use Prim.Native.Nat.{◌-◌, ◌*◌, ◌<◌}
 use native.Mathlib.Omega.{arith}
 use Rattle.lists.proofs.bad_id.Goals as goal
 

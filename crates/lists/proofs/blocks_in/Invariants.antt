@@ -1,5 +1,5 @@
 use Prim.Native.Nat.{suc, ◌+◌, ◌-◌, ◌*◌, ◌≤◌}
-use mathlib.Core.Path.{◌≡◌, ◌∙◌}
+use mathlib.Core.Path.{◌≡◌}
 use lib.ListN.{length, drop}
 use Rattle.form.proofs.EachKind.{KindsAre}
 use Rattle.lists.specs.Rules.{blocks_from}

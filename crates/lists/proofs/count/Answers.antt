@@ -1,4 +1,3 @@
-use Prim.Native.Nat.{◌/◌}
 use native.Mathlib.Omega.{arith}
 use Rattle.form.proofs.Fields.{kind-numbers}
 use Rattle.lists.proofs.count.Goals as goal

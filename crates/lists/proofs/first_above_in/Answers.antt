@@ -1,5 +1,4 @@
-use Prim.Native.Nat.{◌-◌, ◌≤◌}
-use mathlib.Core.Path.{◌≡◌, sym, ◌∙◌}
+use mathlib.Core.Path.{sym, ◌∙◌}
 use Rattle.form.proofs.Search.{first-zero, first_more}
 use Rattle.lists.proofs.Places.{row_found}
 use borrow.Author.Rules.{rules}

@@ -1,5 +1,5 @@
 use Prim.Native.Nat.{ℕ, ◌-◌, ◌≤◌}
-use mathlib.Core.Path.{◌≡◌, ◌∙◌}
+use mathlib.Core.Path.{◌≡◌}
 use Rattle.form.specs.Layout.{layout, above_limit}
 use Rattle.filing.specs.Lists.{row_of}
 use Rattle.form.specs.First.{first}

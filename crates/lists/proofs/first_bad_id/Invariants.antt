@@ -1,5 +1,5 @@
 use Prim.Native.Nat.{◌-◌, ◌≤◌}
-use mathlib.Core.Path.{◌≡◌, ◌∙◌}
+use mathlib.Core.Path.{◌≡◌}
 use Rattle.form.specs.Records.{bad_id}
 use Rattle.filing.specs.Lists.{filed_list}
 use Rattle.form.specs.First.{first}

@@ -1,4 +1,4 @@
-use Prim.Native.Nat.{◌+◌, ◌-◌, ◌*◌, ◌≤◌, ◌<◌}
+use Prim.Native.Nat.{◌-◌}
 use Rattle.form.specs.Layout.{kinds}
 use Rattle.form.proofs.EachKind.{KindsAre}
 use Rattle.lists.proofs.Scan.{Scanning}

@@ -1,4 +1,4 @@
-use mathlib.Core.Path.{◌≡◌, refl, sym, ap, ◌∙◌}
+use mathlib.Core.Path.{refl, sym, ap, ◌∙◌}
 use Rattle.form.specs.Layout.{layout, above_limit}
 use Rattle.form.specs.Records.{bad_id, test_numbered}
 use Rattle.filing.specs.Lists.{row_of, filed_list}

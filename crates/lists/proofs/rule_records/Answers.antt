@@ -1,5 +1,3 @@
-use Prim.Native.Nat.{◌-◌, ◌≤◌}
-use mathlib.Core.Path.{◌≡◌}
 use Rattle.form.specs.Records.{record_numbers}
 use Rattle.filing.specs.Lists.{cut, filed_lists}
 use Rattle.form.proofs.Numbered.{number_stopped, number_passed, numbers-done}

@@ -1,5 +1,4 @@
-use Prim.Native.Nat.{◌-◌, ◌*◌, ◌≤◌}
-use mathlib.Core.Path.{◌≡◌, sym, ◌∙◌}
+use mathlib.Core.Path.{sym}
 use Rattle.filing.proofs.Cut.{total_none, total-next}
 use borrow.Author.Rules.{rules}
 use native.Mathlib.Omega.{arith}

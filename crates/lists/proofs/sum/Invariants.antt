@@ -1,5 +1,5 @@
 use Prim.Native.Nat.{◌-◌, ◌*◌, ◌≤◌}
-use mathlib.Core.Path.{◌≡◌, ◌∙◌}
+use mathlib.Core.Path.{◌≡◌}
 use lib.ListN.{length, take}
 use Rattle.filing.specs.Lists.{total}
 use Rattle.lists.proofs.sum.Given as goal

@@ -1,4 +1,3 @@
-use Prim.Native.Nat.{◌-◌, ◌≤◌}
 use mathlib.Core.Path.{◌≡◌}
 use mathlib.Core.Bool.{false}
 use lib.Dec.{lit≤}
@@ -19,7 +18,7 @@ unfolding matter_of sum_of
 loop-i-init c = (search rules, c.no_matter-t.ensures)
 
 pub matter_at-requires : goal.matter_at-requires
-matter_at-requires c =  record { at_in_bounds = (let row' : Stands c.args.bytes.now 1 c.loop-i.i c.row_start.result = conversion-row c.args.bytes.now c.args.c c.requires _ _ (search rules) c.row_start.ensures in row').inside; at_value = ((let within' : let r = row_at conversion c.args.bytes.now c.row_start.result in (above_limit conversion r ≡ false) × (overspent r ≡ false) = let n = c.args.bytes.now in let i = c.loop-i.i in let w = (let row' : Stands c.args.bytes.now 1 c.loop-i.i c.row_start.result = conversion-row c.args.bytes.now c.args.c c.requires _ _ (search rules) c.row_start.ensures in row') in rw (← w.row) (kept n c.args.c c.requires 1 i (lit≤ tt) one_kind w.there, spent n c.args.c c.requires i (omega (arith, w.there, rows-length n c.args.c c.requires 1))) in within')).0; at_value_2 = ((let within' : let r = row_at conversion c.args.bytes.now c.row_start.result in (above_limit conversion r ≡ false) × (overspent r ≡ false) = let n = c.args.bytes.now in let i = c.loop-i.i in let w = (let row' : Stands c.args.bytes.now 1 c.loop-i.i c.row_start.result = conversion-row c.args.bytes.now c.args.c c.requires _ _ (search rules) c.row_start.ensures in row') in rw (← w.row) (kept n c.args.c c.requires 1 i (lit≤ tt) one_kind w.there, spent n c.args.c c.requires i (omega (arith, w.there, rows-length n c.args.c c.requires 1))) in within')).1 }
+matter_at-requires c = record { at_in_bounds = (let row' : Stands c.args.bytes.now 1 c.loop-i.i c.row_start.result = conversion-row c.args.bytes.now c.args.c c.requires _ _ (search rules) c.row_start.ensures in row').inside; at_value = ((let within' : let r = row_at conversion c.args.bytes.now c.row_start.result in (above_limit conversion r ≡ false) × (overspent r ≡ false) = let n = c.args.bytes.now in let i = c.loop-i.i in let w = (let row' : Stands c.args.bytes.now 1 c.loop-i.i c.row_start.result = conversion-row c.args.bytes.now c.args.c c.requires _ _ (search rules) c.row_start.ensures in row') in rw (← w.row) (kept n c.args.c c.requires 1 i (lit≤ tt) one_kind w.there, spent n c.args.c c.requires i (omega (arith, w.there, rows-length n c.args.c c.requires 1))) in within')).0; at_value_2 = ((let within' : let r = row_at conversion c.args.bytes.now c.row_start.result in (above_limit conversion r ≡ false) × (overspent r ≡ false) = let n = c.args.bytes.now in let i = c.loop-i.i in let w = (let row' : Stands c.args.bytes.now 1 c.loop-i.i c.row_start.result = conversion-row c.args.bytes.now c.args.c c.requires _ _ (search rules) c.row_start.ensures in row') in rw (← w.row) (kept n c.args.c c.requires 1 i (lit≤ tt) one_kind w.there, spent n c.args.c c.requires i (omega (arith, w.there, rows-length n c.args.c c.requires 1))) in within')).1 }
 
 pub add_matter-t-requires : goal.add_matter-t-requires
 add_matter-t-requires c =

@@ -14,22 +14,21 @@ put_one-a-requires c = (search rules, omega (arith, c.requires))
 
 pub put_two-requires : goal.put_two-requires
 unfolding spaces
-put_two-requires c =
-    (
-      search rules,
-      omega (
-        arith,
-        c.requires,
-        c.put_one-a.ensures.1,
-        c.put-b.ensures.place,
-        c.put_field_name-c.ensures.1,
-        c.put_byte-d.ensures.place,
-        c.put_one-a.auto.out,
-        c.put-b.auto.out,
-        c.put_field_name-c.auto.out,
-        c.put_byte-d.auto.out,
-      ),
-    )
+put_two-requires c = (
+  search rules,
+  omega (
+    arith,
+    c.requires,
+    c.put_one-a.ensures.1,
+    c.put-b.ensures.place,
+    c.put_field_name-c.ensures.1,
+    c.put_byte-d.ensures.place,
+    c.put_one-a.auto.out,
+    c.put-b.auto.out,
+    c.put_field_name-c.auto.out,
+    c.put_byte-d.auto.out,
+  ),
+)
 
 pub returns : goal.returns
 unfolding spaces

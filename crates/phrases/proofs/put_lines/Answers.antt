@@ -29,12 +29,12 @@ loop-k-preserved c =
     let kept = c.put_byte-to.auto.out in (
       search rules,
       elim c.if-b-eq32.branch [
-        then-b-eq32 w ↦ omega (arith, ap length w.out-is, w.put_value-to.auto.out, kept)
-      | else-b-eq32 w ↦ omega (arith, ap length w.out-is, kept)
+        | then-b-eq32 w ↦ omega (arith, ap length w.out-is, w.put_value-to.auto.out, kept)
+        | else-b-eq32 w ↦ omega (arith, ap length w.out-is, kept)
       ],
       elim c.if-b-eq32.branch [
-        then-b-eq32 w ↦ as_left v _ _ _ _ w.out-is w.j-is w.to-is (value_written v _ _ _ _ _ _ _ _ (omega arith) refl c.loop-k.invariant.2 _ w.if-b-eq32.true w.value_at.ensures.number c.put_byte-to.ensures w.put_value-to.ensures)
-      | else-b-eq32 w ↦ as_left v _ _ _ _ w.out-is w.j-is w.to-is (letter_written v _ _ _ _ _ _ _ _ (omega arith) refl c.loop-k.invariant.2 w.if-b-eq32.false c.put_byte-to.ensures)
+        | then-b-eq32 w ↦ as_left v _ _ _ _ w.out-is w.j-is w.to-is (value_written v _ _ _ _ _ _ _ _ (omega arith) refl c.loop-k.invariant.2 _ w.if-b-eq32.true w.value_at.ensures.number c.put_byte-to.ensures w.put_value-to.ensures)
+        | else-b-eq32 w ↦ as_left v _ _ _ _ w.out-is w.j-is w.to-is (letter_written v _ _ _ _ _ _ _ _ (omega arith) refl c.loop-k.invariant.2 w.if-b-eq32.false c.put_byte-to.ensures)
       ],
     )
 

@@ -6,4 +6,4 @@ use Rattle.phrases.proofs.put_short.Goals as goal
 
 pub returns : goal.returns
 returns c =
- let said = put_out (take c.args.n c.args.text.now) _ c.args.n _ _ (length-take-le c.args.n c.args.text.now c.requires) (omega arith) c.put.ensures in record { value = said.0; room_after = said.1 }
+    let said = put_out (take c.args.n c.args.text.now) _ c.args.n _ _ (length-take-le c.args.n c.args.text.now c.requires) (omega arith) c.put.ensures in record { value = said.0; room_after = said.1 }

@@ -17,8 +17,8 @@ loop-k-preserved c =
     let more = start_more c.args.words.now c.args.i c.loop-k.k c.loop-k.left c.loop-k.invariant.1 _ c.loop-k-test.true c.if-left-eq0.false in (
       search rules,
       elim c.if-words-k-eq32.branch [
-        then-words-k-eq32 w ↦ more (w.left-is ∙ ap (λ (t : Bool). cond t (c.loop-k.left - 1) c.loop-k.left) (sym (eq-eqb _ 32 w.if-words-k-eq32.true)))
-      | else-words-k-eq32 w ↦ more (w.left-is ∙ ap (λ (t : Bool). cond t (c.loop-k.left - 1) c.loop-k.left) (sym (ne_eqb _ 32 w.if-words-k-eq32.false)))
+        | then-words-k-eq32 w ↦ more (w.left-is ∙ ap (λ (t : Bool). cond t (c.loop-k.left - 1) c.loop-k.left) (sym (eq-eqb _ 32 w.if-words-k-eq32.true)))
+        | else-words-k-eq32 w ↦ more (w.left-is ∙ ap (λ (t : Bool). cond t (c.loop-k.left - 1) c.loop-k.left) (sym (ne_eqb _ 32 w.if-words-k-eq32.false)))
       ],
     )
 

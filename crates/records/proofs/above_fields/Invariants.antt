@@ -1,5 +1,4 @@
-use Prim.Native.Nat.{◌+◌, ◌-◌, ◌≤◌, ◌<◌}
-use mathlib.Core.Path.{◌∙◌}
+use Prim.Native.Nat.{◌-◌}
 use Rattle.form.specs.Layout.{layout}
 use Rattle.form.proofs.Fields.{limiting, Looking}
 use Rattle.records.proofs.above_fields.Given as goal

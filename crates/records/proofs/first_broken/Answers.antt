@@ -1,5 +1,4 @@
-use Prim.Native.Nat.{◌-◌, ◌*◌, ◌≤◌}
-use mathlib.Core.Path.{◌≡◌, sym, ap, ◌∙◌}
+use mathlib.Core.Path.{sym, ap, ◌∙◌}
 use Rattle.form.specs.declared.Spot.TheVariants.{At}
 use Rattle.form.proofs.Search.{first-zero, first_at, part_none, part_found}
 use borrow.Author.Rules.{rules}

@@ -1,5 +1,5 @@
 use Prim.Native.Nat.{◌-◌, ◌*◌, ◌≤◌}
-use mathlib.Core.Path.{◌≡◌, ◌∙◌}
+use mathlib.Core.Path.{◌≡◌}
 use Rattle.form.specs.declared.Spot.TheVariants.{Nowhere}
 use Rattle.form.specs.First.{first}
 use Rattle.records.specs.Steps.{record_test}

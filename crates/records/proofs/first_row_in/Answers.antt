@@ -1,4 +1,4 @@
-use Prim.Native.Nat.{◌+◌, ◌-◌, ◌*◌, ◌≤◌}
+use Prim.Native.Nat.{◌+◌, ◌*◌}
 use mathlib.Core.Path.{◌≡◌, sym, ◌∙◌}
 use Rattle.records.specs.Steps.{row_test}
 use Rattle.form.proofs.Search.{first-zero, first_more, first_found, first_rest}

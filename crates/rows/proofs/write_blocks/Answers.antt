@@ -1,4 +1,4 @@
-use Prim.Native.Nat.{◌+◌, ◌-◌, ◌≤◌, ◌<◌}
+use Prim.Native.Nat.{◌+◌, ◌≤◌, ◌<◌}
 use lib.ListN.{length}
 use Rattle.form.specs.Layout.{kinds}
 use Rattle.form.proofs.EachKind.{kinds_are}
@@ -26,7 +26,7 @@ pub write_kind-requires : goal.write_kind-requires
 write_kind-requires c =
     let i = (let inside' : let v = c.loop-k in let a = c.args in (v.k < kinds) × (v.from + c.length_at-m.result ≤ length a.rows.now) = let v = c.loop-k in let h : v.k < kinds = search rules in (h, part_in c.args.rows.now v.k c.requires.good v.invariant.1.at h c.length_at-m.ensures.0) in inside') in
     let v = c.loop-k in
-    let a = c.args in record { kind_nonzero = (search rules, search rules); rows_bound = ( storing_room a.edition a.n a.lengths.now a.rows.now c.requires.good c.requires.n_value.0 v.invariant.1 i.0 c.length_at-m.ensures.0, search rules, search rules, ) }
+    let a = c.args in record { kind_nonzero = (search rules, search rules); rows_bound = (storing_room a.edition a.n a.lengths.now a.rows.now c.requires.good c.requires.n_value.0 v.invariant.1 i.0 c.length_at-m.ensures.0, search rules, search rules) }
 
 pub loop-k-preserved : goal.loop-k-preserved
 loop-k-preserved c =

@@ -1,4 +1,4 @@
-use mathlib.Core.Path.{refl, ◌∙◌}
+use mathlib.Core.Path.{refl}
 use Rattle.rows.proofs.Return.{written-long, no_room, all_done, on_front}
 use Rattle.rows.proofs.write_sound.Goals as goal
 

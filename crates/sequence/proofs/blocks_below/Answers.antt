@@ -1,5 +1,4 @@
-use Prim.Native.Nat.{◌≤◌, ◌-◌}
-use mathlib.Core.Path.{◌≡◌, sym}
+use mathlib.Core.Path.{sym}
 use Rattle.form.proofs.Counting.{blocks_none, blocks_more}
 use borrow.Author.Rules.{rules}
 use Rattle.sequence.proofs.blocks_below.Goals as goal

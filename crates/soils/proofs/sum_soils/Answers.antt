@@ -1,4 +1,3 @@
-use Prim.Native.Nat.{◌-◌, ◌≤◌}
 use mathlib.Core.Path.{◌≡◌, refl}
 use mathlib.Core.Bool.{false}
 use lib.Dec.{lit<, lit≤}
@@ -21,7 +20,7 @@ unfolding all_stocks sum_of
 loop-i-init c = (search rules, refl)
 
 pub stocks_at-requires : goal.stocks_at-requires
-stocks_at-requires c =  record { at_in_bounds = (let row' : Stands c.args.bytes.now 7 c.loop-i.i c.row_start.result = kind_row c.args.bytes.now c.args.c c.requires 7 (lit≤ tt) (omega (arith, kinds_are)) c.first_block-first.ensures.0 (search rules) c.row_start.ensures in row').inside; at_value = (let within' : above_limit soil (row_at soil c.args.bytes.now c.row_start.result) ≡ false = let w = (let row' : Stands c.args.bytes.now 7 c.loop-i.i c.row_start.result = kind_row c.args.bytes.now c.args.c c.requires 7 (lit≤ tt) (omega (arith, kinds_are)) c.first_block-first.ensures.0 (search rules) c.row_start.ensures in row') in rw (← w.row) (kept c.args.bytes.now c.args.c c.requires 7 c.loop-i.i (lit≤ tt) (omega (arith, kinds_are)) w.there) in within') }
+stocks_at-requires c = record { at_in_bounds = (let row' : Stands c.args.bytes.now 7 c.loop-i.i c.row_start.result = kind_row c.args.bytes.now c.args.c c.requires 7 (lit≤ tt) (omega (arith, kinds_are)) c.first_block-first.ensures.0 (search rules) c.row_start.ensures in row').inside; at_value = (let within' : above_limit soil (row_at soil c.args.bytes.now c.row_start.result) ≡ false = let w = (let row' : Stands c.args.bytes.now 7 c.loop-i.i c.row_start.result = kind_row c.args.bytes.now c.args.c c.requires 7 (lit≤ tt) (omega (arith, kinds_are)) c.first_block-first.ensures.0 (search rules) c.row_start.ensures in row') in rw (← w.row) (kept c.args.bytes.now c.args.c c.requires 7 c.loop-i.i (lit≤ tt) (omega (arith, kinds_are)) w.there) in within') }
 
 pub add_stocks-t-requires : goal.add_stocks-t-requires
 add_stocks-t-requires c =

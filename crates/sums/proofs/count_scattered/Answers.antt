@@ -1,5 +1,4 @@
-use Prim.Native.Nat.{◌-◌, ◌≤◌}
-use mathlib.Core.Path.{◌≡◌, ◌∙◌}
+use mathlib.Core.Path.{◌∙◌}
 use lib.Dec.{lit≤}
 use Rattle.form.specs.Sums.{sum_of, scattered_part}
 use Rattle.form.specs.Verdict.{counts_of}

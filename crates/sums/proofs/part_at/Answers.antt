@@ -2,10 +2,10 @@ use Rattle.sums.proofs.Parts.{no_part}
 use Rattle.sums.proofs.part_at.Goals as goal
 
 pub cleared_at-requires : goal.cleared_at-requires
-cleared_at-requires c =  record { at_in_bounds = c.requires.at_in_bounds; at_value = rw c.in-1.is at c.requires.at_value }
+cleared_at-requires c = record { at_in_bounds = c.requires.at_in_bounds; at_value = rw c.in-1.is at c.requires.at_value }
 
 pub land_at-requires : goal.land_at-requires
-land_at-requires c =  record { at_in_bounds = c.requires.at_in_bounds; at_value = rw c.in-5.is at c.requires.at_value }
+land_at-requires c = record { at_in_bounds = c.requires.at_in_bounds; at_value = rw c.in-5.is at c.requires.at_value }
 
 pub returns-in-1 : goal.returns-in-1
 returns-in-1 c = rw c.in-1.is c.cleared_at.ensures

@@ -5,7 +5,7 @@ use native.Mathlib.Omega.{arith}
 use Rattle.sums.proofs.sum_abandoned.Goals as goal
 
 pub sum_parts-requires : goal.sum_parts-requires
-sum_parts-requires c =  record { formed = c.requires; le_kind = (lit≤ tt, omega (arith, kinds_are)) }
+sum_parts-requires c = record { formed = c.requires; le_kind = (lit≤ tt, omega (arith, kinds_are)) }
 
 pub returns : goal.returns
 returns c = λ i. record { 0 = words c.sum_parts.ensures i }

@@ -1,4 +1,3 @@
-use Prim.Native.Nat.{◌-◌, ◌≤◌}
 use Rattle.form.specs.Sums.{sum_of}
 use Rattle.form.proofs.EachKind.{kinds_are}
 use Rattle.standing.proofs.Accepted.{few_counted}

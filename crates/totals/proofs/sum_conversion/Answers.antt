@@ -2,7 +2,6 @@ use Rattle.standing.proofs.Rows.{Stands, conversion-row, kept}
 use Rattle.totals.proofs.Accepted.{room, turn, all_summed}
 use Rattle.form.proofs.EachKind.{one_kind}
 use Rattle.form.specs.Sums.{sum_of}
-use Prim.Native.Nat.{◌-◌, ◌≤◌}
 use lib.Dec.{lit≤}
 use borrow.Author.Rules.{rules}
 use Rattle.totals.proofs.sum_conversion.Goals as goal

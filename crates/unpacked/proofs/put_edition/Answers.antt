@@ -18,9 +18,8 @@ put_byte-requires c =
     omega (arith, c.requires, number_short _ c.args.edition c.of.ensures.number (omega arith), c.put-a.ensures.place, c.put-a.auto.out, c.write-b.ensures.place, c.write-b.auto.out)
 
 pub returns : goal.returns
-returns c =
-    (
-      as_text (ap (λ (v : ℕ). (codes "edition," ++ decimal v) ++ 10 ∷ []) c.of.ensures.number)
-          (written-more (written-more c.put-a.ensures c.write-b.ensures) c.put_byte.ensures),
-      omega (arith, number_short _ c.args.edition c.of.ensures.number (omega arith), c.put-a.ensures.place, c.write-b.ensures.place, c.put_byte.ensures.place),
-    )
+returns c = (
+  as_text (ap (λ (v : ℕ). (codes "edition," ++ decimal v) ++ 10 ∷ []) c.of.ensures.number)
+      (written-more (written-more c.put-a.ensures c.write-b.ensures) c.put_byte.ensures),
+  omega (arith, number_short _ c.args.edition c.of.ensures.number (omega arith), c.put-a.ensures.place, c.write-b.ensures.place, c.put_byte.ensures.place),
+)

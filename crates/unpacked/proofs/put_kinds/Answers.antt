@@ -35,23 +35,23 @@ pub loop-k-init : goal.loop-k-init
 loop-k-init c = (kinds_are, search rules, sym (start_first _), refl, as_text (sym (lines_none _)) (nothing _ _), omega (arith, room_none))
 
 pub overflow_mul-first : goal.overflow_mul-first
-overflow_mul-first c = let h = (let here' : let v = c.loop-k in let a = c.args in Here a.bytes.now v.first v.k c.count_of-n.result = let v = c.loop-k in let a = c.args in let s = a.bytes.now in let acc = c.requires.0 in let h : v.k < kinds = search rules in let n : c.count_of-n.result ≡ row_count (suc v.k) s = rw (add-one v.k) at c.count_of-n.ensures ∙ counted s a.counts acc v.k h in record { kind = h; rows = n; few = rw n (few_rows s a.counts acc (suc v.k)); places = rw n (omega (arith, v.invariant.2, places_in s a.counts acc v.k h)); blocks = omega (arith, (whole-blocks s a.counts acc).1, v.invariant.0); } in here') in search rules
+overflow_mul-first c = let h = (let here' : let v = c.loop-k in let a = c.args in Here a.bytes.now v.first v.k c.count_of-n.result = let v = c.loop-k in let a = c.args in let s = a.bytes.now in let acc = c.requires.0 in let h : v.k < kinds = search rules in let n : c.count_of-n.result ≡ row_count (suc v.k) s = rw (add-one v.k) at c.count_of-n.ensures ∙ counted s a.counts acc v.k h in record { kind = h; rows = n; few = rw n (few_rows s a.counts acc (suc v.k)); places = rw n (omega (arith, v.invariant.2, places_in s a.counts acc v.k h)); blocks = omega (arith, (whole-blocks s a.counts acc).1, v.invariant.0) } in here') in search rules
 
 pub put_decoded-to-requires : goal.put_decoded-to-requires
 put_decoded-to-requires c =
     let v = c.loop-k in
-    let h = (let here' : let v = c.loop-k in let a = c.args in Here a.bytes.now v.first v.k c.count_of-n.result = let v = c.loop-k in let a = c.args in let s = a.bytes.now in let acc = c.requires.0 in let h : v.k < kinds = search rules in let n : c.count_of-n.result ≡ row_count (suc v.k) s = rw (add-one v.k) at c.count_of-n.ensures ∙ counted s a.counts acc v.k h in record { kind = h; rows = n; few = rw n (few_rows s a.counts acc (suc v.k)); places = rw n (omega (arith, v.invariant.2, places_in s a.counts acc v.k h)); blocks = omega (arith, (whole-blocks s a.counts acc).1, v.invariant.0); } in here') in
+    let h = (let here' : let v = c.loop-k in let a = c.args in Here a.bytes.now v.first v.k c.count_of-n.result = let v = c.loop-k in let a = c.args in let s = a.bytes.now in let acc = c.requires.0 in let h : v.k < kinds = search rules in let n : c.count_of-n.result ≡ row_count (suc v.k) s = rw (add-one v.k) at c.count_of-n.ensures ∙ counted s a.counts acc v.k h in record { kind = h; rows = n; few = rw n (few_rows s a.counts acc (suc v.k)); places = rw n (omega (arith, v.invariant.2, places_in s a.counts acc v.k h)); blocks = omega (arith, (whole-blocks s a.counts acc).1, v.invariant.0) } in here') in
     (omega arith, omega (arith, h.kind), h.few, h.places, omega (arith, c.requires.1, room_next v.k h.kind, v.invariant.3, v.invariant.5))
 
 pub overflow_add-first : goal.overflow_add-first
-overflow_add-first c = let h = (let here' : let v = c.loop-k in let a = c.args in Here a.bytes.now v.first v.k c.count_of-n.result = let v = c.loop-k in let a = c.args in let s = a.bytes.now in let acc = c.requires.0 in let h : v.k < kinds = search rules in let n : c.count_of-n.result ≡ row_count (suc v.k) s = rw (add-one v.k) at c.count_of-n.ensures ∙ counted s a.counts acc v.k h in record { kind = h; rows = n; few = rw n (few_rows s a.counts acc (suc v.k)); places = rw n (omega (arith, v.invariant.2, places_in s a.counts acc v.k h)); blocks = omega (arith, (whole-blocks s a.counts acc).1, v.invariant.0); } in here') in let b = c.blocks_for-first.ensures in search rules
+overflow_add-first c = let h = (let here' : let v = c.loop-k in let a = c.args in Here a.bytes.now v.first v.k c.count_of-n.result = let v = c.loop-k in let a = c.args in let s = a.bytes.now in let acc = c.requires.0 in let h : v.k < kinds = search rules in let n : c.count_of-n.result ≡ row_count (suc v.k) s = rw (add-one v.k) at c.count_of-n.ensures ∙ counted s a.counts acc v.k h in record { kind = h; rows = n; few = rw n (few_rows s a.counts acc (suc v.k)); places = rw n (omega (arith, v.invariant.2, places_in s a.counts acc v.k h)); blocks = omega (arith, (whole-blocks s a.counts acc).1, v.invariant.0) } in here') in let b = c.blocks_for-first.ensures in search rules
 
 pub loop-k-preserved : goal.loop-k-preserved
 loop-k-preserved c =
     let v = c.loop-k in
     let a = c.args in
     let s = a.bytes.now in
-    let h = (let here' : let v = c.loop-k in let a = c.args in Here a.bytes.now v.first v.k c.count_of-n.result = let v = c.loop-k in let a = c.args in let s = a.bytes.now in let acc = c.requires.0 in let h : v.k < kinds = search rules in let n : c.count_of-n.result ≡ row_count (suc v.k) s = rw (add-one v.k) at c.count_of-n.ensures ∙ counted s a.counts acc v.k h in record { kind = h; rows = n; few = rw n (few_rows s a.counts acc (suc v.k)); places = rw n (omega (arith, v.invariant.2, places_in s a.counts acc v.k h)); blocks = omega (arith, (whole-blocks s a.counts acc).1, v.invariant.0); } in here') in
+    let h = (let here' : let v = c.loop-k in let a = c.args in Here a.bytes.now v.first v.k c.count_of-n.result = let v = c.loop-k in let a = c.args in let s = a.bytes.now in let acc = c.requires.0 in let h : v.k < kinds = search rules in let n : c.count_of-n.result ≡ row_count (suc v.k) s = rw (add-one v.k) at c.count_of-n.ensures ∙ counted s a.counts acc v.k h in record { kind = h; rows = n; few = rw n (few_rows s a.counts acc (suc v.k)); places = rw n (omega (arith, v.invariant.2, places_in s a.counts acc v.k h)); blocks = omega (arith, (whole-blocks s a.counts acc).1, v.invariant.0) } in here') in
     let r : in_turn (row_on (v.k + 1) s) (12 * v.first) c.count_of-n.result ≡ rows_of s (v.k + 1) =
     rw (add-one v.k, v.invariant.2, h.rows) (rows_turn s a.counts c.requires.0 v.k h.kind) in
     let e : suc (v.k + 1) ≡ suc (suc v.k) = omega arith in (

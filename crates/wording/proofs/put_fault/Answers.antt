@@ -23,8 +23,7 @@ put_two-requires c = (search rules, omega (arith, c.requires))
 pub returns-in-Order : goal.returns-in-Order
 unfolding spaces
 returns-in-Order c =
-    let a = c.args in
-    (
+    let a = c.args in (
       rw c.in-Order.is (more-text (header_lines a.h) (number_line (codes "kind_before") c.in-Order.kind_before ∷ []) c.put_header-next.ensures.0 (as_text (one_text (codes "kind_before") c.in-Order.kind_before refl) c.put_one.ensures.0)),
       omega (arith, c.put_header-next.ensures.1, c.put_one.ensures.1),
     )
@@ -32,8 +31,7 @@ returns-in-Order c =
 pub returns-in-Unfilled : goal.returns-in-Unfilled
 unfolding spaces
 returns-in-Unfilled c =
-    let a = c.args in
-    (
+    let a = c.args in (
       rw c.in-Unfilled.is (more-text (header_lines a.h) (number_line (codes "kind_next") c.in-Unfilled.kind_next ∷ []) c.put_header-next-in-Unfilled.ensures.0 (as_text (one_text (codes "kind_next") c.in-Unfilled.kind_next refl) c.put_one-in-Unfilled.ensures.0)),
       omega (arith, c.put_header-next-in-Unfilled.ensures.1, c.put_one-in-Unfilled.ensures.1),
     )

@@ -19,13 +19,12 @@ put_weight-b-requires c =
 
 pub put_weight-requires : goal.put_weight-requires
 unfolding spaces
-put_weight-requires c =
-    (
-      search rules,
-      search rules,
-      search rules,
-      omega (arith, c.requires, c.put_weight-a.ensures.1, c.put_weight-b.ensures.1, c.put_weight-a.auto.out, c.put_weight-b.auto.out),
-    )
+put_weight-requires c = (
+  search rules,
+  search rules,
+  search rules,
+  omega (arith, c.requires, c.put_weight-a.ensures.1, c.put_weight-b.ensures.1, c.put_weight-a.auto.out, c.put_weight-b.auto.out),
+)
 
 pub returns : goal.returns
 unfolding spaces

@@ -13,14 +13,14 @@ use Rattle.national.proofs.parts.put_blocks.Goals as goal
 
 pub put_why-a-requires : goal.put_why-a-requires
 put_why-a-requires c =
-    omega (arith, c.requires, blocks-length c.args.position c.args.blocks, (let short' : length (stop_text c.args.position (Blocks c.args.blocks)) ≤ stop_room = omega ( arith, c.requires.0, blocks-length c.args.position c.args.blocks, stop-length c.args.position (codes "blocks "), decimal-length 2 c.args.position (omega (arith, c.requires.0)), decimal-length 9 c.args.blocks (omega arith), ) in short'))
+    omega (arith, c.requires, blocks-length c.args.position c.args.blocks, (let short' : length (stop_text c.args.position (Blocks c.args.blocks)) ≤ stop_room = omega (arith, c.requires.0, blocks-length c.args.position c.args.blocks, stop-length c.args.position (codes "blocks "), decimal-length 2 c.args.position (omega (arith, c.requires.0)), decimal-length 9 c.args.blocks (omega arith)) in short'))
 
 pub put_value-requires : goal.put_value-requires
 put_value-requires c =
     let n = blocks-length c.args.position c.args.blocks in
-    (c.plain.ensures.form, omega (arith, c.requires, n, (let short' : length (stop_text c.args.position (Blocks c.args.blocks)) ≤ stop_room = omega ( arith, c.requires.0, blocks-length c.args.position c.args.blocks, stop-length c.args.position (codes "blocks "), decimal-length 2 c.args.position (omega (arith, c.requires.0)), decimal-length 9 c.args.blocks (omega arith), ) in short'), c.put_why-a.auto.out, c.put_why-a.ensures.place, ended-length 10 c.plain.ensures.number))
+    (c.plain.ensures.form, omega (arith, c.requires, n, (let short' : length (stop_text c.args.position (Blocks c.args.blocks)) ≤ stop_room = omega (arith, c.requires.0, blocks-length c.args.position c.args.blocks, stop-length c.args.position (codes "blocks "), decimal-length 2 c.args.position (omega (arith, c.requires.0)), decimal-length 9 c.args.blocks (omega arith)) in short'), c.put_why-a.auto.out, c.put_why-a.ensures.place, ended-length 10 c.plain.ensures.number))
 
 pub returns : goal.returns
 returns c =
     let v = as_blocks c.args.position c.args.blocks _ c.plain.ensures.number (written-more c.put_why-a.ensures c.put_value.ensures) in
-    (v, omega (arith, v.place, (let short' : length (stop_text c.args.position (Blocks c.args.blocks)) ≤ stop_room = omega ( arith, c.requires.0, blocks-length c.args.position c.args.blocks, stop-length c.args.position (codes "blocks "), decimal-length 2 c.args.position (omega (arith, c.requires.0)), decimal-length 9 c.args.blocks (omega arith), ) in short')))
+    (v, omega (arith, v.place, (let short' : length (stop_text c.args.position (Blocks c.args.blocks)) ≤ stop_room = omega (arith, c.requires.0, blocks-length c.args.position c.args.blocks, stop-length c.args.position (codes "blocks "), decimal-length 2 c.args.position (omega (arith, c.requires.0)), decimal-length 9 c.args.blocks (omega arith)) in short')))

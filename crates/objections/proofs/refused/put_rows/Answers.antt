@@ -12,7 +12,7 @@ put_bad_list-requires c =
 
 pub put_whole-requires : goal.put_whole-requires
 put_whole-requires c =
- record { good = good _ _ _ (first_none _ (sym c.first_bad_list.ensures ∙ c.in-Nowhere.is)); at_in_bounds = omega (arith, c.requires.1) }
+    record { good = good _ _ _ (first_none _ (sym c.first_bad_list.ensures ∙ c.in-Nowhere.is)); at_in_bounds = omega (arith, c.requires.1) }
 
 pub returns-in-At : goal.returns-in-At
 returns-in-At c =

@@ -20,4 +20,4 @@ put_lines-requires c =
 pub returns : goal.returns
 unfolding flat_map listed
 returns c =
- record { written_at = lines-written c.args.f _ (full c.args.f refl c.put_numbers.ensures.written_at) c.put_lines.ensures; f_len_bound = (let short' : length (lines_of c.args.f) ≤ lines_room = lines-short c.args.f c.put_numbers.ensures.all_two_words in short') }
+    record { written_at = lines-written c.args.f _ (full c.args.f refl c.put_numbers.ensures.written_at) c.put_lines.ensures; f_len_bound = (let short' : length (lines_of c.args.f) ≤ lines_room = lines-short c.args.f c.put_numbers.ensures.all_two_words in short') }

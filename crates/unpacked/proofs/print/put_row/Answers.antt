@@ -39,13 +39,12 @@ put_field-to-requires c =
     )
 
 pub loop-i-preserved : goal.loop-i-preserved
-loop-i-preserved c =
-    (
-      search rules,
-      omega (arith, c.put_field-to.auto.out, c.put_byte-next.auto.out, c.loop-i.invariant.1),
-      as_text (tail_more c.args.kind c.args.row.now c.loop-i.i) (written-more c.loop-i.invariant.2 (written-more c.put_byte-next.ensures c.put_field-to.ensures.0)),
-      omega (arith, c.put_field-to.ensures.1, c.put_byte-next.ensures.place, c.loop-i.invariant.3),
-    )
+loop-i-preserved c = (
+  search rules,
+  omega (arith, c.put_field-to.auto.out, c.put_byte-next.auto.out, c.loop-i.invariant.1),
+  as_text (tail_more c.args.kind c.args.row.now c.loop-i.i) (written-more c.loop-i.invariant.2 (written-more c.put_byte-next.ensures c.put_field-to.ensures.0)),
+  omega (arith, c.put_field-to.ensures.1, c.put_byte-next.ensures.place, c.loop-i.invariant.3),
+)
 
 pub put_byte-requires : goal.put_byte-requires
 unfolding row_room

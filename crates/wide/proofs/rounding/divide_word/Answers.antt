@@ -1,4 +1,4 @@
-use Rattle.std.proofs.Common.{◌∙◌, arith}
+use Rattle.std.proofs.Common.{arith}
 use Rattle.wide.specs.Numbers.{value}
 use Rattle.wide.proofs.Laws.{is_as, value_low, value-high, divided}
 use Rattle.wide.proofs.rounding.divide_word.Goals as goal
