@@ -16,7 +16,7 @@ use Rattle.form.specs.Bytes.{number}
 use Rattle.form.specs.declared.Field.{Field}
 use Rattle.form.specs.Layout.{field, Layout, field_at, row_from, above_limit}
 use Rattle.form.proofs.Fields.{ends, field_in}
-use Rattle.reasons.specs.declared.records.Above.{Above}
+use Rattle.reasons.specs.declared.row_reasons.Above.{Above}
 use Rattle.reasons.specs.Above.{above, above_from, FirstAbove}
 
 -- ---- the loop over a record's fields: none above its limit among the first i, which end k bytes in

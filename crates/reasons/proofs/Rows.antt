@@ -23,7 +23,7 @@ use Rattle.form.specs.Verdict.{rows}
 use Rattle.areas.specs.Areas.{areas_of}
 use Rattle.areas.specs.declared.Areas.{Areas}
 use Rattle.reasons.specs.declared.Reason.TheVariants.{FractionsAbove, SoilUneven, ScatteredTrees}
-use Rattle.reasons.specs.declared.records.Above.{Above}
+use Rattle.reasons.specs.declared.row_reasons.Above.{Above}
 use Rattle.reasons.specs.Above.{above_from}
 use Rattle.reasons.specs.Reasons.{row_named, limit_by, limit_reason, fractions_by, fractions_reason, soil_by, soil_reason, trees_by, trees_reason}
 use Rattle.reasons.specs.Explains.{RowStands}

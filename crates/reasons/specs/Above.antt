@@ -1,7 +1,7 @@
 -- §7: "the field and its limit": the first field of a row above its limit.
 use Rattle.std.specs.Prelude.{ℕ, suc, ◌<◌, ◌≤◌, ◌≡◌, cond, List, [], ◌∷◌, length, get_or, drop, ltb}
 use Rattle.form.specs.Layout.{Layout, field_at}
-use Rattle.reasons.specs.declared.records.Above.{Above}
+use Rattle.reasons.specs.declared.row_reasons.Above.{Above}
 
 abbrev pub above : ℕ → ℕ → ℕ → Above
 above i v l = record { field = i; value = v; limit = l }

@@ -8,7 +8,7 @@ use Rattle.form.specs.Verdict.{rows}
 use Rattle.areas.specs.Place.{FirstOfLowest}
 use Rattle.faults.specs.declared.Fault.{Fault}
 use Rattle.faults.specs.Faults.{Faulty}
-use Rattle.reasons.specs.declared.records.Above.{Above}
+use Rattle.reasons.specs.declared.row_reasons.Above.{Above}
 use Rattle.reasons.specs.declared.Row.{Row}
 use Rattle.reasons.specs.declared.Reason.{Reason}
 use Rattle.reasons.specs.declared.Reason.TheVariants.{BadLength, BadCheck, BadHeader, BadBlock, IdBelow, FieldAbove, FractionsAbove, ClearedAbove, SoilUneven, ScatteredTrees}

@@ -11,7 +11,7 @@ use Rattle.form.specs.Verdict.{rows}
 use Rattle.form.specs.declared.Ruling.{Ruling}
 use Rattle.form.specs.declared.Ruling.TheVariants.{Broken}
 use Rattle.faults.specs.Faults.{fault_of}
-use Rattle.reasons.specs.declared.records.Above.{Above}
+use Rattle.reasons.specs.declared.row_reasons.Above.{Above}
 use Rattle.reasons.specs.declared.Header.{Header}
 use Rattle.reasons.specs.declared.Row.{Row}
 use Rattle.reasons.specs.declared.Reason.{Reason}

@@ -1,7 +1,7 @@
 // Why a return was refused: the values that clash at the refusal's place.
 #![tactic(auto)]
 
-mod records;
+mod row_reasons;
 
 ghost use Rattle.std.specs.Prelude.{◌≡◌, ◌^◌, ◌<◌, length};
 ghost use Rattle.form.specs.Block.{blocks};
@@ -9,7 +9,7 @@ ghost use Rattle.form.specs.Verdict.{counts_of, Formed, verdict_of};
 ghost use Rattle.form.specs.declared.Verdict.TheVariants.{Refused};
 ghost use Rattle.reasons.specs.Reasons.{header_of, check_reason, header_reason, block_reason, wood_reason, reason_of};
 
-use crate::records::{field_above, fractions_above, id_below, scattered_trees, soil_uneven};
+use crate::row_reasons::{field_above, fractions_above, id_below, scattered_trees, soil_uneven};
 use balance::weigh_wood;
 use faults::{Fault, first_fault};
 use form::{byte_at, check_due, four_at, two_at};

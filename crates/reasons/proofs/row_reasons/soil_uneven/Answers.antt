@@ -1,5 +1,5 @@
 use Rattle.reasons.proofs.Rows.{soil_there}
-use Rattle.reasons.proofs.records.soil_uneven.Goals as goal
+use Rattle.reasons.proofs.row_reasons.soil_uneven.Goals as goal
 
 pub returns : goal.returns
 returns c =

@@ -2,7 +2,7 @@ use Prim.Native.Nat.{◌-◌}
 use mathlib.Core.Path.{refl}
 use Rattle.form.specs.Records.{filed}
 use Rattle.reasons.proofs.Rows.{id_parts, id_there}
-use Rattle.reasons.proofs.records.id_below.Goals as goal
+use Rattle.reasons.proofs.row_reasons.id_below.Goals as goal
 
 pub overflow_sub-place : goal.overflow_sub-place
 overflow_sub-place c = (id_parts (filed c.args.bytes.now) c.args.place c.requires.1).1

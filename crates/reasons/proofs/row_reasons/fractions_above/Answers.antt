@@ -1,5 +1,5 @@
 use Rattle.reasons.proofs.Rows.{fractions_there}
-use Rattle.reasons.proofs.records.fractions_above.Goals as goal
+use Rattle.reasons.proofs.row_reasons.fractions_above.Goals as goal
 
 pub returns : goal.returns
 returns c =

@@ -1,7 +1,7 @@
 use mathlib.Core.Path.{sym, ◌∙◌}
 use Rattle.form.proofs.Numbers.{number_1}
 use Rattle.reasons.proofs.Rows.{trees_there}
-use Rattle.reasons.proofs.records.scattered_trees.Goals as goal
+use Rattle.reasons.proofs.row_reasons.scattered_trees.Goals as goal
 
 pub returns : goal.returns
 returns c =

@@ -4,7 +4,7 @@ use Rattle.form.specs.Layout.{numbers_of}
 use Rattle.form.proofs.Fields.{ends_40, Readable, field_readable}
 use Rattle.reasons.proofs.Above.{seeking_none, seeking_in, seeking_found, seeking_more, seeking_all}
 use native.Mathlib.Omega.{arith}
-use Rattle.reasons.proofs.records.first_above.Goals as goal
+use Rattle.reasons.proofs.row_reasons.first_above.Goals as goal
 
 pub loop-i-init : goal.loop-i-init
 loop-i-init c = seeking_none (ends_40 c.args.kind)

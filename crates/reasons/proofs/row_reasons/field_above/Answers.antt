@@ -1,5 +1,5 @@
 use Rattle.reasons.proofs.Rows.{limit_there}
-use Rattle.reasons.proofs.records.field_above.Goals as goal
+use Rattle.reasons.proofs.row_reasons.field_above.Goals as goal
 
 pub returns : goal.returns
 returns c =
