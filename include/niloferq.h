@@ -1,4 +1,4 @@
-/* Niloferq for programs in C. Link libdoor.a (`rt staticlib door` writes it to target/staticlib, for x86-64 Linux).
+/* Niloferq for programs in C. Link libdoor.a (`tools/library` writes it to target/staticlib, for x86-64 Linux).
  *
  * What every call asks of its caller, since nothing checks C:
  *   - a pointer and the length after it belong together: that many elements can be read there, and, where the pointer is not to

@@ -80,46 +80,62 @@ crates_needed() { # CRATE
     tac "$home/crates.txt" | awk -v crate="$1" '{ sub(":", "", $1) } $1 == crate || $1 in needed { n++; for (i = 2; i <= NF; i++) needed[$i] } END { print n }'
 }
 
-# A line on standard error for each crate that `rt` says it has proved.
+# A line on standard error for each crate that `rt` says it has proved: first it names the crate, and then that the logic was.
 tell_progress() { # CRATE
-    local line proved=0 all
+    local line crate="" proved=0 all
     all=$(crates_needed "$1")
     while IFS= read -r line; do
-        if [[ $line == "rt: "*" proved ("* ]]; then
-            proved=$((proved + 1))
-            say "$proved of $all: ${line#rt: }"
-        elif [[ $line == "rt: target/staticlib/"* ]]; then # of a library's own crate rt says no more than this
-            say "$all of $all: $1 proved, and the library made"
-        fi
+        case $line in
+            "crate "*": modules "*) crate=${line#crate } crate=${crate%%:*} ;;
+            "logic=proved "*)
+                proved=$((proved + 1))
+                say "$proved of $all: $crate proved"
+                ;;
+            "rt: waiting for another rt "*) say "${line#rt: }" ;;
+        esac
     done
 }
 
 # Made after the last change of a source, a file *.rt, which has the code: definitions and proofs stand in other files and are no part of what is made.
 up_to_date() { # FILE
     ! is_installed || return 0
-    [ -e "$1" ] && [ -z "$(find "$home/crates" -name '*.rt' -newer "$1" -print -quit)" ]
+    [ -e "$1" ] && [ -z "$(find "$home/crates" -name out -prune -o -name '*.rt' -newer "$1" -print -quit)" ]
+}
+
+# rt leaves what it makes in the crate's folder, out/. These copy it whole, and only once rt has said that it is made: what was cut off is never taken.
+
+# A program. rt runs it as well, here on no input, and then ends with its status; what rt itself says is on standard error.
+make_program() { # CRATE FILE LOG
+    { (cd "$home/crates/$1" && rt run </dev/null 2>&1 >/dev/null 8>&-) || true; } | tee "$3" | tell_progress "$1"
+    grep -q "^rt: running out/$1;" "$3" && copy_whole "$home/crates/$1/out/$1" "$2"
+}
+
+make_archive() { # CRATE FILE LOG
+    (cd "$home/crates/$1" && rt lib </dev/null 2>&1 8>&-) | tee "$3" | tell_progress "$1" && copy_whole "$home/crates/$1/out/lib$1.a" "$2"
+}
+
+# The copy has the time at which it was asked for, so that a source changed meanwhile is newer.
+copy_whole() { # FILE PLACE
+    mkdir -p "$(dirname "$2")" && cp "$1" "$2.$$" && touch -r "$asked" "$2.$$" && mv -f "$2.$$" "$2"
 }
 
 # Proves a crate and what it stands on, and compiles it, where a source has changed since.
-prove() { # CRATE FILE, which is made; then the words for rt
-    local crate=$1 made=$2 log=$home/target/$1.log asked=$home/target/$1.asked
-    shift 2
+prove() { # CRATE MAKE FILE: one of the two above, and what it makes
+    local crate=$1 make=$2 made=$3 log=$home/target/$1.log asked=$home/target/$1.asked
     ! up_to_date "$made" || return 0
     command -v rt >/dev/null || fail "rt, the Rattle kit, is missing: it proves and compiles this the first time"
     { mkdir -p "$home/target" && exec 8>"$home/target/building"; } 2>/dev/null || fail "cannot write $home/target"
-    # two of rt at once would spoil each other's files
     flock -n 8 || { say "another command is proving here: waiting for it"; flock 8; }
     if ! up_to_date "$made"; then
         touch "$asked"
         say "proving and compiling what has changed; the first time this takes some minutes"
-        (cd "$home" && rt "$@" 2>&1 8>&-) | tee "$log" | tell_progress "$crate" || { cat "$log" >&2; exit 1; }
-        touch -r "$asked" "$made" # rt leaves its date where a source only got a new one
+        $make "$crate" "$made" "$log" || { cat "$log" >&2; exit 1; }
     fi
     exec 8>&-
 }
 
 # The library for C, one for all commands.
-make_library() { prove door "$home/target/staticlib/libdoor.a" staticlib door; }
+make_library() { prove door_c make_archive "$home/target/staticlib/libdoor.a"; }
 
 # The compiler and the emulator. An installed command needs the emulator alone, and that on another processor than x86-64 alone.
 find_machine() {
@@ -151,7 +167,7 @@ run_proved() { # PROGRAM FILE [HAND_ON]
     local program=$home/target/bin/$1 said status=0
     { : 3>&1; } 2>/dev/null || fail "standard output is closed"
     [ "$2" = - ] || exec <"$2" || exit 1
-    prove "$1" "$program" check "$1" </dev/null
+    prove "$1" make_program "$program" </dev/null
     find_machine </dev/null
     { said=$(${3-} $machine_runner "$program" 2>&1 >&3 3>&-) || status=1; } 3>&1
     if [ -n "$said" ]; then
