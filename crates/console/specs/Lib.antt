@@ -1,1 +1,3 @@
+pub mod Counts
+pub mod Input
 pub mod Within

@@ -9,11 +9,12 @@ use explained::{EXPLAIN_ROOM, explain_lines};
 use form::LONGEST;
 
 // Room of EXPLAIN_ROOM bytes is never too short for the text.
-fn print(bytes: &[u8], room: &mut [u8])
+fn print(rt: &HostRuntime, bytes: &[u8], room: &mut [u8])
     requires { explain_room ≤ length room.old }
 {
     let done = explain_lines(bytes, room);
     console::print(
+        rt,
         room,
         done,
         b"explain: standard output did not take all the lines\n",
@@ -21,13 +22,13 @@ fn print(bytes: &[u8], room: &mut [u8])
 }
 
 // One byte more than the longest return is taken, so that a longer input is refused for its length.
-fn main() {
+fn main(rt: HostRuntime) {
     let mut bytes = [0u8; LONGEST + 1];
-    let taken = take(&mut bytes, b"explain: the input could not be read\n");
+    let taken = take(&rt, &mut bytes, b"explain: the input could not be read\n");
     if !taken.whole {
         return;
     }
     let n = taken.count;
     let mut room = [0u8; EXPLAIN_ROOM];
-    print(&bytes[..n], &mut room);
+    print(&rt, &bytes[..n], &mut room);
 }

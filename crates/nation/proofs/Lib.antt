@@ -1,1 +1,3 @@
-mod Counting
+pub mod Counting
+pub mod Filling
+pub mod Running

@@ -14,20 +14,21 @@ use packing::{Packing, pack};
 const TEXT_ROOM: usize = 131073;
 
 // Room of WHY_ROOM bytes is never too short for the text.
-fn refuse(text: &[u8], room: &mut [u8])
+fn refuse(rt: &HostRuntime, text: &[u8], room: &mut [u8])
     requires { why_room ≤ length room.old }
 {
     let done = say_why(text, room);
-    complain(room, done);
+    complain(rt, room, done);
 }
 
 // Room of LONGEST bytes is never too short for a return.
-fn hand_out(text: &[u8], room: &mut [u8], size: &mut [u32])
+fn hand_out(rt: &HostRuntime, text: &[u8], room: &mut [u8], size: &mut [u32])
     requires { (longest ≤ length room.old) × (1 ≤ length size.old) }
 {
     match pack(text, room, size) {
         Packing::Packed => {
             put_sized(
+                rt,
                 room,
                 size,
                 b"pack: standard output did not take the whole return\n",
@@ -35,19 +36,19 @@ fn hand_out(text: &[u8], room: &mut [u8], size: &mut [u32])
         }
         _ => {
             let mut why = [0u8; WHY_ROOM];
-            refuse(text, &mut why);
+            refuse(rt, text, &mut why);
         }
     }
 }
 
-fn main() {
+fn main(rt: HostRuntime) {
     let mut text = [0u8; TEXT_ROOM];
-    let taken = take(&mut text, b"pack: the input could not be read\n");
+    let taken = take(&rt, &mut text, b"pack: the input could not be read\n");
     if !taken.whole {
         return;
     }
     let n = taken.count;
     let mut room = [0u8; LONGEST];
     let mut size = [0u32; 1];
-    hand_out(&text[..n], &mut room, &mut size);
+    hand_out(&rt, &text[..n], &mut room, &mut size);
 }

@@ -9,11 +9,12 @@ use form::LONGEST;
 use report::LINES_ROOM;
 
 // Room of LINES_ROOM bytes is never too short for the text.
-fn print(bytes: &[u8], room: &mut [u8])
+fn print(rt: &HostRuntime, bytes: &[u8], room: &mut [u8])
     requires { lines_room ≤ length room.old }
 {
     let done = report::lines(bytes, room);
     console::print(
+        rt,
         room,
         done,
         b"sheets: standard output did not take all the lines\n",
@@ -21,13 +22,13 @@ fn print(bytes: &[u8], room: &mut [u8])
 }
 
 // One byte more than the longest return is taken, so that a longer input is refused for its length.
-fn main() {
+fn main(rt: HostRuntime) {
     let mut bytes = [0u8; LONGEST + 1];
-    let taken = take(&mut bytes, b"sheets: the input could not be read\n");
+    let taken = take(&rt, &mut bytes, b"sheets: the input could not be read\n");
     if !taken.whole {
         return;
     }
     let n = taken.count;
     let mut room = [0u8; LINES_ROOM];
-    print(&bytes[..n], &mut room);
+    print(&rt, &bytes[..n], &mut room);
 }

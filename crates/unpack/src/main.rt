@@ -11,20 +11,21 @@ use form::{LONGEST, Ruling};
 use unpacked::{UNPACK_ROOM, unpack};
 
 // Room of EXPLAIN_ROOM bytes is never too short for the text.
-fn refuse(bytes: &[u8], room: &mut [u8])
+fn refuse(rt: &HostRuntime, bytes: &[u8], room: &mut [u8])
     requires { explain_room ≤ length room.old }
 {
     let done = explain_lines(bytes, room);
-    complain(room, done);
+    complain(rt, room, done);
 }
 
 // Room of UNPACK_ROOM bytes is never too short for a return's rows.
-fn hand_out(bytes: &[u8], room: &mut [u8], size: &mut [u32])
+fn hand_out(rt: &HostRuntime, bytes: &[u8], room: &mut [u8], size: &mut [u32])
     requires { (unpack_room ≤ length room.old) × (1 ≤ length size.old) }
 {
     match unpack(bytes, room, size) {
         Ruling::Clean => {
             put_sized(
+                rt,
                 room,
                 size,
                 b"unpack: standard output did not take all the rows\n",
@@ -35,20 +36,20 @@ fn hand_out(bytes: &[u8], room: &mut [u8], size: &mut [u32])
             place: _,
         } => {
             let mut why = [0u8; EXPLAIN_ROOM];
-            refuse(bytes, &mut why);
+            refuse(rt, bytes, &mut why);
         }
     }
 }
 
 // One byte more than the longest return is taken, so that a longer input is refused for its length.
-fn main() {
+fn main(rt: HostRuntime) {
     let mut bytes = [0u8; LONGEST + 1];
-    let taken = take(&mut bytes, b"unpack: the input could not be read\n");
+    let taken = take(&rt, &mut bytes, b"unpack: the input could not be read\n");
     if !taken.whole {
         return;
     }
     let n = taken.count;
     let mut room = [0u8; UNPACK_ROOM];
     let mut size = [0u32; 1];
-    hand_out(&bytes[..n], &mut room, &mut size);
+    hand_out(&rt, &bytes[..n], &mut room, &mut size);
 }
