@@ -35,7 +35,8 @@ use Rattle.wide.specs.Numbers.{value, words_of}
 use Rattle.wide.specs.Signs.{amount}
 use Rattle.listed.specs.Listed.{listed, figure_count, figure_at}
 use Rattle.cases.specs.FromRows.{rows_given}
-use Rattle.cases.specs.Cases.{Complete, Case, complete_of, case_of, refused, largest, wheat, with_land, entries, works_out, wanted, table, all_worked, all_answered}
+use Rattle.cases.specs.Cases.{Complete, Case, complete_of, case_of, refused, largest, wheat, with_land, entries, works_out, wanted, table}
+use Rattle.cases.proofs.Answered.{all_worked, all_answered}
 
 -- case number i of the table, and what its sheets are answered
 abbrev pub nth : ℕ → Case

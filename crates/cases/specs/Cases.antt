@@ -1,7 +1,6 @@
 -- "Proved as a single table, under one claim about all of it": 01's cases (a) to (j), eight of edition 2, four of halves, one of a row thinner in both periods, one of the largest savannas, two of wood, three of mineral soils, two of number 13, nine of scattered trees and number 14 one of where every tonne went and three of crop residues, each a whole return with its complete answer, every figure of it.
 -- Where the case is about rows, the return is made of them by the definition of writing; where it is about bytes, the bytes stand here. An accepted return of rows is answered from the rows (FromRows), any other from its bytes.
-use Rattle.std.specs.Prelude.{ℕ, zero, suc, ◌≡◌, refl, length, get_or, replicate, take, drop, ℤ, pos, negsuc}
-use Rattle.std.proofs.Common.{ap, ap₂, ◌∙◌}
+use Rattle.std.specs.Prelude.{ℕ, zero, suc, ◌≡◌, refl, length, replicate, take, drop, ℤ, pos, negsuc}
 use mathlib.Core.List.{List, [], ◌∷◌, ◌++◌, map, flatten}
 use Rattle.std.specs.Float.{binary64}
 use Rattle.std.specs.Float.Ieee.{add, mul, of_int, to_bits}
@@ -49,7 +48,7 @@ use Rattle.worksheets.specs.Answers.{Outcome, worked, refusal, outcome_of}
 use Rattle.doubles.specs.Subtotals.{onsite_double, offsite_double, decay_double, add_rows, subtotals_of, answer_of}
 use Rattle.doubles.specs.declared.Answer.{Answer}
 use Rattle.doubles.specs.declared.Answer.TheVariants.{Figures, Refused}
-use Rattle.cases.specs.FromRows.{rows_given, sheets_from_rows, doubles_from_rows}
+use Rattle.cases.specs.FromRows.{rows_given}
 
 -- a complete answer: the sheets, or the refusal; and the bits of the three doubles, on site, off site and decayed, or none
 pub record Complete : Type 0 where
@@ -251,7 +250,7 @@ twice_thinner = 1 ∷ 7 ∷ 49 ∷ 100 ∷ 500 ∷ 900 ∷ 450 ∷ 300 ∷ 900 �
 abbrev burned : ℕ → ℕ → Lists
 burned area young = row 1 area 1 0 250 ∷ [] ∷ [] ∷ defaults ∷ (1 ∷ young ∷ 10 ∷ 100 ∷ 0 ∷ 0 ∷ 0 ∷ []) ∷ [] ∷ [] ∷ [] ∷ []
 
-abbrev table01 : List Entry
+abbrev pub table01 : List Entry
 table01 =
     -- (a) "this day"
     worked_cleared 1 (cut day_lengths day_area)
@@ -291,7 +290,7 @@ table01 =
     ∷ []
 
 -- and of edition 2
-abbrev table_1 : List Entry
+abbrev pub table_1 : List Entry
 table_1 =
     -- the day in edition 2 with a row of grass, which is thinner in its one period, one of scattered trees, one of abandoned land, 34 + 27 kt C by 11/3, one of savanna, two of soil and one of wheat: (a)'s figures, with 1.35 kt C
     -- more of growth, and
@@ -332,7 +331,7 @@ table_1 =
     ∷ []
 
 -- and of halves, which go to the even neighbour
-abbrev table_2 : List Entry
+abbrev pub table_2 : List Entry
 table_2 =
     -- "P = 4,500,000 then gives 16, not 17"; and below zero
     worked_out 1 (grown (1 ∷ 0 ∷ 100 ∷ 45 ∷ 10 ∷ [])) (sheet51 45000 0 0 (pos 0) (pos 0) (pos 4500000) (pos 16) (negsuc 15)) none52 none53 none54 zeros
@@ -344,11 +343,11 @@ table_2 =
     ∷ []
 
 -- a row thinner in both periods counts 2
-abbrev table_3 : List Entry
+abbrev pub table_3 : List Entry
 table_3 = worked_out 1 (converted twice_thinner) none51 (thin52 2) none53 none54 zeros ∷ []
 
 -- 32 of the largest savanna rows: 10^22 each, beyond one word
-abbrev table_5 : List Entry
+abbrev pub table_5 : List Entry
 table_5 =
     worked_all 2 ([] ∷ [] ∷ [] ∷ defaults ∷ [] ∷ largest_fires 1 32 ∷ [] ∷ [] ∷ []) none51 none52 none53 none54
     (sheet43 320000000000000000000000 426666666667 746666666667 502857142857 1051428571429)
@@ -360,7 +359,7 @@ table_5 =
     ∷ []
 
 -- wood cleared as much as used passes, and M is 0; one more is refused 12
-abbrev table_8 : List Entry
+abbrev pub table_8 : List Entry
 table_8 =
     worked_cleared 1 (cleared (wood 100 1 0 1 0) (used 1)) (sheet51 0 1 100 (pos 0) (pos 0) (pos 0) (pos 0) (pos 0)) none52 none53 none54 (masses 0 0 0 100000 99900000) zeros
     ∷ refused (written 1 (cleared (wood 101 1 0 1 0) (used 1))) 12 0
@@ -374,7 +373,7 @@ abbrev soiled : List ℕ → ℤ → ℤ → Entry
 soiled rows g c = worked_all 2 (soil-rows rows) none51 none52 none53 none54 none43 (sheet55 g c) 0 none13 none44 zeros
 
 -- below zero too a half of a year's change goes to even: from -2.5 to -2, from -1.5 to -2, and from -0.5 to 0, which has no sign
-abbrev table_11 : List Entry
+abbrev pub table_11 : List Entry
 table_11 =
     soiled (lost 5) (negsuc 499999) (negsuc 1)
     ∷ soiled (lost 3) (negsuc 299999) (negsuc 1)
@@ -382,7 +381,7 @@ table_11 =
     ∷ []
 
 -- of three stock rows, two are of scattered trees; their carbon counts as that of land does
-abbrev table_12 : List Entry
+abbrev pub table_12 : List Entry
 table_12 =
     worked_all 1 (grown (trees 1 ++ ((2 ∷ 0 ∷ 100 ∷ 15 ∷ 10 ∷ []) ++ trees 3)))
     (sheet51 27015000 0 0 (pos 0) (pos 0) (pos 2701500000) (pos 9906) (negsuc 9905)) none52 none53 none54 none43 none55 2 none13 none44 zeros
@@ -392,7 +391,7 @@ table_12 =
 abbrev patch : ℕ → ℕ → ℕ → ℕ → List ℕ
 patch i type area before = i ∷ 1 ∷ type ∷ area ∷ before ∷ 700 ∷ 100 ∷ 100 ∷ 100 ∷ []
 
-abbrev table_13 : List Entry
+abbrev pub table_13 : List Entry
 table_13 =
     -- 13 at a type that is not the first in the return, and with a lower one in balance; its first row is the place, though that row does not differ by itself
     refused (written 2 (soil-rows (patch 1 3 9 10 ++ (patch 2 8 4 4 ++ (patch 3 3 6 5 ++ patch 4 8 2 3))))) 13 13
@@ -410,7 +409,7 @@ growing edition code =
     worked_all edition (grown (stock_of 1 code)) (sheet51 15000 0 0 (pos 0) (pos 0) (pos 1500000) (pos 6) (negsuc 5)) none52 none53 none54 none43 none55 code none13 none44 zeros
 
 -- "Edition 3 has no unit code 1"
-abbrev table_14 : List Entry
+abbrev pub table_14 : List Entry
 table_14 =
     -- scattered trees are worked out in editions 1 and 2, and land in edition 3
     growing 1 1
@@ -432,7 +431,7 @@ table_14 =
 abbrev parted : List ℕ
 parted = 1 ∷ 3 ∷ 20 ∷ 10 ∷ 500 ∷ 900 ∷ 0 ∷ 300 ∷ 800 ∷ 0 ∷ 7 ∷ 9 ∷ 2 ∷ 100 ∷ 0 ∷ 2 ∷ 5 ∷ 49 ∷ 100 ∷ 500 ∷ 900 ∷ 0 ∷ 300 ∷ 800 ∷ 0 ∷ 0 ∷ 0 ∷ 0 ∷ 0 ∷ 0 ∷ []
 
-abbrev table_tonnes : List Entry
+abbrev pub table_tonnes : List Entry
 table_tonnes =
     worked_cleared 1 (cleared parted (used 90)) (sheet51 0 90 9000 (pos 0) (pos 0) (pos 0) (pos 0) (pos 0)) (thin52 1) none53 none54
     (masses 13500000 1500000 7200000 1800000 6000000) zeros
@@ -442,7 +441,7 @@ table_tonnes =
 abbrev crop-rows : List ℕ → Lists
 crop-rows rows = [] ∷ [] ∷ [] ∷ defaults ∷ [] ∷ [] ∷ [] ∷ rows ∷ []
 
-abbrev table_44 : List Entry
+abbrev pub table_44 : List Entry
 table_44 =
     worked_all 2 (crop-rows (largest_crops 1 32)) none51 none52 none53 none54 none43 none55 0 none13
     (sheet44 3200000000000000000000000 426666666667 746666666667 502857142857 1051428571429)
@@ -468,98 +467,57 @@ works_out (of_bytes s a) = (Clean, complete_of s)
 abbrev pub wanted : Entry → Ruling × Complete
 wanted e = (Clean, (case_of e).answer)
 
-due_said : (e : Entry) → works_out e ≡ wanted e → complete_of (case_of e).bytes ≡ (case_of e).answer
-due_said (of_rows edition l a) p =
-    let clean = ap (λ (x : Ruling × Complete). x.0) p in
-    ap₂ (λ (o : Outcome) (d : Answer). record { sheets = o; doubles = bits_of d }) (sheets_from_rows edition l clean) (doubles_from_rows edition l clean)
-    ∙ ap (λ (x : Ruling × Complete). x.1) p
-due_said (of_bytes s a) p = ap (λ (x : Ruling × Complete). x.1) p
-
 -- what is to be answered, and what is written beside it
-abbrev due_of : Case → Complete
+abbrev pub due_of : Case → Complete
 due_of c = complete_of c.bytes
 
-abbrev said : Case → Complete
+abbrev pub said : Case → Complete
 said c = c.answer
 
--- case by case along the list
-in_turn_lem : (es : List Entry) → map works_out es ≡ map wanted es → map due_of (map case_of es) ≡ map said (map case_of es)
-in_turn_lem [] p = refl
-in_turn_lem (e ∷ es) p =
-    ap₂ (λ (x : Complete) (xs : List Complete). x ∷ xs)
-    (due_said e (ap (λ (l : List (Ruling × Complete)). get_or l 0 (wanted e)) p))
-    (in_turn_lem es (ap (λ (l : List (Ruling × Complete)). drop 1 l) p))
-
--- two parts of the table side by side
-joined : (es ds : List Entry) → map works_out es ≡ map wanted es → map works_out ds ≡ map wanted ds → map works_out (es ++ ds) ≡ map wanted (es ++ ds)
-joined [] ds p q = q
-joined (e ∷ es) ds p q =
-    ap₂ (λ (x : Ruling × Complete) (xs : List (Ruling × Complete)). x ∷ xs)
-    (ap (λ (l : List (Ruling × Complete)). get_or l 0 (wanted e)) p)
-    (joined es ds (ap (λ (l : List (Ruling × Complete)). drop 1 l) p) q)
-
-worked01 : map works_out table01 ≡ map wanted table01
+pub worked01 : map works_out table01 ≡ map wanted table01
 unfolding to_bits of_int mul add onsite_double offsite_double decay_double add_rows largest largest_fires blocks_from computed cut filed_list behind filed_from little_endian record_from in_turn head_of sealed weighed record_on used_from body_of block_of bytes_of rows_below row_from number even_of settled sum_of scattered_part stock_part harvest_part cleared_part onsite_part offsite_part decay_part counted_difference thinner_part stocks_of conversion_of gases_of abandoned_of abandoned_part savannas_of rows_from flatten total bad_list bad_lengths not_allowed list_rules carbon_share carbon_part value words_of totals_of entered released_of burned_by soil_carbon stock_now stock_then all_stocks soils_of lost_biomass oxidised_onsite_part charcoal_onsite_part oxidised_offsite_part charcoal_offsite_part unburned_part matter_of largest_crops residue_carbon crops_of
 worked01 = refl
 
-worked_1 : map works_out table_1 ≡ map wanted table_1
+pub worked_1 : map works_out table_1 ≡ map wanted table_1
 unfolding to_bits of_int mul add onsite_double offsite_double decay_double add_rows largest largest_fires blocks_from computed cut filed_list behind filed_from little_endian record_from in_turn head_of sealed weighed record_on used_from body_of block_of bytes_of rows_below row_from number even_of settled sum_of scattered_part stock_part harvest_part cleared_part onsite_part offsite_part decay_part counted_difference thinner_part stocks_of conversion_of gases_of abandoned_of abandoned_part savannas_of rows_from flatten total bad_list bad_lengths not_allowed list_rules carbon_share carbon_part value words_of totals_of entered released_of burned_by soil_carbon stock_now stock_then all_stocks soils_of lost_biomass oxidised_onsite_part charcoal_onsite_part oxidised_offsite_part charcoal_offsite_part unburned_part matter_of largest_crops residue_carbon crops_of
 worked_1 = refl
 
-worked_2 : map works_out table_2 ≡ map wanted table_2
+pub worked_2 : map works_out table_2 ≡ map wanted table_2
 unfolding to_bits of_int mul add onsite_double offsite_double decay_double add_rows largest largest_fires blocks_from computed cut filed_list behind filed_from little_endian record_from in_turn head_of sealed weighed record_on used_from body_of block_of bytes_of rows_below row_from number even_of settled sum_of scattered_part stock_part harvest_part cleared_part onsite_part offsite_part decay_part counted_difference thinner_part stocks_of conversion_of gases_of abandoned_of abandoned_part savannas_of rows_from flatten total bad_list bad_lengths not_allowed list_rules carbon_share carbon_part value words_of totals_of entered released_of burned_by soil_carbon stock_now stock_then all_stocks soils_of lost_biomass oxidised_onsite_part charcoal_onsite_part oxidised_offsite_part charcoal_offsite_part unburned_part matter_of largest_crops residue_carbon crops_of
 worked_2 = refl
 
-worked_3 : map works_out table_3 ≡ map wanted table_3
+pub worked_3 : map works_out table_3 ≡ map wanted table_3
 unfolding to_bits of_int mul add onsite_double offsite_double decay_double add_rows largest largest_fires blocks_from computed cut filed_list behind filed_from little_endian record_from in_turn head_of sealed weighed record_on used_from body_of block_of bytes_of rows_below row_from number even_of settled sum_of scattered_part stock_part harvest_part cleared_part onsite_part offsite_part decay_part counted_difference thinner_part stocks_of conversion_of gases_of abandoned_of abandoned_part savannas_of rows_from flatten total bad_list bad_lengths not_allowed list_rules carbon_share carbon_part value words_of totals_of entered released_of burned_by soil_carbon stock_now stock_then all_stocks soils_of lost_biomass oxidised_onsite_part charcoal_onsite_part oxidised_offsite_part charcoal_offsite_part unburned_part matter_of largest_crops residue_carbon crops_of
 worked_3 = refl
 
-worked_5 : map works_out table_5 ≡ map wanted table_5
+pub worked_5 : map works_out table_5 ≡ map wanted table_5
 unfolding to_bits of_int mul add onsite_double offsite_double decay_double add_rows largest largest_fires blocks_from computed cut filed_list behind filed_from little_endian record_from in_turn head_of sealed weighed record_on used_from body_of block_of bytes_of rows_below row_from number even_of settled sum_of scattered_part stock_part harvest_part cleared_part onsite_part offsite_part decay_part counted_difference thinner_part stocks_of conversion_of gases_of abandoned_of abandoned_part savannas_of rows_from flatten total bad_list bad_lengths not_allowed list_rules carbon_share carbon_part value words_of totals_of entered released_of burned_by soil_carbon stock_now stock_then all_stocks soils_of lost_biomass oxidised_onsite_part charcoal_onsite_part oxidised_offsite_part charcoal_offsite_part unburned_part matter_of largest_crops residue_carbon crops_of
 worked_5 = refl
 
-worked_8 : map works_out table_8 ≡ map wanted table_8
+pub worked_8 : map works_out table_8 ≡ map wanted table_8
 unfolding to_bits of_int mul add onsite_double offsite_double decay_double add_rows largest largest_fires blocks_from computed cut filed_list behind filed_from little_endian record_from in_turn head_of sealed weighed record_on used_from body_of block_of bytes_of rows_below row_from number even_of settled sum_of scattered_part stock_part harvest_part cleared_part onsite_part offsite_part decay_part counted_difference thinner_part stocks_of conversion_of gases_of abandoned_of abandoned_part savannas_of rows_from flatten total bad_list bad_lengths not_allowed list_rules carbon_share carbon_part value words_of totals_of entered released_of burned_by soil_carbon stock_now stock_then all_stocks soils_of lost_biomass oxidised_onsite_part charcoal_onsite_part oxidised_offsite_part charcoal_offsite_part unburned_part matter_of largest_crops residue_carbon crops_of
 worked_8 = refl
 
-worked_11 : map works_out table_11 ≡ map wanted table_11
+pub worked_11 : map works_out table_11 ≡ map wanted table_11
 unfolding to_bits of_int mul add onsite_double offsite_double decay_double add_rows largest largest_fires blocks_from computed cut filed_list behind filed_from little_endian record_from in_turn head_of sealed weighed record_on used_from body_of block_of bytes_of rows_below row_from number even_of settled sum_of scattered_part stock_part harvest_part cleared_part onsite_part offsite_part decay_part counted_difference thinner_part stocks_of conversion_of gases_of abandoned_of abandoned_part savannas_of rows_from flatten total bad_list bad_lengths not_allowed list_rules carbon_share carbon_part value words_of totals_of entered released_of burned_by soil_carbon stock_now stock_then all_stocks soils_of lost_biomass oxidised_onsite_part charcoal_onsite_part oxidised_offsite_part charcoal_offsite_part unburned_part matter_of largest_crops residue_carbon crops_of
 worked_11 = refl
 
-worked_12 : map works_out table_12 ≡ map wanted table_12
+pub worked_12 : map works_out table_12 ≡ map wanted table_12
 unfolding to_bits of_int mul add onsite_double offsite_double decay_double add_rows largest largest_fires blocks_from computed cut filed_list behind filed_from little_endian record_from in_turn head_of sealed weighed record_on used_from body_of block_of bytes_of rows_below row_from number even_of settled sum_of scattered_part stock_part harvest_part cleared_part onsite_part offsite_part decay_part counted_difference thinner_part stocks_of conversion_of gases_of abandoned_of abandoned_part savannas_of rows_from flatten total bad_list bad_lengths not_allowed list_rules carbon_share carbon_part value words_of totals_of entered released_of burned_by soil_carbon stock_now stock_then all_stocks soils_of lost_biomass oxidised_onsite_part charcoal_onsite_part oxidised_offsite_part charcoal_offsite_part unburned_part matter_of largest_crops residue_carbon crops_of
 worked_12 = refl
 
-worked_13 : map works_out table_13 ≡ map wanted table_13
+pub worked_13 : map works_out table_13 ≡ map wanted table_13
 unfolding to_bits of_int mul add onsite_double offsite_double decay_double add_rows largest largest_fires blocks_from computed cut filed_list behind filed_from little_endian record_from in_turn head_of sealed weighed record_on used_from body_of block_of bytes_of rows_below row_from number even_of settled sum_of scattered_part stock_part harvest_part cleared_part onsite_part offsite_part decay_part counted_difference thinner_part stocks_of conversion_of gases_of abandoned_of abandoned_part savannas_of rows_from flatten total bad_list bad_lengths not_allowed list_rules carbon_share carbon_part value words_of totals_of entered released_of burned_by soil_carbon stock_now stock_then all_stocks soils_of lost_biomass oxidised_onsite_part charcoal_onsite_part oxidised_offsite_part charcoal_offsite_part unburned_part matter_of largest_crops residue_carbon crops_of
 worked_13 = refl
 
-worked_14 : map works_out table_14 ≡ map wanted table_14
+pub worked_14 : map works_out table_14 ≡ map wanted table_14
 unfolding to_bits of_int mul add onsite_double offsite_double decay_double add_rows largest largest_fires blocks_from computed cut filed_list behind filed_from little_endian record_from in_turn head_of sealed weighed record_on used_from body_of block_of bytes_of rows_below row_from number even_of settled sum_of scattered_part stock_part harvest_part cleared_part onsite_part offsite_part decay_part counted_difference thinner_part stocks_of conversion_of gases_of abandoned_of abandoned_part savannas_of rows_from flatten total bad_list bad_lengths not_allowed list_rules carbon_share carbon_part value words_of totals_of entered released_of burned_by soil_carbon stock_now stock_then all_stocks soils_of lost_biomass oxidised_onsite_part charcoal_onsite_part oxidised_offsite_part charcoal_offsite_part unburned_part matter_of largest_crops residue_carbon crops_of
 worked_14 = refl
 
-worked_tonnes : map works_out table_tonnes ≡ map wanted table_tonnes
+pub worked_tonnes : map works_out table_tonnes ≡ map wanted table_tonnes
 unfolding to_bits of_int mul add onsite_double offsite_double decay_double add_rows largest largest_fires blocks_from computed cut filed_list behind filed_from little_endian record_from in_turn head_of sealed weighed record_on used_from body_of block_of bytes_of rows_below row_from number even_of settled sum_of scattered_part stock_part harvest_part cleared_part onsite_part offsite_part decay_part counted_difference thinner_part stocks_of conversion_of gases_of abandoned_of abandoned_part savannas_of rows_from flatten total bad_list bad_lengths not_allowed list_rules carbon_share carbon_part value words_of totals_of entered released_of burned_by soil_carbon stock_now stock_then all_stocks soils_of lost_biomass oxidised_onsite_part charcoal_onsite_part oxidised_offsite_part charcoal_offsite_part unburned_part matter_of largest_crops residue_carbon crops_of
 worked_tonnes = refl
 
-worked_44 : map works_out table_44 ≡ map wanted table_44
+pub worked_44 : map works_out table_44 ≡ map wanted table_44
 unfolding to_bits of_int mul add onsite_double offsite_double decay_double add_rows largest largest_fires blocks_from computed cut filed_list behind filed_from little_endian record_from in_turn head_of sealed weighed record_on used_from body_of block_of bytes_of rows_below row_from number even_of settled sum_of scattered_part stock_part harvest_part cleared_part onsite_part offsite_part decay_part counted_difference thinner_part stocks_of conversion_of gases_of abandoned_of abandoned_part savannas_of rows_from flatten total bad_list bad_lengths not_allowed list_rules carbon_share carbon_part value words_of totals_of entered released_of burned_by soil_carbon stock_now stock_then all_stocks soils_of lost_biomass oxidised_onsite_part charcoal_onsite_part oxidised_offsite_part charcoal_offsite_part unburned_part matter_of largest_crops residue_carbon crops_of
 worked_44 = refl
-
-pub all_worked : map works_out entries ≡ map wanted entries
-all_worked =
-    joined table01 (table_1 ++ (table_2 ++ (table_3 ++ (table_5 ++ (table_8 ++ (table_11 ++ (table_12 ++ (table_13 ++ (table_14 ++ (table_tonnes ++ table_44)))))))))) worked01
-    (joined table_1 (table_2 ++ (table_3 ++ (table_5 ++ (table_8 ++ (table_11 ++ (table_12 ++ (table_13 ++ (table_14 ++ (table_tonnes ++ table_44))))))))) worked_1
-    (joined table_2 (table_3 ++ (table_5 ++ (table_8 ++ (table_11 ++ (table_12 ++ (table_13 ++ (table_14 ++ (table_tonnes ++ table_44)))))))) worked_2
-    (joined table_3 (table_5 ++ (table_8 ++ (table_11 ++ (table_12 ++ (table_13 ++ (table_14 ++ (table_tonnes ++ table_44))))))) worked_3
-    (joined table_5 (table_8 ++ (table_11 ++ (table_12 ++ (table_13 ++ (table_14 ++ (table_tonnes ++ table_44)))))) worked_5
-    (joined table_8 (table_11 ++ (table_12 ++ (table_13 ++ (table_14 ++ (table_tonnes ++ table_44))))) worked_8
-    (joined table_11 (table_12 ++ (table_13 ++ (table_14 ++ (table_tonnes ++ table_44)))) worked_11
-    (joined table_12 (table_13 ++ (table_14 ++ (table_tonnes ++ table_44))) worked_12
-    (joined table_13 (table_14 ++ (table_tonnes ++ table_44)) worked_13
-    (joined table_14 (table_tonnes ++ table_44) worked_14
-    (joined table_tonnes table_44 worked_tonnes worked_44))))))))))
-
--- every return of the table has the answer beside it, as the checker computes them
-pub all_answered : map (λ (c : Case). complete_of c.bytes) table ≡ map (λ (c : Case). c.answer) table
-all_answered = in_turn_lem entries all_worked

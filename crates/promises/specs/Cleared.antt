@@ -3,34 +3,20 @@
 use Rattle.std.specs.Prelude.{ℕ, ◌≤◌, ◌<◌, ◌≡◌, refl, List, [], length, get_or, ◌≤ℤ◌}
 use Rattle.std.proofs.Common.{sym, ◌∙◌, le_refl, arith}
 use Rattle.std.proofs.Math.Path.{ap}
-use Rattle.std.specs.Float.{binary64}
-use Rattle.std.specs.Float.Ieee.{of_bits}
-use Rattle.form.specs.Bytes.{number}
 use Rattle.form.specs.Records.{id_of, area_of, before, after, onsite, onsite_oxidised, onsite_carbon, offsite, offsite_oxidised, offsite_carbon}
 use Rattle.form.specs.Records.{ten_year_area, ten_year_before, ten_year_after, decay, decay_carbon}
-use Rattle.form.specs.Verdict.{rows, verdict_of}
-use Rattle.form.specs.declared.Counts.{Counts}
-use Rattle.form.specs.declared.Verdict.TheVariants.{Accepted}
+use Rattle.form.specs.Verdict.{rows}
 use Rattle.wide.specs.Numbers.{value, words_of}
 use Rattle.wide.specs.Signs.{amount}
 use Rattle.wide.proofs.Laws.{value_words}
-use Rattle.totals.specs.Sums.{totals_of}
-use Rattle.ledger.specs.Ledger.{entered}
-use Rattle.ledger.specs.Derived.{conversion_of}
-use Rattle.worksheets.specs.Sheets.{by_kind, figures_of}
-use Rattle.worksheets.specs.Answers.{worked, outcome_by, outcome_of, said, answered}
+use Rattle.worksheets.specs.Answers.{worked, outcome_of, said, answered}
 use Rattle.worksheets.specs.declared.sheets.Figures.{Figures}
-use Rattle.doubles.specs.Subtotals.{subtotals_of, answer_of}
+use Rattle.doubles.specs.Subtotals.{answer_of}
 use Rattle.doubles.specs.declared.Doubles.{Doubles}
 use Rattle.doubles.specs.declared.Answer.TheVariants as doubles
 use Rattle.nearness.specs.NoLower.{NoLower}
-use Rattle.nearness.proofs.Demand as demand
-use Rattle.nearness.proofs.Cleared.{RowRaised, onsite_raised, offsite_raised, decay_raised, AllRaised, sums_raised}
-use Rattle.charted.specs.Subtotal.{bits_told}
-use Rattle.steps.proofs.Doubles.{by_code-holds}
+use Rattle.nearness.proofs.Cleared.{RowRaised, onsite_raised, offsite_raised, decay_raised}
 use Rattle.cases.proofs.Single.{lone-answered, grown-answered, none_cleared}
-use Rattle.promises.specs.Demand1.{figures_say}
-use Rattle.promises.specs.FromC.{c_subtotal_read}
 
 -- ---- the premise
 -- "each area, fraction and density before of the second is at least the first's, and each density after at most the first's": r is a conversion row of
@@ -75,45 +61,15 @@ pub record DoublesNoLower (s t : List ℕ) (d e : Doubles) : Type 0 where
   pub first-answer : answer_of s ≡ doubles.Figures d
   pub second-answer : answer_of t ≡ doubles.Figures e
 
-raised : {r q : List ℕ} → RowMoreCleared r q → RowRaised r q
+pub raised : {r q : List ℕ} → RowMoreCleared r q → RowRaised r q
 raised {r} {q} m = record {
   onsite = onsite_raised r q m.area m.density-before m.density-after m.onsite-fraction m.onsite_oxidised_lem m.onsite-carbon;
   offsite = offsite_raised r q m.area m.density-before m.density-after m.offsite-fraction m.offsite_oxidised_lem m.offsite-carbon;
   decay = decay_raised r q m.ten_year_area_lem m.ten_year_before_lem m.ten_year_after_lem m.decay-fraction m.decay-carbon;
 }
 
-as_said : {a b : ℕ} → a ≤ b → value (words_of a) ≤ value (words_of b)
+pub as_said : {a b : ℕ} → a ≤ b → value (words_of a) ≤ value (words_of b)
 as_said {a} {b} h = rw ((value_words a).number, (value_words b).number) h
-
-module _ (s t : List ℕ) (c d : Counts) (first : verdict_of s ≡ Accepted c) (second : verdict_of t ≡ Accepted d) (more : MoreCleared s t) where
-  sums : AllRaised (rows 1 s) (rows 1 t)
-  sums = sums_raised s t c d first second more.as_many (λ i l. raised (more.row_by_row i l))
-
-  pub exact_no_lower : ExactNoLower s t (figures_of (by_kind s)) (figures_of (by_kind t))
-  unfolding conversion_of entered totals_of
-  exact_no_lower = record {
-    onsite = as_said sums.onsite.exact;
-    offsite = as_said sums.offsite.exact;
-    decay = as_said sums.decay.exact;
-    first-answer = figures_say s ∙ ap (outcome_by s) first;
-    second-answer = figures_say t ∙ ap (outcome_by t) second;
-  }
-
-  pub doubles_no_lower : DoublesNoLower s t (subtotals_of (rows 1 s)) (subtotals_of (rows 1 t))
-  doubles_no_lower = record {
-    onsite = sums.onsite.drawn;
-    offsite = sums.offsite.drawn;
-    decay = sums.decay.drawn;
-    first-answer = demand.answered s c first;
-    second-answer = demand.answered t d second;
-  }
-
-  -- from C: the eight bytes that `niloferq_subtotal` leaves for each of the two returns, by one code, read as the doubles that they are
-  pub c_double_no_lower : (code : ℕ) (room other : List ℕ) → code ≤ 2 → 8 ≤ length room → 8 ≤ length other
-      → NoLower (of_bits binary64 (number 8 (bits_told s code room) 0)) (of_bits binary64 (number 8 (bits_told t code other) 0))
-  c_double_no_lower code room other h long wide =
-      rw (c_subtotal_read s c first code room h long, c_subtotal_read t d second code other h wide)
-      (by_code-holds NoLower code sums.onsite.drawn sums.offsite.drawn sums.decay.drawn)
 
 -- equality is good: every return clears as much as itself
 same_row : (r : List ℕ) → RowMoreCleared r r

@@ -3,7 +3,6 @@
 use Rattle.std.specs.Prelude.{ℕ, ◌≡◌, refl, length}
 use Rattle.std.proofs.Common.{sym, ap, ◌∙◌, arith}
 use mathlib.Core.List.{List, [], ◌∷◌, flat_map}
-use Rattle.form.specs.Ruling.{too_short}
 use Rattle.form.specs.Verdict.{block_rules, rules, rows, counts_of, verdict_by, verdict_of}
 use Rattle.form.specs.declared.Ruling.{Ruling}
 use Rattle.form.specs.declared.Ruling.TheVariants.{Broken}
@@ -27,17 +26,15 @@ use Rattle.phrases.specs.Lines.{refused_line}
 use Rattle.phrases.specs.Room.{text_after}
 use Rattle.phrases.specs.declared.Put.TheVariants.{Short}
 use Rattle.report.specs.Lines.{line_of, text_of, printed}
-use Rattle.tabled.specs.Figures.{figures_rules, figures_answer, figures_after}
-use Rattle.counted.specs.Counts.{judge_rules, judge_call, counts_after}
-use Rattle.charted.specs.Subtotal.{subtotal_rules, subtotal_call, bits_after}
-use Rattle.weighed.specs.Heaviest.{heaviest_rules_c, heaviest_call, heaviest_after}
+use Rattle.tabled.specs.Figures.{figures_rules, figures_after}
+use Rattle.counted.specs.Counts.{judge_rules, counts_after}
+use Rattle.charted.specs.Subtotal.{subtotal_rules, bits_after}
+use Rattle.weighed.specs.Heaviest.{heaviest_rules_c, heaviest_after}
 use Rattle.weighed.proofs.Named.{named_told}
-use Rattle.offered.specs.Defaults.{defaults_call, defaults_after}
-use Rattle.handed.specs.Rows.{read_rules_c, read_call, rows_after, write_rules_c, write_call, blocks_after, size_after}
-use Rattle.door.specs.Door.{code_of}
-use Rattle.door.proofs.Codes.{judge_bounded, subtotal_bounded, heaviest-bounded, figures-bounded, defaults-bounded, read-bounded, write_bounded}
+use Rattle.offered.specs.Defaults.{defaults_after}
+use Rattle.handed.specs.Rows.{read_rules_c, rows_after, write_rules_c, blocks_after, size_after}
 use Rattle.steps.proofs.Told.{verdict_told, written_told, figures_told, doubles_told, said_back, answered_back}
-use Rattle.promises.specs.Order.{numbers, ByOrder, by_order, Coded, by_code}
+use Rattle.promises.specs.Order.{numbers, ByOrder, by_order}
 
 -- ---- the orders
 -- "Sheets and doubles: 1 to 8", and "01's order closes over" 8; 14 is tried "straight after 6", 12 "straight after 7", and 13 "straight after 12"
@@ -132,32 +129,6 @@ c_read-numbers s rows counts = refl
 pub c_write_numbers : (edition : ℕ) (rows lengths room size : List ℕ) → numbers (write_rules_c edition rows lengths room size) ≡ 10 ∷ 5 ∷ 6 ∷ 14 ∷ 7 ∷ 12 ∷ 13 ∷ 9 ∷ []
 unfolding numbers list_rules
 c_write_numbers edition rows lengths room size = refl
-
--- "It gets back 0; or it gets back 1,000 times the refusal number plus the place"
-pub c_judge_by_order : (s counts : List ℕ) → ByOrder (judge_rules s counts) (Coded (code_of (judge_call s counts))) (code_of (judge_call s counts) ≡ 0)
-c_judge_by_order s counts = by_code (judge_bounded s counts)
-
-pub c_subtotal_by_order : (s : List ℕ) (code : ℕ) (room : List ℕ)
-    → ByOrder (subtotal_rules s code room) (Coded (code_of (subtotal_call s code room))) (code_of (subtotal_call s code room) ≡ 0)
-c_subtotal_by_order s code room = by_code (subtotal_bounded s room code)
-
-pub c_heaviest_by_order : (s : List ℕ) (code : ℕ) (room : List ℕ)
-    → ByOrder (heaviest_rules_c s code room) (Coded (code_of (heaviest_call s code room))) (code_of (heaviest_call s code room) ≡ 0)
-c_heaviest_by_order s code room = by_code (heaviest-bounded s room code)
-
-pub c_figures_by_order : (s room : List ℕ) → ByOrder (figures_rules s room) (Coded (code_of (figures_answer s room))) (code_of (figures_answer s room) ≡ 0)
-c_figures_by_order s room = by_code (figures-bounded s room)
-
--- the default parameters: only the room can be too short
-pub c_defaults_by_order : (room : List ℕ) → ByOrder (too_short 6 room ∷ []) (Coded (code_of (defaults_call room))) (code_of (defaults_call room) ≡ 0)
-c_defaults_by_order room = by_code (defaults-bounded room)
-
-pub c_read_by_order : (s rows counts : List ℕ) → ByOrder (read_rules_c s rows counts) (Coded (code_of (read_call s rows counts))) (code_of (read_call s rows counts) ≡ 0)
-c_read_by_order s rows counts = by_code (read-bounded s rows counts)
-
-pub c_write_by_order : (edition : ℕ) (rows lengths room size : List ℕ)
-    → ByOrder (write_rules_c edition rows lengths room size) (Coded (code_of (write_call edition rows lengths room size))) (code_of (write_call edition rows lengths room size) ≡ 0)
-c_write_by_order edition rows lengths room size = by_code (write_bounded edition rows lengths room size)
 
 -- ---- "nothing lent has changed"
 pub c_judge_unchanged : (s counts : List ℕ) (n p : ℕ) → counts_after s counts (Broken n p) ≡ counts

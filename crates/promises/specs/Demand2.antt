@@ -1,6 +1,6 @@
 -- DEMAND 2. "Figures are the 1996 Workbook's columns, kept as exact whole numbers and rounded once, at the final tonne. Good rows written as a return read back as
 -- those rows; an accepted return, read and written again, is the same bytes."
-use Rattle.std.specs.Prelude.{ℕ, suc, ◌+◌, ◌-◌, ◌*◌, ◌^◌, ◌<◌, ◌≤◌, ◌≡◌, refl, false, cond, List, [], length, get_or, ltb, eqb, ℤ, pos, neg_ℤ, ◌-ℤ◌, ◌*ℤ◌}
+use Rattle.std.specs.Prelude.{ℕ, suc, ◌+◌, ◌-◌, ◌*◌, ◌^◌, ◌<◌, ◌≤◌, ◌≡◌, refl, cond, List, length, get_or, ltb, eqb, ℤ, pos, neg_ℤ, ◌-ℤ◌, ◌*ℤ◌}
 use Rattle.std.proofs.Common.{sym, ap, subst, ◌∙◌, arith, lit<}
 use Rattle.form.specs.Ruling.{on_front}
 use Rattle.form.specs.Layout.{kinds}

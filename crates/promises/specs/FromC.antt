@@ -2,11 +2,11 @@
 -- keep their values".
 -- What a refusal leaves is in Demand1; the heaviest row from C is in Heaviest, the lookup's entry in Table52.
 use Rattle.std.specs.Prelude.{ℕ, suc, ◌≤◌, ◌<◌, ◌≡◌, refl, List, [], ◌∷◌, ◌++◌, get_or, take}
-use Rattle.std.proofs.Common.{sym, ◌∙◌, le-ltb, take_at}
+use Rattle.std.proofs.Common.{sym, ◌∙◌, le-ltb}
 use Rattle.std.proofs.Math.Path.{ap}
 use Rattle.std.specs.Float.{binary64}
 use Rattle.std.specs.Float.Ieee.{of_bits, to_bits}
-use Rattle.std.proofs.Math.ListN.{length, drop, get_or-append}
+use Rattle.std.proofs.Math.ListN.{length, drop}
 use Rattle.form.specs.Bytes.{number, little_endian}
 use Rattle.form.specs.Layout.{kinds}
 use Rattle.form.specs.Ruling.{too_short, ruling, on_front}
@@ -16,14 +16,13 @@ use Rattle.form.specs.Verdict.{rules, rows, counts_of, count_list, verdict_of}
 use Rattle.form.specs.declared.Counts.{Counts}
 use Rattle.form.specs.declared.Ruling.TheVariants.{Clean}
 use Rattle.form.specs.declared.Verdict.TheVariants.{Accepted}
-use Rattle.form.proofs.Order.{kept-before, one_kept, long_enough, clean-ruling}
+use Rattle.form.proofs.Order.{kept-before, one_kept, long_enough}
 use Rattle.standing.proofs.Accepted.{formed, formed_counts, accepted-ruling}
 use Rattle.filing.specs.Lists.{cut, total, rows_in, filed_lists}
-use Rattle.rows.specs.Reading.{area_to, lengths_from, lengths_of}
-use Rattle.rows.specs.Writing.{written, write_rules, write_answer, bytes_after}
+use Rattle.rows.specs.Reading.{area_to, lengths_from}
+use Rattle.rows.specs.Writing.{write_rules, write_answer, bytes_after}
 use Rattle.rows.specs.declared.Written.TheVariants.{Done}
 use Rattle.rows.proofs.Return.{done_by}
-use Rattle.trips.proofs.Again.{returned, left_behind}
 use Rattle.totals.specs.Codes.{by_code, wrong_code}
 use Rattle.worksheets.specs.Sheets.{by_kind, figures_of}
 use Rattle.wide.specs.Numbers.{value}
@@ -34,11 +33,9 @@ use Rattle.counted.specs.Counts.{held, counts_room, judge_call, counts_judged}
 use Rattle.tabled.specs.Figures.{figures_answer, figures_told}
 use Rattle.charted.specs.Subtotal.{subtotal_call, double_by, bits_told}
 use Rattle.handed.specs.Rows.{read_call, rows_read, counts_read, write_call, blocks_written, size_written}
-use Rattle.handed.proofs.Calls.{read-called, read_kept, read-answered, write_called, write_answered}
+use Rattle.handed.proofs.Calls.{read_kept, write_called}
 use Rattle.door.specs.Door.{code_of}
 use Rattle.steps.proofs.Doubles.{subtotal_fits, bits_back, by_code-holds}
-use Rattle.promises.specs.Demand1.{c_read_by_order, c_write_by_order}
-use Rattle.promises.specs.Demand2.{Bytes, written_reads_back, read_writes_back}
 use Rattle.promises.specs.Demand3.{demand_3}
 
 -- ---- of an accepted return, in rooms that are long enough
@@ -89,13 +86,6 @@ module _ (s : List ℕ) (c : Counts) (accepted : verdict_of s ≡ Accepted c) wh
   c_read_told area counts l h =
       rw (read_kept s area counts clean l h) (refl, refl, ap (λ (x : Counts). on_front (held x) counts) (sym counts_are))
 
--- niloferq_write, where it gets back 0: the blocks, and their number of bytes
-module _ (edition : ℕ) (area lengths room size : List ℕ) where
-  pub c_write_told : code_of (write_call edition area lengths room size) ≡ 0
-      → let w = written edition (cut lengths area) in
-      (blocks_written edition area lengths room size ≡ on_front w room) × (size_written edition area lengths room size ≡ on_front (length w ∷ []) size)
-  c_write_told e = rw (clean-ruling ((c_write_by_order edition area lengths room size).answered_by.0 e)) (refl, refl)
-
 -- ---- "Good rows written as a return read back as those rows", by niloferq_write and niloferq_read
 -- what niloferq_write left: as many bytes of its room as it says
 abbrev pub bytes_left : List ℕ → List ℕ → List ℕ
@@ -107,30 +97,6 @@ pub record ReadsBackC (edition : ℕ) (lengths rows s area counts : List ℕ) : 
   pub counted : (k : ℕ) → k < kinds → get_or (counts_read s area counts) (suc k) 0 ≡ rows_in (suc k) (get_or lengths k 0)
   pub scattered : get_or (counts_read s area counts) (suc kinds) 0 ≡ scattered_in (filed_rows (filed_lists (cut lengths rows)) 2)
   pub front : rows_read s area counts ≡ on_front rows area
-
-module _ (edition : ℕ) (rows lengths room size : List ℕ) (zero : code_of (write_call edition rows lengths room size) ≡ 0) where
-  -- its bytes are those that the write from Rattle leaves
-  left : let n = length (written edition (cut lengths rows)) in
-      bytes_left (blocks_written edition rows lengths room size) (size_written edition rows lengths room size) ≡ returned edition lengths rows room n
-  left = let t = c_write_told edition rows lengths room size zero in rw (t.0, t.1)
-
-  pub c_written_reads_back : (area counts : List ℕ) → length rows ≤ length area → counts_room ≤ length counts
-      → ReadsBackC edition lengths rows (bytes_left (blocks_written edition rows lengths room size) (size_written edition rows lengths room size)) area counts
-  unfolding kinds
-  c_written_reads_back area counts long h =
-      let n = length (written edition (cut lengths rows)) in
-      let s = returned edition lengths rows room n in
-      let w = write_answered edition rows lengths room size (clean-ruling ((c_write_by_order edition rows lengths room size).answered_by.0 zero)) in
-      let r = written_reads_back edition lengths rows room n w area long in
-      let k = read-called s area counts (counts_of s) r.accepted h in
-      rw left
-      (record {
-        code = ap code_of k;
-        same_edition = rw k r.same_edition;
-        counted = λ i l. rw k (get_or-append (count_list (counts_of s)) ((counts_of s).scattered ∷ drop counts_room counts) 0 i l ∙ r.counts i l);
-        scattered = rw k r.scattered;
-        front = rw k r.front;
-      })
 
 -- ---- "an accepted return, read and written again, is the same bytes", by niloferq_read and niloferq_write
 -- what niloferq_read left, by its room of counts: the edition, how many numbers each kind's rows have, and the rows
@@ -149,7 +115,7 @@ pub record WritesBackC (s : List ℕ) (edition : ℕ) (rows lengths room size : 
   pub sized : size_written edition rows lengths room size ≡ on_front (length s ∷ []) size
 
 -- from what the write in Rattle answers
-written_from : (s : List ℕ) (edition : ℕ) (rows lengths room size : List ℕ)
+pub written_from : (s : List ℕ) (edition : ℕ) (rows lengths room size : List ℕ)
     → write_answer edition lengths rows room ≡ Done (length s) → bytes_after edition lengths rows room (Done (length s)) ≡ on_front s room → 1 ≤ length size
     → WritesBackC s edition rows lengths room size
 unfolding write_answer
@@ -157,14 +123,3 @@ written_from s edition rows lengths room size done front h =
     let k = write_called edition rows lengths room size (length s) done h in
     let n = (done_by edition (cut lengths rows) (ruling (write_rules edition lengths rows room)) done).1 in
     record { code = ap code_of k; front = rw k front; sized = rw k (ap (λ (x : ℕ). on_front (x ∷ []) size) n) }
-
-pub c_read_writes_back : (s : List ℕ) → Bytes s → (area counts : List ℕ) → code_of (read_call s area counts) ≡ 0
-    → (room size : List ℕ) → length s ≤ length room → 1 ≤ length size
-    → let n = counts_read s area counts in WritesBackC s (edition_left n) (rows_left (rows_read s area counts) n) (lengths_left n) room size
-unfolding kinds
-c_read_writes_back s small area counts zero room size long h =
-    let c = counts_of s in
-    let k = clean-ruling ((c_read_by_order s area counts).answered_by.0 zero) in
-    let r = read_writes_back s small area c (read-answered s area counts k) room long in
-    let e : take kinds (count_list c ++ (c.scattered ∷ drop counts_room counts)) ≡ count_list c = take_at (count_list c) (c.scattered ∷ drop counts_room counts) kinds refl in
-    rw (k, e) (written_from s c.edition (left_behind s area c) (lengths_of c) room size r.done r.front h)

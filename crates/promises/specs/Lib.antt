@@ -19,6 +19,8 @@
 --     Residues    returns that differ only in crop rows have the same figures in every other sheet, the same doubles and the same heaviest rows
 --     Texts       a text of rows gets its return or its first fault; a return's rows as text pack to the same bytes; a row is the numbers that its fields say
 --     ShutOut     wrong answers that the contracts refuse
+-- Of Demand1, FromC, Lent, Cleared, National, Residues and Texts some theorems stand in proofs/, in the file of the same name: those that rest on a theorem here that a
+-- must-fail edit makes false.
 -- These pages speak of the definitions. That whatever meets an entry point's contract is the answer they speak of, that each contract admits one answer and asks
 -- nothing of its caller, and that each entry point meets its contract, is the crate `contracts`.
 -- The worked day and 01's table (a) to (j), which the checker computes, are the crate `cases`; the steps of the proofs are in `steps` and in the proofs/ of the crates that they are about.

@@ -2,8 +2,8 @@
 -- Each is defined from the rows on its own. Together they equal a million times the sum of area times counted difference, for every accepted return, and the same holds
 -- of each row's five parts. The record is shared with the national line and the explaining tool, which print all five."
 use Rattle.std.specs.Prelude.{ℕ, ◌+◌, ◌-◌, ◌*◌, ◌^◌, ◌<◌, ◌≤◌, ◌≡◌, length, get_or, take, drop}
-use Rattle.std.proofs.Common.{sym, ap, subst, ◌∙◌, arith, lit≤}
-use mathlib.Core.List.{List, [], ◌∷◌, ◌++◌, append_assoc, flat_map}
+use Rattle.std.proofs.Common.{sym, ap, subst, ◌∙◌, arith}
+use mathlib.Core.List.{List, [], ◌++◌, append_assoc, flat_map}
 use Rattle.form.specs.Records.{area_of, before, after, onsite, onsite_oxidised, offsite, offsite_oxidised, counted_difference}
 use Rattle.form.specs.Sums.{sum_of}
 use Rattle.form.specs.Verdict.{rows, verdict_of}
@@ -12,9 +12,9 @@ use Rattle.form.specs.declared.Verdict.TheVariants.{Accepted}
 use Rattle.standing.proofs.Accepted.{formed}
 use Rattle.wide.specs.Numbers.{value}
 use Rattle.wide.proofs.Laws.{value_words}
-use Rattle.matter.specs.Matter.{lost_biomass, oxidised_onsite_part, charcoal_onsite_part, oxidised_offsite_part, charcoal_offsite_part, unburned_part, row_matter, matter_of, together, plus_matter, MatterMost}
+use Rattle.matter.specs.Matter.{lost_biomass, oxidised_onsite_part, charcoal_onsite_part, oxidised_offsite_part, charcoal_offsite_part, unburned_part, matter_of, together, plus_matter, MatterMost}
 use Rattle.matter.specs.declared.Matter.{Matter}
-use Rattle.matter.proofs.Whole.{Parted, row-parted, row-whole, row-together, return-together}
+use Rattle.matter.proofs.Whole.{row-parted, row-whole, return-together}
 use Rattle.matter.proofs.Sizes.{most_le, return_most}
 use Rattle.ledger.specs.Ledger.{entered, plus}
 use Rattle.worksheets.specs.Sheets.{by_kind, figures_of}

@@ -12,7 +12,7 @@ use Rattle.wide.specs.Numbers.{value}
 use Rattle.wide.specs.Signs.{amount}
 use Rattle.wide.proofs.Laws.{value_words}
 use Rattle.wide.proofs.SignLaws.{form-holds}
-use Rattle.ledger.specs.Ledger.{Bounded, none, plus, sum_ledgers}
+use Rattle.ledger.specs.Ledger.{Bounded, plus, sum_ledgers}
 use Rattle.ledger.specs.Derived.{stocks_of, conversion_of}
 use Rattle.ledger.specs.declared.Stocks.{Stocks}
 use Rattle.ledger.specs.declared.Conversion.{Conversion}
@@ -51,7 +51,7 @@ pub record NationalFigures (rs : List (List ℕ)) (v : Stocks) (c : Conversion) 
   pub decay : value c.decay.0 ≡ sum_of (λ r. value (figures_of (by_kind r)).conversion.decay.0) rs
   pub CO2 : Rounded (pos (11 * (value c.onsite.0 + value c.offsite.0 + value c.decay.0))) (3 * 10 ^ 9) (pos (value c.co2.0))
 
-figures_of_several : (rs : List (List ℕ)) → let g = sum_ledgers (map ledger_in rs) in NationalFigures rs (stocks_of g) (conversion_of g)
+pub figures_of_several : (rs : List (List ℕ)) → let g = sum_ledgers (map ledger_in rs) in NationalFigures rs (stocks_of g) (conversion_of g)
 unfolding stocks_of conversion_of plus
 figures_of_several rs =
     let g = sum_ledgers (map ledger_in rs) in
@@ -69,11 +69,6 @@ figures_of_several rs =
       decay = column-sum (λ x. value x.decay.0) (value_words 0).number (λ a b. (value_words _).number) rs;
       CO2 = subst (λ (n : ℕ). Rounded (pos (11 * (n + value g.decay.0))) (3 * 10 ^ 9) (pos (value (conversion_of g).co2.0))) (value_words (value g.onsite.0 + value g.offsite.0)).number (co2_rounded g);
     }
-
--- of every file
-pub national_figures : (s : List ℕ) → let g = (nation_of s).tally.ledger in NationalFigures (accepted_of (cut_file s).returns) (stocks_of g) (conversion_of g)
-unfolding tally_of
-national_figures s = figures_of_several (accepted_of (cut_file s).returns)
 
 -- none of these sums is too large for its words: there are at most 500 returns, and the largest have room
 pub no_overflow : (s : List ℕ) → Bounded (nation_of s).tally.ledger

@@ -111,8 +111,3 @@ pub record SameButForCrops (s t : List ℕ) : Type 0 where
   pub sheets : (f g : Figures) → outcome_of s ≡ worked f → outcome_of t ≡ worked g → SameOtherSheets f g
   pub doubles : answer_of s ≡ answer_of t
   pub heaviest : (code : ℕ) → heaviest_answer s code ≡ heaviest_answer t code
-
-pub crops_alone : (s t : List ℕ) (c d : Counts) → verdict_of s ≡ Accepted c → verdict_of t ≡ Accepted d → DifferInCrops s t → SameButForCrops s t
-crops_alone s t c d one other alike =
-    let h = alike-rows s t alike in
-    record { sheets = other_sheets_same s t h; doubles = doubles_same s t h c d one other; heaviest = heaviest_same s t h c d one other }

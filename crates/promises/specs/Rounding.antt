@@ -1,6 +1,6 @@
 -- "From now on every rounded tonne goes to the nearest, a half to the even neighbour, for both signs": what that is, said of a figure and its exact ratio without a word on
 -- how it is worked out. Demand2 says it of each rounded figure.
-use Rattle.std.specs.Prelude.{ℕ, ◌+◌, ◌*◌, ◌%◌, ◌<◌, ◌≤◌, ◌≡◌, ℤ, pos, nat_abs, ◌-ℤ◌, ◌*ℤ◌}
+use Rattle.std.specs.Prelude.{ℕ, ◌*◌, ◌%◌, ◌<◌, ◌≤◌, ◌≡◌, ℤ, pos, nat_abs, ◌-ℤ◌, ◌*ℤ◌}
 use Rattle.std.proofs.Common.{◌∙◌, sym, subst}
 use Rattle.wide.specs.Numbers.{value, words_of}
 use Rattle.wide.specs.Rounding.{nearest}

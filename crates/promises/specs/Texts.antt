@@ -2,7 +2,7 @@
 -- accepted return packs to the same bytes; a text that packs, unpacked and packed again, is the same return; the rows of a packed text are the numbers that its
 -- fields say." What a text says is `text_read` (crates/texts): an edition and rows, or its first fault.
 use Rattle.std.specs.Prelude.{ℕ, suc, ◌+◌, ◌-◌, ◌*◌, ◌^◌, ◌≤◌, ◌<◌, ◌≡◌, refl, true, false, ◌||◌, List, [], ◌∷◌, ◌++◌, ltb, length, get_or, take}
-use Rattle.std.proofs.Common.{sym, ap, ◌∙◌, arith, le-ltb, ne_eqb}
+use Rattle.std.proofs.Common.{ap, ◌∙◌, arith, le-ltb, ne_eqb}
 use Rattle.form.specs.Layout.{numbers_of}
 use Rattle.form.specs.Block.{longest}
 use Rattle.form.specs.Ruling.{ruling, on_front}
@@ -11,7 +11,7 @@ use Rattle.form.specs.declared.Counts.{Counts}
 use Rattle.form.specs.declared.Ruling.{Ruling}
 use Rattle.form.specs.declared.Ruling.TheVariants.{Clean, Broken}
 use Rattle.form.specs.declared.Verdict.TheVariants.{Accepted}
-use Rattle.form.proofs.Order.{kept-before, one_kept, clean-ruling}
+use Rattle.form.proofs.Order.{kept-before, one_kept}
 use Rattle.standing.proofs.Accepted.{accepted-ruling, formed, whole-blocks}
 use Rattle.filing.specs.Lists.{cut, filed_lists}
 use Rattle.filing.specs.Written.{used_from}
@@ -42,18 +42,17 @@ use Rattle.packing.specs.Packing.{of_ruling, packed_by, pack_call, bytes_by, byt
 use Rattle.objections.specs.Objections.{line_lines}
 use Rattle.textrips.proofs.Faults.{fault-known}
 use Rattle.textrips.proofs.Worth.{whole_worth, marked_worth}
-use Rattle.textrips.proofs.Packs.{Packs, packs, Says, its_return, return-accepted, rooms_hold, packs_again, unpacked_packs, unpacked_fits}
+use Rattle.textrips.proofs.Packs.{Packs, packs, unpacked_packs, unpacked_fits}
 use Rattle.rowlines.specs.LineSays.{LineSays}
 use Rattle.rowlines.proofs.Named.{line-says, rows_before, place-used, why-line}
 use Rattle.door.specs.Door.{code_of}
 use Rattle.door.specs.Texts.{pack_code}
-use Rattle.promises.specs.Demand1.{c_write_by_order}
 use Rattle.promises.specs.Demand2.{Bytes}
 
 -- ---- niloferq_pack, of any text, into any rooms
 
 -- the rows of a text get the number that niloferq_write gives rows
-same_code : (v : Ruling) → pack_code (of_ruling v) ≡ code_of v
+pub same_code : (v : Ruling) → pack_code (of_ruling v) ≡ code_of v
 same_code Clean = refl
 same_code (Broken n p) = refl
 
@@ -87,27 +86,6 @@ module _ (text room size : List ℕ) where
     pub bytes : bytes_packed text room size ≡ on_front its_bytes room
     pub sized : size_packed text room size ≡ on_front (length its_bytes ∷ []) size
     pub again : (room' size' : List ℕ) → length its_bytes ≤ length room' → 1 ≤ length size' → Packs (unpacked_text its_bytes) its_bytes room' size'
-
-  says : (t : TextRead) → text_read text ≡ t → pack_code (packed_by t room size) ≡ 0 → Says text room size
-  says (rows e lengths area) q z = record {
-    edition-said = e;
-    lengths = lengths;
-    area = area;
-    said = q;
-    called = clean-ruling ((c_write_by_order e area lengths room size).answered_by.0 (sym (same_code (write_call e area lengths room size)) ∙ z));
-  }
-  says (faulty f) q z = let k = (fault-known text f q).0 in absurd (omega (arith, k, z))
-
-  pub pack_told : pack_code (pack_call text room size) ≡ 0 → PackedTold
-  pack_told z =
-      let w = says (text_read text) refl z in
-      record {
-        its_bytes = its_return text room size w;
-        accepted = return-accepted text room size w;
-        bytes = (rooms_hold text room size w).0;
-        sized = (rooms_hold text room size w).1;
-        again = packs_again text room size w;
-      }
 
 -- rows that writing does not refuse are packed in the room that is named, NILOFERQ_RETURN_ROOM, so that it is always enough
 pub pack_fits : (text : List ℕ) (e : ℕ) (lengths area : List ℕ) → text_read text ≡ rows e lengths area → ruling (list_rules e lengths area) ≡ Clean

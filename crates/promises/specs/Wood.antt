@@ -1,9 +1,9 @@
 -- §8: a return may not "carry off more wood from clearing than the country consumed". "Refuse them, with equality still good. M, O then never fall below zero; P may."
 use Rattle.std.specs.Prelude.{ℕ, ◌-◌, ◌*◌, ◌≤◌, ◌<◌, ◌≡◌, Bool, true, false, List, pos}
-use Rattle.std.proofs.Common.{sym, ap, ◌∙◌, true≢false, arith}
+use Rattle.std.proofs.Common.{sym, ap, ◌∙◌, true≢false}
 use Rattle.form.specs.Records.{filed}
 use Rattle.form.specs.Sums.{column_k, column_l}
-use Rattle.form.specs.Verdict.{rows, counts_of, form_rules, Formed, verdict_by, verdict_of}
+use Rattle.form.specs.Verdict.{rows, form_rules, Formed, verdict_by, verdict_of}
 use Rattle.form.specs.declared.Counts.{Counts}
 use Rattle.form.specs.declared.Verdict.TheVariants.{Accepted, Refused}
 use Rattle.areas.specs.Place.{Even}
