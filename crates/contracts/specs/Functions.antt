@@ -1,4 +1,5 @@
 -- The functions themselves: each entry point's code, and that of the functions behind it, as the prover has it, meets the contract that its source states.
+-- The functions for C are those of the crate door; door_c exports each under its name to C, with the same contract, and calls it.
 -- What a contract says is the matter of Answers; that the compiled code does the same is outside the logic (docs/TRUST.md).
 use Rattle.judge.proofs.judge as judge
 use Rattle.rows.proofs.read as read
