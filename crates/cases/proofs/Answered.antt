@@ -1,4 +1,4 @@
--- The whole table is right: every return of it has the answer beside it, from the tables' own claims (specs/Cases: worked01, worked_1 and so on). Assumes nothing.
+-- The whole table is right: every return of it has the answer beside it, from what specs/Cases has of its two parts (first_worked, later_worked). Assumes nothing.
 use Rattle.std.specs.Prelude.{◌≡◌, refl, get_or, drop}
 use Rattle.std.proofs.Common.{ap, ap₂, ◌∙◌}
 use mathlib.Core.List.{List, [], ◌∷◌, ◌++◌, map}
@@ -7,8 +7,7 @@ use Rattle.worksheets.specs.Answers.{Outcome}
 use Rattle.doubles.specs.declared.Answer.{Answer}
 use Rattle.cases.specs.FromRows.{sheets_from_rows, doubles_from_rows}
 use Rattle.cases.specs.Cases.{Complete, bits_of, complete_of, Case, Entry, of_rows, of_bytes, case_of, entries, table, works_out, wanted, due_of, said}
-use Rattle.cases.specs.Cases.{table01, table_1, table_2, table_3, table_5, table_8, table_11, table_12, table_13, table_14, table_tonnes, table_44}
-use Rattle.cases.specs.Cases.{worked01, worked_1, worked_2, worked_3, worked_5, worked_8, worked_11, worked_12, worked_13, worked_14, worked_tonnes, worked_44}
+use Rattle.cases.specs.Cases.{first_entries, later_entries, first_worked, later_worked}
 
 due_said : (e : Entry) → works_out e ≡ wanted e → complete_of (case_of e).bytes ≡ (case_of e).answer
 due_said (of_rows edition l a) p =
@@ -34,18 +33,7 @@ joined (e ∷ es) ds p q =
     (joined es ds (ap (λ (l : List (Ruling × Complete)). drop 1 l) p) q)
 
 pub all_worked : map works_out entries ≡ map wanted entries
-all_worked =
-    joined table01 (table_1 ++ (table_2 ++ (table_3 ++ (table_5 ++ (table_8 ++ (table_11 ++ (table_12 ++ (table_13 ++ (table_14 ++ (table_tonnes ++ table_44)))))))))) worked01
-    (joined table_1 (table_2 ++ (table_3 ++ (table_5 ++ (table_8 ++ (table_11 ++ (table_12 ++ (table_13 ++ (table_14 ++ (table_tonnes ++ table_44))))))))) worked_1
-    (joined table_2 (table_3 ++ (table_5 ++ (table_8 ++ (table_11 ++ (table_12 ++ (table_13 ++ (table_14 ++ (table_tonnes ++ table_44)))))))) worked_2
-    (joined table_3 (table_5 ++ (table_8 ++ (table_11 ++ (table_12 ++ (table_13 ++ (table_14 ++ (table_tonnes ++ table_44))))))) worked_3
-    (joined table_5 (table_8 ++ (table_11 ++ (table_12 ++ (table_13 ++ (table_14 ++ (table_tonnes ++ table_44)))))) worked_5
-    (joined table_8 (table_11 ++ (table_12 ++ (table_13 ++ (table_14 ++ (table_tonnes ++ table_44))))) worked_8
-    (joined table_11 (table_12 ++ (table_13 ++ (table_14 ++ (table_tonnes ++ table_44)))) worked_11
-    (joined table_12 (table_13 ++ (table_14 ++ (table_tonnes ++ table_44))) worked_12
-    (joined table_13 (table_14 ++ (table_tonnes ++ table_44)) worked_13
-    (joined table_14 (table_tonnes ++ table_44) worked_14
-    (joined table_tonnes table_44 worked_tonnes worked_44))))))))))
+all_worked = joined first_entries later_entries first_worked later_worked
 
 -- every return of the table has the answer beside it, as the checker computes them
 pub all_answered : map (λ (c : Case). complete_of c.bytes) table ≡ map (λ (c : Case). c.answer) table

@@ -250,7 +250,7 @@ twice_thinner = 1 ∷ 7 ∷ 49 ∷ 100 ∷ 500 ∷ 900 ∷ 450 ∷ 300 ∷ 900 �
 abbrev burned : ℕ → ℕ → Lists
 burned area young = row 1 area 1 0 250 ∷ [] ∷ [] ∷ defaults ∷ (1 ∷ young ∷ 10 ∷ 100 ∷ 0 ∷ 0 ∷ 0 ∷ []) ∷ [] ∷ [] ∷ [] ∷ []
 
-abbrev pub table01 : List Entry
+abbrev table01 : List Entry
 table01 =
     -- (a) "this day"
     worked_cleared 1 (cut day_lengths day_area)
@@ -290,7 +290,7 @@ table01 =
     ∷ []
 
 -- and of edition 2
-abbrev pub table_1 : List Entry
+abbrev table_1 : List Entry
 table_1 =
     -- the day in edition 2 with a row of grass, which is thinner in its one period, one of scattered trees, one of abandoned land, 34 + 27 kt C by 11/3, one of savanna, two of soil and one of wheat: (a)'s figures, with 1.35 kt C
     -- more of growth, and
@@ -331,7 +331,7 @@ table_1 =
     ∷ []
 
 -- and of halves, which go to the even neighbour
-abbrev pub table_2 : List Entry
+abbrev table_2 : List Entry
 table_2 =
     -- "P = 4,500,000 then gives 16, not 17"; and below zero
     worked_out 1 (grown (1 ∷ 0 ∷ 100 ∷ 45 ∷ 10 ∷ [])) (sheet51 45000 0 0 (pos 0) (pos 0) (pos 4500000) (pos 16) (negsuc 15)) none52 none53 none54 zeros
@@ -343,11 +343,11 @@ table_2 =
     ∷ []
 
 -- a row thinner in both periods counts 2
-abbrev pub table_3 : List Entry
+abbrev table_3 : List Entry
 table_3 = worked_out 1 (converted twice_thinner) none51 (thin52 2) none53 none54 zeros ∷ []
 
 -- 32 of the largest savanna rows: 10^22 each, beyond one word
-abbrev pub table_5 : List Entry
+abbrev table_5 : List Entry
 table_5 =
     worked_all 2 ([] ∷ [] ∷ [] ∷ defaults ∷ [] ∷ largest_fires 1 32 ∷ [] ∷ [] ∷ []) none51 none52 none53 none54
     (sheet43 320000000000000000000000 426666666667 746666666667 502857142857 1051428571429)
@@ -359,7 +359,7 @@ table_5 =
     ∷ []
 
 -- wood cleared as much as used passes, and M is 0; one more is refused 12
-abbrev pub table_8 : List Entry
+abbrev table_8 : List Entry
 table_8 =
     worked_cleared 1 (cleared (wood 100 1 0 1 0) (used 1)) (sheet51 0 1 100 (pos 0) (pos 0) (pos 0) (pos 0) (pos 0)) none52 none53 none54 (masses 0 0 0 100000 99900000) zeros
     ∷ refused (written 1 (cleared (wood 101 1 0 1 0) (used 1))) 12 0
@@ -373,7 +373,7 @@ abbrev soiled : List ℕ → ℤ → ℤ → Entry
 soiled rows g c = worked_all 2 (soil-rows rows) none51 none52 none53 none54 none43 (sheet55 g c) 0 none13 none44 zeros
 
 -- below zero too a half of a year's change goes to even: from -2.5 to -2, from -1.5 to -2, and from -0.5 to 0, which has no sign
-abbrev pub table_11 : List Entry
+abbrev table_11 : List Entry
 table_11 =
     soiled (lost 5) (negsuc 499999) (negsuc 1)
     ∷ soiled (lost 3) (negsuc 299999) (negsuc 1)
@@ -381,7 +381,7 @@ table_11 =
     ∷ []
 
 -- of three stock rows, two are of scattered trees; their carbon counts as that of land does
-abbrev pub table_12 : List Entry
+abbrev table_12 : List Entry
 table_12 =
     worked_all 1 (grown (trees 1 ++ ((2 ∷ 0 ∷ 100 ∷ 15 ∷ 10 ∷ []) ++ trees 3)))
     (sheet51 27015000 0 0 (pos 0) (pos 0) (pos 2701500000) (pos 9906) (negsuc 9905)) none52 none53 none54 none43 none55 2 none13 none44 zeros
@@ -391,7 +391,7 @@ table_12 =
 abbrev patch : ℕ → ℕ → ℕ → ℕ → List ℕ
 patch i type area before = i ∷ 1 ∷ type ∷ area ∷ before ∷ 700 ∷ 100 ∷ 100 ∷ 100 ∷ []
 
-abbrev pub table_13 : List Entry
+abbrev table_13 : List Entry
 table_13 =
     -- 13 at a type that is not the first in the return, and with a lower one in balance; its first row is the place, though that row does not differ by itself
     refused (written 2 (soil-rows (patch 1 3 9 10 ++ (patch 2 8 4 4 ++ (patch 3 3 6 5 ++ patch 4 8 2 3))))) 13 13
@@ -409,7 +409,7 @@ growing edition code =
     worked_all edition (grown (stock_of 1 code)) (sheet51 15000 0 0 (pos 0) (pos 0) (pos 1500000) (pos 6) (negsuc 5)) none52 none53 none54 none43 none55 code none13 none44 zeros
 
 -- "Edition 3 has no unit code 1"
-abbrev pub table_14 : List Entry
+abbrev table_14 : List Entry
 table_14 =
     -- scattered trees are worked out in editions 1 and 2, and land in edition 3
     growing 1 1
@@ -431,7 +431,7 @@ table_14 =
 abbrev parted : List ℕ
 parted = 1 ∷ 3 ∷ 20 ∷ 10 ∷ 500 ∷ 900 ∷ 0 ∷ 300 ∷ 800 ∷ 0 ∷ 7 ∷ 9 ∷ 2 ∷ 100 ∷ 0 ∷ 2 ∷ 5 ∷ 49 ∷ 100 ∷ 500 ∷ 900 ∷ 0 ∷ 300 ∷ 800 ∷ 0 ∷ 0 ∷ 0 ∷ 0 ∷ 0 ∷ 0 ∷ []
 
-abbrev pub table_tonnes : List Entry
+abbrev table_tonnes : List Entry
 table_tonnes =
     worked_cleared 1 (cleared parted (used 90)) (sheet51 0 90 9000 (pos 0) (pos 0) (pos 0) (pos 0) (pos 0)) (thin52 1) none53 none54
     (masses 13500000 1500000 7200000 1800000 6000000) zeros
@@ -441,7 +441,7 @@ table_tonnes =
 abbrev crop-rows : List ℕ → Lists
 crop-rows rows = [] ∷ [] ∷ [] ∷ defaults ∷ [] ∷ [] ∷ [] ∷ rows ∷ []
 
-abbrev pub table_44 : List Entry
+abbrev table_44 : List Entry
 table_44 =
     worked_all 2 (crop-rows (largest_crops 1 32)) none51 none52 none53 none54 none43 none55 0 none13
     (sheet44 3200000000000000000000000 426666666667 746666666667 502857142857 1051428571429)
@@ -474,50 +474,17 @@ due_of c = complete_of c.bytes
 abbrev pub said : Case → Complete
 said c = c.answer
 
-pub worked01 : map works_out table01 ≡ map wanted table01
-unfolding to_bits of_int mul add onsite_double offsite_double decay_double add_rows largest largest_fires blocks_from computed cut filed_list behind filed_from little_endian record_from in_turn head_of sealed weighed record_on used_from body_of block_of bytes_of rows_below row_from number even_of settled sum_of scattered_part stock_part harvest_part cleared_part onsite_part offsite_part decay_part counted_difference thinner_part stocks_of conversion_of gases_of abandoned_of abandoned_part savannas_of rows_from flatten total bad_list bad_lengths not_allowed list_rules carbon_share carbon_part value words_of totals_of entered released_of burned_by soil_carbon stock_now stock_then all_stocks soils_of lost_biomass oxidised_onsite_part charcoal_onsite_part oxidised_offsite_part charcoal_offsite_part unburned_part matter_of largest_crops residue_carbon crops_of
-worked01 = refl
+-- the table in two parts: a check of all entries at once wants more memory than it has
+abbrev pub first_entries : List Entry
+first_entries = table01 ++ (table_1 ++ (table_2 ++ (table_3 ++ table_5)))
 
-pub worked_1 : map works_out table_1 ≡ map wanted table_1
-unfolding to_bits of_int mul add onsite_double offsite_double decay_double add_rows largest largest_fires blocks_from computed cut filed_list behind filed_from little_endian record_from in_turn head_of sealed weighed record_on used_from body_of block_of bytes_of rows_below row_from number even_of settled sum_of scattered_part stock_part harvest_part cleared_part onsite_part offsite_part decay_part counted_difference thinner_part stocks_of conversion_of gases_of abandoned_of abandoned_part savannas_of rows_from flatten total bad_list bad_lengths not_allowed list_rules carbon_share carbon_part value words_of totals_of entered released_of burned_by soil_carbon stock_now stock_then all_stocks soils_of lost_biomass oxidised_onsite_part charcoal_onsite_part oxidised_offsite_part charcoal_offsite_part unburned_part matter_of largest_crops residue_carbon crops_of
-worked_1 = refl
+abbrev pub later_entries : List Entry
+later_entries = table_8 ++ (table_11 ++ (table_12 ++ (table_13 ++ (table_14 ++ (table_tonnes ++ table_44)))))
 
-pub worked_2 : map works_out table_2 ≡ map wanted table_2
+pub first_worked : map works_out first_entries ≡ map wanted first_entries
 unfolding to_bits of_int mul add onsite_double offsite_double decay_double add_rows largest largest_fires blocks_from computed cut filed_list behind filed_from little_endian record_from in_turn head_of sealed weighed record_on used_from body_of block_of bytes_of rows_below row_from number even_of settled sum_of scattered_part stock_part harvest_part cleared_part onsite_part offsite_part decay_part counted_difference thinner_part stocks_of conversion_of gases_of abandoned_of abandoned_part savannas_of rows_from flatten total bad_list bad_lengths not_allowed list_rules carbon_share carbon_part value words_of totals_of entered released_of burned_by soil_carbon stock_now stock_then all_stocks soils_of lost_biomass oxidised_onsite_part charcoal_onsite_part oxidised_offsite_part charcoal_offsite_part unburned_part matter_of largest_crops residue_carbon crops_of
-worked_2 = refl
+first_worked = refl
 
-pub worked_3 : map works_out table_3 ≡ map wanted table_3
+pub later_worked : map works_out later_entries ≡ map wanted later_entries
 unfolding to_bits of_int mul add onsite_double offsite_double decay_double add_rows largest largest_fires blocks_from computed cut filed_list behind filed_from little_endian record_from in_turn head_of sealed weighed record_on used_from body_of block_of bytes_of rows_below row_from number even_of settled sum_of scattered_part stock_part harvest_part cleared_part onsite_part offsite_part decay_part counted_difference thinner_part stocks_of conversion_of gases_of abandoned_of abandoned_part savannas_of rows_from flatten total bad_list bad_lengths not_allowed list_rules carbon_share carbon_part value words_of totals_of entered released_of burned_by soil_carbon stock_now stock_then all_stocks soils_of lost_biomass oxidised_onsite_part charcoal_onsite_part oxidised_offsite_part charcoal_offsite_part unburned_part matter_of largest_crops residue_carbon crops_of
-worked_3 = refl
-
-pub worked_5 : map works_out table_5 ≡ map wanted table_5
-unfolding to_bits of_int mul add onsite_double offsite_double decay_double add_rows largest largest_fires blocks_from computed cut filed_list behind filed_from little_endian record_from in_turn head_of sealed weighed record_on used_from body_of block_of bytes_of rows_below row_from number even_of settled sum_of scattered_part stock_part harvest_part cleared_part onsite_part offsite_part decay_part counted_difference thinner_part stocks_of conversion_of gases_of abandoned_of abandoned_part savannas_of rows_from flatten total bad_list bad_lengths not_allowed list_rules carbon_share carbon_part value words_of totals_of entered released_of burned_by soil_carbon stock_now stock_then all_stocks soils_of lost_biomass oxidised_onsite_part charcoal_onsite_part oxidised_offsite_part charcoal_offsite_part unburned_part matter_of largest_crops residue_carbon crops_of
-worked_5 = refl
-
-pub worked_8 : map works_out table_8 ≡ map wanted table_8
-unfolding to_bits of_int mul add onsite_double offsite_double decay_double add_rows largest largest_fires blocks_from computed cut filed_list behind filed_from little_endian record_from in_turn head_of sealed weighed record_on used_from body_of block_of bytes_of rows_below row_from number even_of settled sum_of scattered_part stock_part harvest_part cleared_part onsite_part offsite_part decay_part counted_difference thinner_part stocks_of conversion_of gases_of abandoned_of abandoned_part savannas_of rows_from flatten total bad_list bad_lengths not_allowed list_rules carbon_share carbon_part value words_of totals_of entered released_of burned_by soil_carbon stock_now stock_then all_stocks soils_of lost_biomass oxidised_onsite_part charcoal_onsite_part oxidised_offsite_part charcoal_offsite_part unburned_part matter_of largest_crops residue_carbon crops_of
-worked_8 = refl
-
-pub worked_11 : map works_out table_11 ≡ map wanted table_11
-unfolding to_bits of_int mul add onsite_double offsite_double decay_double add_rows largest largest_fires blocks_from computed cut filed_list behind filed_from little_endian record_from in_turn head_of sealed weighed record_on used_from body_of block_of bytes_of rows_below row_from number even_of settled sum_of scattered_part stock_part harvest_part cleared_part onsite_part offsite_part decay_part counted_difference thinner_part stocks_of conversion_of gases_of abandoned_of abandoned_part savannas_of rows_from flatten total bad_list bad_lengths not_allowed list_rules carbon_share carbon_part value words_of totals_of entered released_of burned_by soil_carbon stock_now stock_then all_stocks soils_of lost_biomass oxidised_onsite_part charcoal_onsite_part oxidised_offsite_part charcoal_offsite_part unburned_part matter_of largest_crops residue_carbon crops_of
-worked_11 = refl
-
-pub worked_12 : map works_out table_12 ≡ map wanted table_12
-unfolding to_bits of_int mul add onsite_double offsite_double decay_double add_rows largest largest_fires blocks_from computed cut filed_list behind filed_from little_endian record_from in_turn head_of sealed weighed record_on used_from body_of block_of bytes_of rows_below row_from number even_of settled sum_of scattered_part stock_part harvest_part cleared_part onsite_part offsite_part decay_part counted_difference thinner_part stocks_of conversion_of gases_of abandoned_of abandoned_part savannas_of rows_from flatten total bad_list bad_lengths not_allowed list_rules carbon_share carbon_part value words_of totals_of entered released_of burned_by soil_carbon stock_now stock_then all_stocks soils_of lost_biomass oxidised_onsite_part charcoal_onsite_part oxidised_offsite_part charcoal_offsite_part unburned_part matter_of largest_crops residue_carbon crops_of
-worked_12 = refl
-
-pub worked_13 : map works_out table_13 ≡ map wanted table_13
-unfolding to_bits of_int mul add onsite_double offsite_double decay_double add_rows largest largest_fires blocks_from computed cut filed_list behind filed_from little_endian record_from in_turn head_of sealed weighed record_on used_from body_of block_of bytes_of rows_below row_from number even_of settled sum_of scattered_part stock_part harvest_part cleared_part onsite_part offsite_part decay_part counted_difference thinner_part stocks_of conversion_of gases_of abandoned_of abandoned_part savannas_of rows_from flatten total bad_list bad_lengths not_allowed list_rules carbon_share carbon_part value words_of totals_of entered released_of burned_by soil_carbon stock_now stock_then all_stocks soils_of lost_biomass oxidised_onsite_part charcoal_onsite_part oxidised_offsite_part charcoal_offsite_part unburned_part matter_of largest_crops residue_carbon crops_of
-worked_13 = refl
-
-pub worked_14 : map works_out table_14 ≡ map wanted table_14
-unfolding to_bits of_int mul add onsite_double offsite_double decay_double add_rows largest largest_fires blocks_from computed cut filed_list behind filed_from little_endian record_from in_turn head_of sealed weighed record_on used_from body_of block_of bytes_of rows_below row_from number even_of settled sum_of scattered_part stock_part harvest_part cleared_part onsite_part offsite_part decay_part counted_difference thinner_part stocks_of conversion_of gases_of abandoned_of abandoned_part savannas_of rows_from flatten total bad_list bad_lengths not_allowed list_rules carbon_share carbon_part value words_of totals_of entered released_of burned_by soil_carbon stock_now stock_then all_stocks soils_of lost_biomass oxidised_onsite_part charcoal_onsite_part oxidised_offsite_part charcoal_offsite_part unburned_part matter_of largest_crops residue_carbon crops_of
-worked_14 = refl
-
-pub worked_tonnes : map works_out table_tonnes ≡ map wanted table_tonnes
-unfolding to_bits of_int mul add onsite_double offsite_double decay_double add_rows largest largest_fires blocks_from computed cut filed_list behind filed_from little_endian record_from in_turn head_of sealed weighed record_on used_from body_of block_of bytes_of rows_below row_from number even_of settled sum_of scattered_part stock_part harvest_part cleared_part onsite_part offsite_part decay_part counted_difference thinner_part stocks_of conversion_of gases_of abandoned_of abandoned_part savannas_of rows_from flatten total bad_list bad_lengths not_allowed list_rules carbon_share carbon_part value words_of totals_of entered released_of burned_by soil_carbon stock_now stock_then all_stocks soils_of lost_biomass oxidised_onsite_part charcoal_onsite_part oxidised_offsite_part charcoal_offsite_part unburned_part matter_of largest_crops residue_carbon crops_of
-worked_tonnes = refl
-
-pub worked_44 : map works_out table_44 ≡ map wanted table_44
-unfolding to_bits of_int mul add onsite_double offsite_double decay_double add_rows largest largest_fires blocks_from computed cut filed_list behind filed_from little_endian record_from in_turn head_of sealed weighed record_on used_from body_of block_of bytes_of rows_below row_from number even_of settled sum_of scattered_part stock_part harvest_part cleared_part onsite_part offsite_part decay_part counted_difference thinner_part stocks_of conversion_of gases_of abandoned_of abandoned_part savannas_of rows_from flatten total bad_list bad_lengths not_allowed list_rules carbon_share carbon_part value words_of totals_of entered released_of burned_by soil_carbon stock_now stock_then all_stocks soils_of lost_biomass oxidised_onsite_part charcoal_onsite_part oxidised_offsite_part charcoal_offsite_part unburned_part matter_of largest_crops residue_carbon crops_of
-worked_44 = refl
+later_worked = refl
