@@ -15,7 +15,7 @@ use Rattle.form.specs.First.{first, any}
 use Rattle.form.specs.Ruling.{rule}
 use Rattle.form.specs.Records.{Filed, filed_rows}
 use Rattle.form.specs.Sums.{sum_of, soil_type, area_now, area_then, area_in, sum_now, sum_then, uneven, type_of, uneven_below, lowest_uneven, soil_uneven}
-use Rattle.form.specs.declared.Spot.TheVariants.{At}
+use Rattle.std.specs.Prelude.{Some}
 use Rattle.form.proofs.Tests.{and-true, same_of}
 use Rattle.form.proofs.Search.{first_is, any_none, any_each, any_found}
 use Rattle.form.proofs.Order.{BrokenAt}
@@ -125,7 +125,7 @@ module _ (f : Filed) where
             by a (no g) (yes q) h = absurd (w.first j l a.0 a.1 q)
             by a (no g) (no q) h = absurd (true≢false (sym (h (omega arith)) ∙ a.3))
 
-    pub told_place : first (soil_uneven f) f.places ≡ At p
+    pub told_place : first (soil_uneven f) f.places ≡ Some p
     told_place =
         first_is (soil_uneven f) f.places p w.inside
         (is p w.used_there w.kind_there (rw w.type_there odd) (rw w.type_there (even-below soils t lower-even))) earlier

@@ -9,7 +9,7 @@ use native.Mathlib.Omega.{arith}
 use borrow.Author.Tests.{lt-ltb, le-ltb}
 use lib.Dec.{ltb}
 use Rattle.form.specs.First.{first, any}
-use Rattle.form.specs.declared.Spot.TheVariants.{At, Nowhere}
+use Rattle.std.specs.Prelude.{None, Some}
 use Rattle.form.proofs.Search.{first_is, first_is_none, any_none, any_found}
 
 -- the types of n rows, and which types are uneven
@@ -75,7 +75,7 @@ module _ (type : ℕ → ℕ) (odd : ℕ → Bool) (n : ℕ) where
         go (yes g) = rw (s.below i l (omega arith), and-false (ltb (type i) t))
         go (no g) = rw (le-ltb (type i) t (omega arith))
 
-    pub lowly_at : row < n → first test n ≡ At row
+    pub lowly_at : row < n → first test n ≡ Some row
     lowly_at h =
         let f = s.found h in
         first_is test n row h
@@ -90,5 +90,5 @@ module _ (type : ℕ → ℕ) (odd : ℕ → Bool) (n : ℕ) where
             let here : (ltb (type row) (type k) && odd (type row)) ≡ true = rw (← f.1, lt-ltb soil (type k) (omega arith), f.2) refl in
             rw (any_found (λ i. ltb (type i) (type k) && odd (type i)) row n here h, and-false (odd (type k))) refl
 
-    pub lowly_nowhere : n ≤ row → first test n ≡ Nowhere
+    pub lowly_nowhere : n ≤ row → first test n ≡ None
     lowly_nowhere h = first_is_none test n (λ k l. rw (s.below k l (omega (arith, s.none h, small k l))) refl)

@@ -17,9 +17,8 @@ use Rattle.form.specs.Layout.{numbers_of}
 use Rattle.form.specs.Ruling.{refuse, ruling}
 use Rattle.form.specs.Records.{Filed, filed_rows}
 use Rattle.form.specs.Sums.{soil_type, type_of, lowest_uneven, soil_uneven}
-use Rattle.form.specs.declared.Spot.{Spot}
-use Rattle.form.specs.declared.Spot.TheVariants.{At, Nowhere}
-use Rattle.form.specs.declared.Ruling.TheVariants.{Clean}
+use Rattle.form.specs.Refusals.{Clean}
+use Rattle.std.specs.Prelude.{None, Option, Some}
 use Rattle.form.proofs.Search.{first_at, first_none, first_is, first_is_none}
 use Rattle.standing.proofs.StandRows.{from_length, from_at}
 use Rattle.standing.proofs.Lines.{Line, line-rows}
@@ -55,12 +54,12 @@ module _ {f : Filed} {k p n : ℕ} (l : Line f k p n) (t : List ℕ → Bool) wh
     pub first-line : first test f.places ≡ shifted p (first q n)
     first-line = go (first q n) refl
       where
-        go : (s : Spot) → first q n ≡ s → first test f.places ≡ shifted p s
-        go (At i) e =
+        go : (s : Option ℕ) → first q n ≡ s → first test f.places ≡ shifted p s
+        go (Some i) e =
             let a = first_at q e in
             first_is test f.places (p + i) (l.inside i a.0) (there i a.0 ∙ sym (same i a.0) ∙ a.1)
             (λ j b. spared i (λ m x. sym (same m (omega arith)) ∙ a.2 m x) j (omega (arith, l.inside i a.0)) b)
-        go Nowhere e =
+        go None e =
             first_is_none test f.places
             (λ j g. all j g (dec_lt j (p + n)) (λ m x. sym (same m x) ∙ first_none q e m x))
           where
@@ -81,7 +80,7 @@ module _ {f : Filed} {p n : ℕ} (l : Line f 7 p n) where
   unfolding ruling soil_uneven
   line-ruling =
       let soils = filed_rows f 7 in
-      ap (λ (s : Spot). refuse 13 s Clean)
+      ap (λ (s : Option ℕ). refuse 13 s Clean)
       (first-line l (λ r. lowest_uneven soils (soil_type r)) (λ i. lowest_uneven soils (type_of soils i)) (λ i h. ap (lowest_uneven soils) (type_at i h))
       ∙ ap (λ (m : ℕ). shifted p (first (λ i. lowest_uneven soils (type_of soils i)) m)) (sym soils-long))
 

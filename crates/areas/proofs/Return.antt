@@ -14,7 +14,7 @@ use Rattle.form.specs.Records.{filed, filed_rows}
 use Rattle.form.specs.Verdict.{row_count, rows, Formed}
 use Rattle.form.specs.Standing.{first_block, start_place}
 use Rattle.form.specs.declared.Counts.{Counts}
-use Rattle.form.specs.declared.Ruling.TheVariants.{Clean}
+use Rattle.form.specs.Refusals.{Clean}
 use Rattle.form.proofs.EachKind.{kinds_are}
 use Rattle.standing.proofs.Accepted.{counted, first_block_lem, rows-length, few_rows}
 use Rattle.standing.proofs.Lines.{formed_line}

@@ -12,7 +12,7 @@ use lib.Dec.{ltb}
 use lib.ListN.{length, get_or}
 use Rattle.form.specs.First.{first, any}
 use Rattle.form.specs.Sums.{soil_type, uneven, type_of, uneven_below, lowest_uneven}
-use Rattle.form.specs.declared.Spot.TheVariants.{At, Nowhere}
+use Rattle.std.specs.Prelude.{None, Some}
 use Rattle.filing.specs.Lists.{rows_in}
 use Rattle.areas.specs.Areas.{soils_in, lower_of, first_uneven}
 use Rattle.areas.specs.declared.Lowest.{Lowest}
@@ -53,13 +53,13 @@ module _ (soils : List (List ℕ)) {n soil row : ℕ} (e : n ≡ length soils) (
   abbrev test : ℕ → ℕ → Bool
   test m i = uneven soils (type_of soils i) && not (any (λ k. ltb (type_of soils k) (type_of soils i) && uneven soils (type_of soils k)) m)
 
-  pub found_at : row < n → At row ≡ first_uneven soils
+  pub found_at : row < n → Some row ≡ first_uneven soils
   unfolding lowest_uneven uneven_below
-  found_at h = sym (subst (λ (m : ℕ). first (test m) m ≡ At row) e (lowly_at (type_of soils) (uneven soils) n s small h))
+  found_at h = sym (subst (λ (m : ℕ). first (test m) m ≡ Some row) e (lowly_at (type_of soils) (uneven soils) n s small h))
 
-  pub found_nowhere : n ≤ row → Nowhere ≡ first_uneven soils
+  pub found_nowhere : n ≤ row → None ≡ first_uneven soils
   unfolding lowest_uneven uneven_below
-  found_nowhere h = sym (subst (λ (m : ℕ). first (test m) m ≡ Nowhere) e (lowly_nowhere (type_of soils) (uneven soils) n s small h))
+  found_nowhere h = sym (subst (λ (m : ℕ). first (test m) m ≡ None) e (lowly_nowhere (type_of soils) (uneven soils) n s small h))
 
 pub small_types : (r : List ℕ) → ((i : ℕ) → get_or r i 0 < 2 ^ 32) → (i : ℕ) → i < rows_in 7 (length r) → type_of (soils_in r) i < 2 ^ 32
 small_types r h i l = omega (arith, ap soil_type (soils_at r i l), number_of r i 2 (omega arith), h (9 * i + 2))

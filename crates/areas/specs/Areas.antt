@@ -1,12 +1,10 @@
 -- Rule 13, as the code goes through it: the soil rows of a list, the two area sums of a soil type, the lowest type whose sums differ.
-use Rattle.std.specs.Prelude.{ℕ, ◌+◌, cond, ◌&&◌, List, [], ◌∷◌, ltb, length}
+use Rattle.std.specs.Prelude.{ℕ, ◌+◌, cond, ◌&&◌, List, [], ◌∷◌, ltb, length, Option}
 use Rattle.form.specs.First.{first}
 use Rattle.form.specs.Ruling.{Rule, rule, refuse}
 use Rattle.form.specs.Records.{Filed, filed_rows}
 use Rattle.form.specs.Sums.{area_now, area_then, area_in, sum_now, sum_then, uneven, type_of, lowest_uneven, soil_uneven}
-use Rattle.form.specs.declared.Spot.{Spot}
-use Rattle.form.specs.declared.Ruling.{Ruling}
-use Rattle.form.specs.declared.Ruling.TheVariants.{Clean}
+use Rattle.form.specs.Refusals.{Clean, Ruling}
 use Rattle.filing.specs.Lists.{filed_list}
 use Rattle.lists.specs.Rules.{shifted}
 use Rattle.areas.specs.declared.Areas.{Areas}
@@ -29,7 +27,7 @@ abbrev pub lower_of : List (List ℕ) → Lowest → ℕ → ℕ → Lowest
 lower_of soils best type i = cond (ltb type best.soil && uneven soils type) (record { soil = type; row = i }) best
 
 -- the first row of the lowest soil type whose two area sums differ
-abbrev pub first_uneven : List (List ℕ) → Spot
+abbrev pub first_uneven : List (List ℕ) → Option ℕ
 first_uneven soils = first (λ i. lowest_uneven soils (type_of soils i)) (length soils)
 
 -- 13 by itself, and of rows the first of which stands at a place

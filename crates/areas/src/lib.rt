@@ -13,7 +13,7 @@ ghost use Rattle.lists.specs.Rules.{Good};
 ghost use Rattle.areas.specs.Areas.{soils_in, areas_of, with_row, lower_of, first_uneven, soil_rules, ruled_from};
 
 use decoding::decode_kind;
-use form::{Counts, Ruling, Spot, first_block};
+use form::{Counts, Refusal, first_block};
 use lists::{blocks_in, count, length_at, sum};
 
 // The two area sums of a soil type.
@@ -66,10 +66,8 @@ fn add_areas(rows: &[u32], soil: u64) -> Areas
 {
     let n = count(7, rows.len());
     let mut sums = Areas { now: 0, then: 0 };
-    let mut j: usize = 0;
-    while j < n {
+    for j in 0..n {
         sums = add_row(sums, soil, rows, j);
-        j += 1;
     }
     sums
 }
@@ -98,7 +96,7 @@ fn lower(best: Lowest, rows: &[u32], j: usize) -> Lowest
 }
 
 // The first row of the lowest soil type whose two area sums differ.
-fn first_uneven(rows: &[u32]) -> Spot
+fn first_uneven(rows: &[u32]) -> Option<u32>
     requires { rows_in 7 (length rows.now) ≤ 32 }
     ensures { result ≡ first_uneven (soils_in rows.now) }
 {
@@ -107,28 +105,26 @@ fn first_uneven(rows: &[u32]) -> Spot
         soil: ABOVE_ALL,
         row: n,
     };
-    let mut j: usize = 0;
-    while j < n {
+    for j in 0..n {
         best = lower(best, rows, j);
-        j += 1;
     }
     if best.row < n {
-        return Spot::At(best.row as u32);
+        return Some(best.row as u32);
     }
-    Spot::Nowhere
+    None
 }
 
 // 13, of rows the first of which stands at a place.
-fn rule_from(place: usize, rows: &[u32]) -> Ruling
+fn rule_from(place: usize, rows: &[u32]) -> Result<(), Refusal>
     requires { (place < 2 ^ 24) × (rows_in 7 (length rows.now) ≤ 32) }
     ensures { result ≡ ruled_from place (soils_in rows.now) }
 {
     match first_uneven(rows) {
-        Spot::At(row) => Ruling::Broken {
+        Some(row) => Err(Refusal {
             number: 13,
             place: place as u32 + row,
-        },
-        Spot::Nowhere => Ruling::Clean,
+        }),
+        None => Ok(()),
     }
 }
 
@@ -143,12 +139,12 @@ fn decode_soils(bytes: &[u8], c: Counts, room: &mut [u32]) -> usize
 }
 
 // Rule 13 of a return whose rows can be read.
-pub fn rule_areas(bytes: &[u8], c: Counts) -> Ruling
+pub fn rule_areas(bytes: &[u8], c: Counts) -> Result<(), Refusal>
     requires { Formed bytes.now c }
     ensures { result ≡ ruling (soil_rules (filed bytes.now)) }
 {
     if c.soils == 0 {
-        return Ruling::Clean;
+        return Ok(());
     }
     let mut room = [0u32; SOIL_NUMBERS];
     let end = decode_soils(bytes, c, &mut room);
@@ -166,7 +162,7 @@ pub fn areas_of(bytes: &[u8], c: Counts, soil: u32) -> Areas
 }
 
 // Rule 13 of lists that 10 has found good: the soil rows lie behind those of the six kinds before.
-pub fn rule_unwritten(lengths: &[u32], area: &[u32]) -> Ruling
+pub fn rule_unwritten(lengths: &[u32], area: &[u32]) -> Result<(), Refusal>
     requires { Good lengths.now (length area.now) }
     ensures { result ≡ ruling (soil_rules (filed_lists (cut lengths.now area.now))) }
 {

@@ -8,8 +8,9 @@ use lib.Dec.{ltb}
 use Rattle.form.specs.Ruling.{rule, ruling}
 use Rattle.form.specs.Records.{Filed, filed_rows}
 use Rattle.form.specs.Sums.{column_k, column_l, cleared_above, sum_rules}
-use Rattle.form.specs.declared.Ruling.{Ruling}
-use Rattle.form.specs.declared.Ruling.TheVariants.{Clean, Broken}
+use Rattle.std.specs.Prelude.{Err}
+use Rattle.form.specs.Refusals.{Clean, Ruling}
+use Rattle.form.specs.declared.Refusal.{Refusal}
 use Rattle.form.proofs.Order.{ruled_before, kept-before}
 use Rattle.areas.specs.Areas.{soil_rules}
 use Rattle.wide.proofs.Laws.{value_words}
@@ -25,7 +26,7 @@ module _ (f : Filed) {w : Wood} {v : Ruling} (said : v ≡ ruling (wood_rules w)
   wood-ruling : ruling (rule 12 1 (λ p. cleared_above (filed_rows f 3) (filed_rows f 1)) ∷ []) ≡ v
   wood-ruling = sym (said ∙ ap (λ (x : Wood). ruling (wood_rules x)) weighed ∙ wood-rules (filed_rows f 3) (filed_rows f 1))
 
-  pub wood-broken : {n p : ℕ} → v ≡ Broken n p → Broken n p ≡ ruling (sum_rules f)
+  pub wood-broken : {e : Refusal} → v ≡ Err e → Err e ≡ ruling (sum_rules f)
   wood-broken e = sym (ruled_before (rule 12 1 (λ p. cleared_above (filed_rows f 3) (filed_rows f 1)) ∷ []) (soil_rules f) (wood-ruling ∙ e))
 
   pub wood-kept : {u : Ruling} → v ≡ Clean → u ≡ ruling (soil_rules f) → u ≡ ruling (sum_rules f)

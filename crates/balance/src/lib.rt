@@ -11,7 +11,7 @@ ghost use Rattle.form.specs.Verdict.{rows, Formed};
 ghost use Rattle.balance.specs.Wood.{wood_of, wood_rules};
 
 use areas::rule_areas;
-use form::{Counts, Ruling};
+use form::{Counts, Refusal};
 use sums::{sum_cleared, sum_harvest};
 use totals::DryMatter;
 use wide::{less, times};
@@ -24,16 +24,16 @@ pub struct Wood {
 }
 
 // Rule 12: equality is good.
-pub fn rule_wood(w: Wood) -> Ruling
+pub fn rule_wood(w: Wood) -> Result<(), Refusal>
     ensures { result ≡ ruling (wood_rules w) }
 {
     if less(w.used.0, w.cleared.0) {
-        return Ruling::Broken {
+        return Err(Refusal {
             number: 12,
             place: 0,
-        };
+        });
     }
-    Ruling::Clean
+    Ok(())
 }
 
 // The wood of a return whose rows can be read.
@@ -50,12 +50,10 @@ pub fn weigh_wood(bytes: &[u8], c: Counts) -> Wood
 }
 
 // The rules that add rows up, of a return that keeps the others.
-pub fn rule_sums(bytes: &[u8], c: Counts) -> Ruling
+pub fn rule_sums(bytes: &[u8], c: Counts) -> Result<(), Refusal>
     requires { Formed bytes.now c }
     ensures { result ≡ ruling (sum_rules (filed bytes.now)) }
 {
-    match rule_wood(weigh_wood(bytes, c)) {
-        Ruling::Broken { number, place } => Ruling::Broken { number, place },
-        Ruling::Clean => rule_areas(bytes, c),
-    }
+    rule_wood(weigh_wood(bytes, c))?;
+    rule_areas(bytes, c)
 }

@@ -11,7 +11,7 @@ ghost use Rattle.balance.specs.Wood.{wood_of, wood_part};
 
 use crate::{Wood, rule_wood};
 use areas::rule_unwritten;
-use form::{Ruling, counted_difference};
+use form::{Refusal, counted_difference};
 use lists::{count, length_at};
 use totals::DryMatter;
 use wide::{Wide, add, add_word, of, times};
@@ -66,10 +66,8 @@ fn sum_list(kind: usize, rows: &[u32]) -> Wide
 {
     let n = count(kind, rows.len());
     let mut sum = of(0);
-    let mut j: usize = 0;
-    while j < n {
+    for j in 0..n {
         sum = add(sum, part_in(kind, rows, j));
-        j += 1;
     }
     sum
 }
@@ -91,12 +89,10 @@ pub fn weigh_lists(lengths: &[u32], area: &[u32]) -> Wood
 }
 
 // The rules that add rows up, of such lists.
-pub fn rule_lists(lengths: &[u32], area: &[u32]) -> Ruling
+pub fn rule_lists(lengths: &[u32], area: &[u32]) -> Result<(), Refusal>
     requires { Good lengths.now (length area.now) }
     ensures { result ≡ ruling (sum_rules (filed_lists (cut lengths.now area.now))) }
 {
-    match rule_wood(weigh_lists(lengths, area)) {
-        Ruling::Broken { number, place } => Ruling::Broken { number, place },
-        Ruling::Clean => rule_unwritten(lengths, area),
-    }
+    rule_wood(weigh_lists(lengths, area))?;
+    rule_unwritten(lengths, area)
 }

@@ -1,15 +1,13 @@
-// Rules 2 to 4 over all blocks: the zero bytes of a block, rule 4 of it whole, and the lowest block that breaks a rule.
+// Rule 4 of a block: its zero bytes, and with what `sequence` tests the rule whole.
 #![tactic(auto)]
 
 ghost use Rattle.std.specs.Prelude.{◌≡◌, ◌+◌, ◌*◌, ◌^◌, ◌≤◌, ◌<◌, length};
-ghost use Rattle.form.specs.First.{first, any};
+ghost use Rattle.form.specs.First.{any};
 ghost use Rattle.form.specs.Layout.{layout, stray_at};
 ghost use Rattle.form.specs.Block.{blocks, stray_record, bad_block};
-ghost use Rattle.blocks.specs.Steps.{block_test};
 
 use form::layout::{field, numbers};
-use form::{Spot, byte_at, stray_in};
-use headers::{bad_check, bad_header};
+use form::{byte_at, stray_in};
 use sequence::{
     bad_count, blocks_below, ends_low, kind_falls, low_behind, none_before, not_filled, over_filled,
 };
@@ -22,12 +20,10 @@ fn stray_fields(bytes: &[u8], kind: usize, at: usize) -> bool
     let n = numbers(kind);
     let mut stray = false;
     let mut k: usize = 0;
-    let mut i: usize = 0;
-    while i < n {
+    for i in 0..n {
         let f = field(kind, i);
         stray = stray | stray_in(bytes, at + k, f.zeros);
         k = k + f.zeros + f.width;
-        i += 1;
     }
     stray | stray_in(bytes, at + k, 40 - k)
 }
@@ -65,17 +61,16 @@ fn stray_records(bytes: &[u8], b: usize) -> bool
     requires { b < blocks bytes.now }
     ensures { result ≡ any (stray_record bytes.now b) 12 }
 {
-    let mut r: usize = 0;
-    while r < 12 {
+    for r in 0..12 {
         if stray_record(bytes, b, r) {
             return true;
         }
-        r += 1;
     }
     false
 }
 
-fn bad_block(bytes: &[u8], b: usize) -> bool
+// Rule 4 of a block, whole.
+pub fn bad_block(bytes: &[u8], b: usize) -> bool
     requires { (b < blocks bytes.now) × (length bytes.now < 2 ^ 24) }
     ensures { result ≡ bad_block bytes.now b }
 {
@@ -90,34 +85,4 @@ fn bad_block(bytes: &[u8], b: usize) -> bool
         | not_filled(bytes, b)
         | over_filled(earlier, count)
         | (stray_records(bytes, b) | stray_in(bytes, 512 * b + 488, 20))
-}
-
-// Rule 2, 3 or 4 of a block.
-fn breaks(bytes: &[u8], number: u32, b: usize) -> bool
-    requires { (b < blocks bytes.now) × (length bytes.now < 2 ^ 24) }
-    ensures { result ≡ block_test number bytes.now b }
-{
-    if number == 2 {
-        return bad_check(bytes, b);
-    }
-    if number == 3 {
-        return bad_header(bytes, b);
-    }
-    bad_block(bytes, b)
-}
-
-// Rule 2, 3 or 4 over all blocks.
-pub fn first_broken(bytes: &[u8], number: u32) -> Spot
-    requires { length bytes.now < 2 ^ 24 }
-    ensures { result ≡ first (block_test number bytes.now) (blocks bytes.now) }
-{
-    let n = bytes.len() / 512;
-    let mut b: usize = 0;
-    while b < n {
-        if breaks(bytes, number, b) {
-            return Spot::At(b as u32);
-        }
-        b += 1;
-    }
-    Spot::Nowhere
 }

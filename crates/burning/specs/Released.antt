@@ -73,3 +73,11 @@ burned_by c by rows = record {
 abbrev pub Room : Released → Type 0
 Room t =
     (value t.carbon.0 < 2 ^ 110) × (value t.ch4.0 < 2 ^ 110) × (value t.co.0 < 2 ^ 110) × (value t.n2o.0 < 2 ^ 110) × (value t.nox.0 < 2 ^ 110)
+
+-- each of the five is at most n
+pub record ReleasedMost (n : ℕ) (t : Released) : Type 0 where
+  pub carbon : value t.carbon.0 ≤ n
+  pub ch4 : value t.ch4.0 ≤ n
+  pub co : value t.co.0 ≤ n
+  pub n2o : value t.n2o.0 ≤ n
+  pub nox : value t.nox.0 ≤ n

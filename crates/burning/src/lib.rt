@@ -3,13 +3,16 @@
 
 ghost use Rattle.std.specs.Prelude.{◌≡◌, ◌+◌, ◌^◌, ◌≤◌, ◌<◌, length};
 ghost use Rattle.wide.specs.Numbers.{value};
-ghost use Rattle.burning.specs.Released.{Thousandths, ratios_at, released_of, plus, none, Room};
+ghost use Rattle.totals.specs.Laws.{amounts};
+ghost use Rattle.burning.specs.Released.{Thousandths, of_carbon, of_nitrogen, ratios_at, released_of, plus, none, Room, ReleasedMost};
+ghost use Rattle.burning.specs.Laws.{released_none, released_both, released_fit};
 ghost use Rattle.burning.specs.Gases.{Fits, gas_of_carbon, gas_of_nitrogen, gases_of};
 
 use form::two_at;
 use totals::Carbon;
+use totals::adding::{AddsUp, Mass};
 use wide::rounding::rounded;
-use wide::{Wide, add, of, times};
+use wide::{Wide, times};
 
 // N/C and the gases' ratios, in thousandths.
 #[derive(Clone, Copy)]
@@ -79,31 +82,74 @@ pub fn release(c: Carbon, by: Ratios) -> Released
     }
 }
 
-// Nothing burned.
-pub fn nothing() -> Released
-    ensures { result ≡ none }
-{
-    let zero = of(0);
-    Released {
-        carbon: Carbon(zero),
-        ch4: CarbonReleased(zero),
-        co: CarbonReleased(zero),
-        n2o: NitrogenReleased(zero),
-        nox: NitrogenReleased(zero),
+impl Mass for CarbonReleased {
+    ghost amount = { λ m. value m.0 };
+
+    ghost of_amount = { of_carbon };
+
+    ghost amounts = { amounts };
+
+    fn words(self) -> Wide {
+        self.0
+    }
+
+    fn of_words(words: Wide) -> CarbonReleased {
+        CarbonReleased(words)
     }
 }
 
-// One row more.
-pub fn add_row(t: Released, p: Released) -> Released
-    requires { Room t × Room p }
-    ensures { result ≡ plus t p }
-{
-    Released {
-        carbon: Carbon(add(t.carbon.0, p.carbon.0)),
-        ch4: CarbonReleased(add(t.ch4.0, p.ch4.0)),
-        co: CarbonReleased(add(t.co.0, p.co.0)),
-        n2o: NitrogenReleased(add(t.n2o.0, p.n2o.0)),
-        nox: NitrogenReleased(add(t.nox.0, p.nox.0)),
+impl Mass for NitrogenReleased {
+    ghost amount = { λ m. value m.0 };
+
+    ghost of_amount = { of_nitrogen };
+
+    ghost amounts = { amounts };
+
+    fn words(self) -> Wide {
+        self.0
+    }
+
+    fn of_words(words: Wide) -> NitrogenReleased {
+        NitrogenReleased(words)
+    }
+}
+
+// What goes off of two rows, or of more: each with its own.
+impl AddsUp for Released {
+    ghost none = { none };
+
+    ghost both = { plus };
+
+    ghost Most = { ReleasedMost };
+
+    ghost Fit = { λ t p. Room t × Room p };
+
+    ghost row_most = { 10 ^ 29 };
+
+    ghost most_none = { released_none };
+
+    ghost most_both = { released_both };
+
+    ghost fit = { released_fit };
+
+    fn nothing() -> Released {
+        Released {
+            carbon: Carbon::nothing(),
+            ch4: CarbonReleased::nothing(),
+            co: CarbonReleased::nothing(),
+            n2o: NitrogenReleased::nothing(),
+            nox: NitrogenReleased::nothing(),
+        }
+    }
+
+    fn plus(self, other: Released) -> Released {
+        Released {
+            carbon: self.carbon.plus(other.carbon),
+            ch4: self.ch4.plus(other.ch4),
+            co: self.co.plus(other.co),
+            n2o: self.n2o.plus(other.n2o),
+            nox: self.nox.plus(other.nox),
+        }
     }
 }
 

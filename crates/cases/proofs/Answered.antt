@@ -2,9 +2,9 @@
 use Rattle.std.specs.Prelude.{◌≡◌, refl, get_or, drop}
 use Rattle.std.proofs.Common.{ap, ap₂, ◌∙◌}
 use mathlib.Core.List.{List, [], ◌∷◌, ◌++◌, map}
-use Rattle.form.specs.declared.Ruling.{Ruling}
+use Rattle.doubles.specs.Answers.{Answer}
+use Rattle.form.specs.Refusals.{Ruling}
 use Rattle.worksheets.specs.Answers.{Outcome}
-use Rattle.doubles.specs.declared.Answer.{Answer}
 use Rattle.cases.specs.FromRows.{sheets_from_rows, doubles_from_rows}
 use Rattle.cases.specs.Cases.{Complete, bits_of, complete_of, Case, Entry, of_rows, of_bytes, case_of, entries, table, works_out, wanted, due_of, said}
 use Rattle.cases.specs.Cases.{first_entries, later_entries, first_worked, later_worked}

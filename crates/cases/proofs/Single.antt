@@ -20,9 +20,8 @@ use Rattle.form.specs.Block.{weighed}
 use Rattle.form.specs.Records.{counted_difference, rows_below}
 use Rattle.form.specs.Verdict.{rows}
 use Rattle.form.specs.Standing.{rows_from}
-use Rattle.form.specs.declared.Ruling.{Ruling}
-use Rattle.form.specs.declared.Ruling.TheVariants.{Clean}
-use Rattle.form.specs.declared.Spot.TheVariants.{Nowhere}
+use Rattle.form.specs.Refusals.{Clean, Ruling}
+use Rattle.std.specs.Prelude.{None}
 use Rattle.form.proofs.EachKind.{kinds_are}
 use Rattle.form.proofs.Search.{first_none}
 use Rattle.filing.specs.Lists.{cut, filed_list, behind, filed_from}
@@ -68,7 +67,7 @@ figure_in i (refusal n p) = pos 0
 abbrev agrees : ℕ → Bool
 agrees i = eqb (nat_abs (figure_in i (nth land_case).answer.sheets)) (nat_abs (figure_in i (nth 1).answer.sheets))
 
-none_agrees : first agrees figure_count ≡ Nowhere
+none_agrees : first agrees figure_count ≡ None
 unfolding first listed value words_of
 none_agrees = refl
 

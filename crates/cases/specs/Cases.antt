@@ -1,6 +1,6 @@
 -- "Proved as a single table, under one claim about all of it": 01's cases (a) to (j), eight of edition 2, four of halves, one of a row thinner in both periods, one of the largest savannas, two of wood, three of mineral soils, two of number 13, nine of scattered trees and number 14 one of where every tonne went and three of crop residues, each a whole return with its complete answer, every figure of it.
 -- Where the case is about rows, the return is made of them by the definition of writing; where it is about bytes, the bytes stand here. An accepted return of rows is answered from the rows (FromRows), any other from its bytes.
-use Rattle.std.specs.Prelude.{ℕ, zero, suc, ◌≡◌, refl, length, replicate, take, drop, ℤ, pos, negsuc}
+use Rattle.std.specs.Prelude.{ℕ, zero, suc, ◌≡◌, refl, length, replicate, take, drop, ℤ, pos, negsuc, Ok, Err}
 use mathlib.Core.List.{List, [], ◌∷◌, ◌++◌, map, flatten}
 use Rattle.std.specs.Float.{binary64}
 use Rattle.std.specs.Float.Ieee.{add, mul, of_int, to_bits}
@@ -11,8 +11,8 @@ use Rattle.form.specs.Block.{weighed}
 use Rattle.form.specs.Standing.{rows_from}
 use Rattle.form.specs.Records.{counted_difference, rows_below}
 use Rattle.form.specs.Computed.{computed}
-use Rattle.form.specs.declared.Ruling.{Ruling}
-use Rattle.form.specs.declared.Ruling.TheVariants.{Clean}
+use Rattle.doubles.specs.Answers.{Answer}
+use Rattle.form.specs.Refusals.{Clean, Ruling}
 use Rattle.filing.specs.Lists.{Lists, cut, total, filed_list, behind, filed_from}
 use Rattle.filing.specs.Written.{record_from, in_turn, head_of, sealed, record_on, used_from, body_of, block_of, bytes_of}
 use Rattle.lists.specs.Rules.{bad_list, bad_lengths, not_allowed, list_rules}
@@ -46,8 +46,6 @@ use Rattle.worksheets.specs.Sheets.{standard, parameter_numbers, abandoned_of, s
 use Rattle.worksheets.specs.declared.sheets.Abandoned.{Abandoned}
 use Rattle.worksheets.specs.Answers.{Outcome, worked, refusal, outcome_of}
 use Rattle.doubles.specs.Subtotals.{onsite_double, offsite_double, decay_double, add_rows, subtotals_of, answer_of}
-use Rattle.doubles.specs.declared.Answer.{Answer}
-use Rattle.doubles.specs.declared.Answer.TheVariants.{Figures, Refused}
 use Rattle.cases.specs.FromRows.{rows_given}
 
 -- a complete answer: the sheets, or the refusal; and the bits of the three doubles, on site, off site and decayed, or none
@@ -56,8 +54,8 @@ pub record Complete : Type 0 where
   pub doubles : List ℕ
 
 abbrev pub bits_of : Answer → List ℕ
-bits_of (Figures d) = to_bits binary64 d.onsite ∷ to_bits binary64 d.offsite ∷ to_bits binary64 d.decay ∷ []
-bits_of (Refused n p) = []
+bits_of (Ok d) = to_bits binary64 d.onsite ∷ to_bits binary64 d.offsite ∷ to_bits binary64 d.decay ∷ []
+bits_of (Err r) = []
 
 -- what is to be answered of any bytes
 abbrev pub complete_of : List ℕ → Complete
@@ -460,7 +458,7 @@ table = map case_of entries
 abbrev pub works_out : Entry → Ruling × Complete
 works_out (of_rows edition l a) = (
   ruling (list_rules edition (map length l) (flatten l)),
-  record { sheets = worked (figures_of (rows_given l)); doubles = bits_of (Figures (subtotals_of (rows_given l 1))) },
+  record { sheets = worked (figures_of (rows_given l)); doubles = bits_of (Ok (subtotals_of (rows_given l 1))) },
 )
 works_out (of_bytes s a) = (Clean, complete_of s)
 

@@ -1,9 +1,9 @@
 -- "One day's return, whole": the worked day of 01, from its rows to its bytes and back.
-use Rattle.std.specs.Prelude.{ℕ, suc, ◌≡◌, refl, replicate}
+use Rattle.std.specs.Prelude.{ℕ, suc, ◌≡◌, refl, replicate, None, Ok, Some, Option}
 use Rattle.std.proofs.Common.{sym, ap, subst, ◌∙◌}
 use mathlib.Core.List.{List, [], ◌∷◌, ◌++◌, flatten}
 use Rattle.form.specs.First.{first}
-use Rattle.form.specs.Ruling.{ruling}
+use Rattle.form.specs.Ruling.{refuse, ruling}
 use Rattle.form.specs.Bytes.{number, little_endian}
 use Rattle.form.specs.Layout.{kinds, row_from, above_limit}
 use Rattle.form.specs.Edition.{last_kind}
@@ -12,9 +12,8 @@ use Rattle.form.specs.Records.{counted_difference, bad_id, broken_by, rows_below
 use Rattle.form.specs.Sums.{sum_of, scattered_part, harvest_part, cleared_part, soil_uneven}
 use Rattle.form.specs.Verdict.{count_below, counts_of, verdict_of}
 use Rattle.form.specs.declared.Counts.{Counts}
-use Rattle.form.specs.declared.Ruling.TheVariants.{Clean}
-use Rattle.form.specs.declared.Spot.TheVariants.{At, Nowhere}
-use Rattle.form.specs.declared.Verdict.TheVariants.{Accepted, Refused}
+use Rattle.form.specs.Refusals.{Clean, Refused}
+use Rattle.rows.specs.Answers.{Written}
 use Rattle.filing.specs.Lists.{cut, total, filed_list, behind, filed_from}
 use Rattle.filing.specs.Written.{record_from, in_turn, head_of, sealed, record_on, used_from, body_of, block_of, bytes_of}
 use Rattle.lists.specs.Rules.{bad_list, bad_lengths, not_allowed, list_rules}
@@ -24,8 +23,6 @@ use Rattle.rows.specs.Writing.{written, write_answer, bytes_after}
 use Rattle.rows.proofs.Rows.{short, all_read}
 use Rattle.trips.proofs.RoundTrips.{accepted_again}
 use Rattle.worksheets.specs.Sheets.{standard, parameter_numbers}
-use Rattle.rows.specs.declared.Written.{Written}
-use Rattle.rows.specs.declared.Written.TheVariants as write
 
 -- its bytes, as examples/day.return has them
 abbrev pub day : List ℕ
@@ -41,15 +38,15 @@ unfolding first ruling kinds last_kind above_limit counted_difference bad_id bro
 answered lengths rows room = write_answer 1 lengths rows room
 
 -- written to one byte more than it needs, and to one less
-pub day-written : write_answer 1 day_lengths day_area (replicate 2049 9) ≡ write.Done 2048
+pub day-written : write_answer 1 day_lengths day_area (replicate 2049 9) ≡ Ok 2048
 unfolding answered
 day-written = refl
 
-pub day-bytes : bytes_after 1 day_lengths day_area (replicate 2049 9) (write.Done 2048) ≡ day ++ (9 ∷ [])
+pub day-bytes : bytes_after 1 day_lengths day_area (replicate 2049 9) (Ok 2048) ≡ day ++ (9 ∷ [])
 unfolding answered
 day-bytes = refl
 
-short-bytes : write_answer 1 day_lengths day_area (replicate 2047 9) ≡ write.Refused 9 0
+short-bytes : write_answer 1 day_lengths day_area (replicate 2047 9) ≡ Refused 9 0
 unfolding answered
 short-bytes = refl
 
@@ -70,32 +67,32 @@ day-counts : counts_of day ≡ day_counts
 unfolding number count_below row_from rows_below sum_of scattered_part
 day-counts = refl
 
-pub day_judged : verdict_of day ≡ Accepted day_counts
+pub day_judged : verdict_of day ≡ Ok day_counts
 day_judged =
-    subst (λ (s : List ℕ). verdict_of s ≡ Accepted (counts_of s)) day_is (accepted_again 1 day_lengths day_area day-clean) ∙ ap Accepted day-counts
+    subst (λ (s : List ℕ). verdict_of s ≡ Ok (counts_of s)) day_is (accepted_again 1 day_lengths day_area day-clean) ∙ ap Ok day-counts
 
 -- read to a room of one number more than the rows need, and to rooms that end inside a kind's rows
-fits : first (outgrown day 32) (suc kinds) ≡ Nowhere
+fits : first (outgrown day 32) (suc kinds) ≡ None
 unfolding first kinds rows_below row_from number flatten in_turn
 fits = refl
 
-pub day-read : read_answer day (replicate 32 9) ≡ Accepted (record { edition = 1; conversion = 1; stock = 1; harvest = 1; parameters = 1; abandoned = 0; savanna = 0; soils = 0; crops = 0; scattered = 0 })
-day-read = sym (all_read day (replicate 32 9) day_counts day_judged fits)
+pub day-read : read_answer day (replicate 32 9) ≡ Ok (record { edition = 1; conversion = 1; stock = 1; harvest = 1; parameters = 1; abandoned = 0; savanna = 0; soils = 0; crops = 0; scattered = 0 })
+day-read = sym (all_read day (replicate 32 9) day_counts day_judged refl refl (ap (λ (x : Option ℕ). refuse 9 x Clean) fits))
 
-pub day-rows : room_after day (replicate 32 9) (Accepted (record { edition = 1; conversion = 1; stock = 1; harvest = 1; parameters = 1; abandoned = 0; savanna = 0; soils = 0; crops = 0; scattered = 0 })) ≡ day_area ++ (9 ∷ [])
+pub day-rows : room_after day (replicate 32 9) (Ok (record { edition = 1; conversion = 1; stock = 1; harvest = 1; parameters = 1; abandoned = 0; savanna = 0; soils = 0; crops = 0; scattered = 0 })) ≡ day_area ++ (9 ∷ [])
 unfolding kinds rows_below row_from number flatten in_turn
 day-rows = refl
 
-harvest-outgrown : first (outgrown day 24) (suc kinds) ≡ At 3
+harvest-outgrown : first (outgrown day 24) (suc kinds) ≡ Some 3
 unfolding first kinds rows_below row_from number flatten in_turn
 harvest-outgrown = refl
 
 short-room : read_answer day (replicate 24 9) ≡ Refused 9 3
-short-room = sym (short day (replicate 24 9) day_counts day_judged harvest-outgrown)
+short-room = sym (short day (replicate 24 9) day_counts day_judged refl refl (ap (λ (x : Option ℕ). refuse 9 x Clean) harvest-outgrown))
 
-conversion-outgrown : first (outgrown day 0) (suc kinds) ≡ At 1
+conversion-outgrown : first (outgrown day 0) (suc kinds) ≡ Some 1
 unfolding first kinds rows_below row_from number flatten in_turn
 conversion-outgrown = refl
 
 no_room : read_answer day [] ≡ Refused 9 1
-no_room = sym (short day [] day_counts day_judged conversion-outgrown)
+no_room = sym (short day [] day_counts day_judged refl refl (ap (λ (x : Option ℕ). refuse 9 x Clean) conversion-outgrown))

@@ -1,6 +1,6 @@
 -- What is asked of a line and of a word, byte by byte. Assumes nothing.
---     no_mark, no_mark_by        a text too short for the mark, or with another first byte
---     filler_met, filler_passed, fillers_passed    the turns of a loop that asks whether a line is empty
+--     no_mark_by                 a text with another first byte than the mark's
+--     all_fillers                a line is empty just where all its bytes are what is left of empty cells
 --     note_by                    a line by the byte at which its blanks end, and the next
 --     other_length, other_letter, same_letter, all_letters    the turns of a loop that compares words
 --     word_is, is_word           a word is this one just where it is the same once its letters are made small
@@ -11,36 +11,23 @@ use mathlib.Core.List.{List, [], ◌∷◌, map}
 use native.Mathlib.Omega.{arith}
 use native.Mathlib.Nat.{add-zero}
 use lib.Dec.{eqb}
-use lib.ListN.{length, drop, get_or, drop_of_length-le, get_or-eq_default}
+use lib.ListN.{length, drop, get_or, drop_of_length-le}
 use lib.Seq.{get_or-drop}
 use borrow.Author.Tests.{eq-eqb, ne_eqb, eqb-true}
+use Rattle.std.specs.List.{list_all}
 use Rattle.cells.specs.Lines.{part, text_start, without_mark}
 use Rattle.cells.specs.Cells.{front_off, is_filler, is_empty_line, begins_note, is_note, small, same_word}
 use Rattle.cells.proofs.Parts.{opened, part-rest}
 use Rattle.cells.proofs.Tests.{and_off}
 
-pub no_mark : (l : List ℕ) → length l < 3 → 0 ≡ text_start l
-unfolding text_start
-no_mark l h =
-    let m = eqb (get_or l 0 0) 239 && eqb (get_or l 1 0) 187 in
-    sym (ap (λ (b : ℕ). cond (m && eqb b 191) 3 0) (get_or-eq_default l 0 {n = 2} (omega arith)) ∙ ap (λ (t : Bool). cond t 3 0) (and_off m))
-
 pub no_mark_by : (l : List ℕ) → (get_or l 0 0 ≡ 239 → ⊥) → without_mark l ≡ l
 unfolding text_start
 no_mark_by l n = ap (λ (t : Bool). drop (cond (t && eqb (get_or l 1 0) 187 && eqb (get_or l 2 0) 191) 3 0) l) (ne_eqb (get_or l 0 0) 239 n)
 
-module _ (line : List ℕ) (k : ℕ) (e : is_empty_line (drop k line) ≡ is_empty_line line) where
-  pub filler_met : k < length line → is_filler (get_or line k 0) ≡ false → false ≡ is_empty_line line
-  unfolding is_empty_line
-  filler_met h f = sym (ap is_empty_line (opened line k h) ∙ rw f) ∙ e
-
-  pub filler_passed : k < length line → is_filler (get_or line k 0) ≡ true → is_empty_line (drop (k + 1) line) ≡ is_empty_line line
-  unfolding is_empty_line
-  filler_passed h f = sym (ap is_empty_line (opened line k h) ∙ rw f) ∙ e
-
-  pub fillers_passed : length line ≤ k → true ≡ is_empty_line line
-  unfolding is_empty_line
-  fillers_passed h = sym (ap is_empty_line (drop_of_length-le line {i = k} h)) ∙ e
+pub all_fillers : (line : List ℕ) → list_all is_filler line ≡ is_empty_line line
+unfolding is_empty_line
+all_fillers [] = refl
+all_fillers (b ∷ l) = ap (λ (t : Bool). is_filler b && t) (all_fillers l)
 
 pub note_by : (sep at : ℕ) (line : List ℕ) → part at (length line) line ≡ front_off sep (part 0 (length line) line)
     → is_note sep line ≡ (eqb (get_or line at 0) 35 || (eqb (get_or line at 0) 34 && eqb (get_or line (at + 1) 0) 35))

@@ -33,29 +33,19 @@ pub struct Field {
 fn byte_at(bytes: &[u8], at: usize) -> u8
     ensures { result ≡ get_or bytes.now at 0 }
 {
-    if at < bytes.len() {
-        return bytes[at];
-    }
-    0
+    if at < bytes.len() { bytes[at] } else { 0 }
 }
 
 // Where a text begins: behind the byte order mark, if it has one.
+#[tactic(auto, unfolding(crate::specs::Lines::text_start))]
 pub fn text_start(text: &[u8]) -> usize
     ensures { (result ≡ text_start text.now) × (result ≤ length text.now) }
 {
-    if text.len() < 3 {
-        return 0;
+    if byte_at(text, 0) == 239 && byte_at(text, 1) == 187 && byte_at(text, 2) == 191 {
+        3
+    } else {
+        0
     }
-    if text[0] != 239 {
-        return 0;
-    }
-    if text[1] != 187 {
-        return 0;
-    }
-    if text[2] != 191 {
-        return 0;
-    }
-    3
 }
 
 // Where the field or the line that begins at a place ends: at the next separator, or at the end.
@@ -63,14 +53,12 @@ pub fn end_of(text: &[u8], at: usize, sep: u8) -> usize
     requires { at ≤ length text.now }
     ensures { EndAt sep text.now at result }
 {
-    let mut k = at;
-    while k < text.len() {
+    for k in at..text.len() {
         if text[k] == sep {
             return k;
         }
-        k += 1;
     }
-    k
+    text.len()
 }
 
 // The line that begins at a place. A CR is looked for only where an LF stands behind it.
@@ -108,16 +96,11 @@ pub fn next_line(text: &[u8], at: usize) -> Line
 }
 
 // A space, and a tab where it does not separate.
+#[tactic(auto, unfolding(crate::specs::Cells::blank_in))]
 fn is_blank(b: u8, sep: u8) -> bool
     ensures { result ≡ blank_in sep b }
 {
-    if b == 32 {
-        return true;
-    }
-    if b != 9 {
-        return false;
-    }
-    sep != 9
+    b == 32 || b == 9 && sep != 9
 }
 
 // Past the blanks at the front of a part.
@@ -125,15 +108,12 @@ pub fn front(line: &[u8], from: usize, to: usize, sep: u8) -> usize
     requires { (from ≤ to) × (to ≤ length line.now) }
     ensures { (from ≤ result) × (result ≤ to) × (part result to line.now ≡ front_off sep (part from to line.now)) }
 {
-    let mut k = from;
-    while k < to {
-        let blank = is_blank(line[k], sep);
-        if !blank {
+    for k in from..to {
+        if !is_blank(line[k], sep) {
             return k;
         }
-        k += 1;
     }
-    k
+    to
 }
 
 // Before the blanks at its end.
@@ -141,15 +121,12 @@ fn back(line: &[u8], from: usize, to: usize, sep: u8) -> usize
     requires { (from ≤ to) × (to ≤ length line.now) }
     ensures { (from ≤ result) × (result ≤ to) × (part from result line.now ≡ end_off sep (part from to line.now)) }
 {
-    let mut k = to;
-    while from < k {
-        let blank = is_blank(line[k - 1], sep);
-        if !blank {
-            return k;
+    for k in (from..to).rev() {
+        if !is_blank(line[k], sep) {
+            return k + 1;
         }
-        k -= 1;
     }
-    k
+    from
 }
 
 // Inside the double quotes around a part, if they are around it.
@@ -187,10 +164,7 @@ fn past(line: &[u8], end: usize) -> usize
     requires { end ≤ length line.now }
     ensures { (result ≡ min (end + 1) (length line.now)) × (drop result line.now ≡ drop (end + 1) line.now) }
 {
-    if end < line.len() {
-        return end + 1;
-    }
-    end
+    if end < line.len() { end + 1 } else { end }
 }
 
 // The field that begins at a place: its cell, and where the next begins.
@@ -216,6 +190,7 @@ pub fn found(line: &[u8], sep: u8) -> usize
     let mut at = past(line, first);
     let mut seen: usize = 0;
     let mut last: usize = 0;
+    // no plainer by `for`: a turn steps on by a field, whose length only the turn finds
     while at < line.len() {
         let field = next_field(line, at, sep);
         seen += 1;
@@ -228,34 +203,18 @@ pub fn found(line: &[u8], sep: u8) -> usize
 }
 
 // A comma, a semicolon, a tab or a space.
+#[tactic(auto, unfolding(crate::specs::Cells::is_filler))]
 fn is_filler(b: u8) -> bool
     ensures { result ≡ is_filler b }
 {
-    if b == 44 {
-        return true;
-    }
-    if b == 59 {
-        return true;
-    }
-    if b == 9 {
-        return true;
-    }
-    b == 32
+    b == 44 || b == 59 || b == 9 || b == 32
 }
 
 // A line of nothing but what a spreadsheet leaves of empty cells.
 pub fn is_empty_line(line: &[u8]) -> bool
     ensures { result ≡ is_empty_line line.now }
 {
-    let mut k: usize = 0;
-    while k < line.len() {
-        let filler = is_filler(line[k]);
-        if !filler {
-            return false;
-        }
-        k += 1;
-    }
-    true
+    line.iter().all(|b| is_filler(*b))
 }
 
 // Before the separator is known a tab is a blank: a comma as separator asks just that.
@@ -264,26 +223,15 @@ pub fn is_note(line: &[u8], sep: u8) -> bool
 {
     let at = front(line, 0, line.len(), sep);
     let b = byte_at(line, at);
-    if b == 35 {
-        return true;
-    }
-    if b != 34 {
-        return false;
-    }
-    byte_at(line, at + 1) == 35
+    b == 35 || b == 34 && byte_at(line, at + 1) == 35
 }
 
 // A capital letter made small; any other byte is as it was.
+#[tactic(auto, unfolding(crate::specs::Cells::small))]
 fn small_letter(b: u8) -> u8
     ensures { result ≡ small b }
 {
-    if b < 65 {
-        return b;
-    }
-    if 90 < b {
-        return b;
-    }
-    b + 32
+    if 65 <= b && b <= 90 { b + 32 } else { b }
 }
 
 // Whether a field is a word of small letters, its own letters capital or not.
@@ -293,13 +241,11 @@ pub fn same_word(word: &[u8], field: &[u8]) -> bool
     if word.len() != field.len() {
         return false;
     }
-    let mut k: usize = 0;
-    while k < word.len() {
+    for k in 0..word.len() {
         let b = small_letter(field[k]);
         if word[k] != b {
             return false;
         }
-        k += 1;
     }
     true
 }

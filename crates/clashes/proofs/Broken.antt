@@ -12,14 +12,14 @@ use lib.Dec.{eqb}
 use Rattle.form.specs.Ruling.{rule, ruling}
 use Rattle.form.specs.Records.{Filed, RowTest, bad_id, broken_by, field_above, scattered_trees, fractions_above}
 use Rattle.form.specs.Sums.{soil_uneven, filed_rules}
-use Rattle.form.specs.declared.Ruling.TheVariants.{Broken}
+use Rattle.form.specs.Refusals.{Refused}
 use Rattle.form.proofs.Tests.{and-true}
 use Rattle.form.proofs.Order.{rule_of, BrokenAt, ruling_least, least_has, least_of}
 use Rattle.form.proofs.SecondEdition.{first-scattered}
 use Rattle.areas.proofs.Balanced.{place_told}
 use Rattle.reasons.proofs.Rows.{id_used}
 
-module _ (edition : ℕ) (f : Filed) {n p : ℕ} (e : ruling (filed_rules edition f) ≡ Broken n p) where
+module _ (edition : ℕ) (f : Filed) {n p : ℕ} (e : ruling (filed_rules edition f) ≡ Refused n p) where
   broken_at : (m : ℕ) → n ≡ m → BrokenAt (rule_of m (filed_rules edition f)) p
   broken_at m q = subst (λ (x : ℕ). BrokenAt (rule_of x (filed_rules edition f)) p) q (least_of refl (ruling_least e))
 

@@ -6,6 +6,7 @@ use native.Mathlib.Nat.{le-pred_of_lt}
 use native.Mathlib.Numerals.{bound}
 use native.Mathlib.Omega.{arith}
 use lib.Dec.{lit<}
+use lib.IntN.{ℤ}
 use lib.ListN.{length, length-append}
 use Rattle.form.specs.Records.{Filed, filed_rows}
 use Rattle.form.specs.Sums.{column_k, column_l}
@@ -16,20 +17,19 @@ use Rattle.decimal.proofs.DigitLaws.{decimal-length}
 use Rattle.balance.specs.Wood.{wood_of}
 use Rattle.balance.specs.declared.Wood.{Wood}
 use Rattle.phrases.specs.Ascii.{codes}
-use Rattle.phrases.specs.Lines.{lines_text, filled_in}
-use Rattle.phrases.specs.Threes.{of_threes}
+use Rattle.phrases.specs.Lines.{lines_text, filled_in, unsigned}
 use Rattle.wording.specs.Wording.{wood_lines, value_lines}
 use Rattle.clashes.specs.Clashes.{wood_clash}
 
 abbrev pub wood_names : List ℕ
 wood_names = codes "used cleared "
 
--- three numbers each
-abbrev pub wood_numbers : Wood → List ℕ
-wood_numbers w = 0 ∷ w.used.0.hi ∷ w.used.0.lo ∷ 0 ∷ w.cleared.0.hi ∷ w.cleared.0.lo ∷ []
+-- what the two masses come to
+abbrev pub wood_values : Wood → List ℤ
+wood_values w = unsigned (value w.used.0 ∷ value w.cleared.0 ∷ [])
 
-wood-filled : (w : Wood) → filled_in wood_names (of_threes (wood_numbers w)) ≡ lines_text (wood_lines (value w.used.0) (value w.cleared.0))
-unfolding filled_in of_threes lines_text
+wood-filled : (w : Wood) → filled_in wood_names (wood_values w) ≡ lines_text (wood_lines (value w.used.0) (value w.cleared.0))
+unfolding filled_in lines_text
 wood-filled w = refl
 
 -- two words have at most 39 digits
@@ -41,7 +41,7 @@ abbrev pub Words : Wide → Type 0
 Words w = (w.lo < 2 ^ 64) × (w.hi < 2 ^ 64)
 
 module _ {w : Wood} (u : Words w.used.0) (l : Words w.cleared.0) where
-  pub wood-short : length (filled_in wood_names (of_threes (wood_numbers w))) ≤ 100
+  pub wood-short : length (filled_in wood_names (wood_values w)) ≤ 100
   unfolding lines_text
   wood-short =
       rw (wood-filled w)
@@ -49,7 +49,7 @@ module _ {w : Wood} (u : Words w.used.0) (l : Words w.cleared.0) where
       (omega (arith, decimal-length 38 (value w.used.0) (wide_short w.used.0 u.0 u.1), decimal-length 38 (value w.cleared.0) (wide_short w.cleared.0 l.0 l.1))))
 
 pub wood_told : (f : Filed) {w : Wood} → w ≡ wood_of (filed_rows f 3) (filed_rows f 1)
-    → filled_in wood_names (of_threes (wood_numbers w)) ≡ lines_text (value_lines (wood_clash f))
+    → filled_in wood_names (wood_values w) ≡ lines_text (value_lines (wood_clash f))
 wood_told f {w} e =
     wood-filled w
     ∙ rw e

@@ -9,7 +9,7 @@ ghost use Rattle.form.specs.Sums.{filed_rules};
 ghost use Rattle.filing.specs.Lists.{cut, filed_lists};
 ghost use Rattle.lists.specs.Rules.{Good};
 ghost use Rattle.phrases.specs.Lines.{WrittenIn, lines_text};
-ghost use Rattle.form.specs.declared.Ruling.TheVariants.{Broken};
+ghost use Rattle.form.specs.Refusals.{Refused};
 ghost use Rattle.wording.specs.Wording.{value_lines};
 ghost use Rattle.clashes.specs.Stands.{Stands};
 ghost use Rattle.clashes.specs.Clashes.{Here, wood_clash, clash_lines};
@@ -21,6 +21,7 @@ use form::layout::numbers;
 use lists::{blocks_of, count, length_at};
 use naming::put_row;
 use phrases::put_lines;
+use phrases::text::whole;
 use reasons::Row;
 
 // The row at a place: its kind, where its numbers begin in the area, and how many rows of all kinds stand before it.
@@ -41,8 +42,7 @@ pub fn find_row(lengths: &[u32], area: &[u32], place: u32) -> Whereabouts
     let mut from: usize = 0;
     let mut start: usize = 0;
     let mut before: usize = 0;
-    let mut k: usize = 0;
-    while k < KINDS {
+    for k in 0..KINDS {
         let n = length_at(lengths, k);
         let next = start + 12 * blocks_of(k + 1, n);
         if p < next {
@@ -56,7 +56,6 @@ pub fn find_row(lengths: &[u32], area: &[u32], place: u32) -> Whereabouts
         before += count(k + 1, n);
         start = next;
         from += n;
-        k += 1;
     }
     // Never: a place behind the last kind's is not used.
     Whereabouts {
@@ -73,14 +72,7 @@ fn put_wood(lengths: &[u32], area: &[u32], out: &mut [u8], at: usize) -> usize
     ensures { WrittenIn 250 (lines_text (value_lines (wood_clash (filed_lists (cut lengths.now area.now))))) out.old out.new at result }
 {
     let wood = weigh_lists(lengths, area);
-    let values = [
-        0,
-        wood.used.0.hi,
-        wood.used.0.lo,
-        0,
-        wood.cleared.0.hi,
-        wood.cleared.0.lo,
-    ];
+    let values = [whole(wood.used.0), whole(wood.cleared.0)];
     put_lines(b"used cleared ", &values, out, at)
 }
 
@@ -96,7 +88,7 @@ fn put_of_row(
     at: usize,
 ) -> usize
     requires good { Good lengths.now (length area.now) }
-    requires area_value { ruling (filed_rules edition (filed_lists (cut lengths.now area.now))) ≡ Broken number row.place }
+    requires area_value { ruling (filed_rules edition (filed_lists (cut lengths.now area.now))) ≡ Refused number row.place }
     requires fact { (number ≡ 12 → ⊥) × Here (filed_lists (cut lengths.now area.now)) row numbers.now }
     requires at_in_bounds { at + 250 ≤ length out.old }
     ensures { WrittenIn 250 (lines_text (clash_lines edition (filed_lists (cut lengths.now area.now)) number row.place)) out.old out.new at result }
@@ -121,7 +113,7 @@ pub fn put_clash(
     at: usize,
 ) -> usize
     requires good { Good lengths.now (length area.now) }
-    requires area_value { ruling (filed_rules edition (filed_lists (cut lengths.now area.now))) ≡ Broken number place }
+    requires area_value { ruling (filed_rules edition (filed_lists (cut lengths.now area.now))) ≡ Refused number place }
     requires at_in_bounds { at + 250 ≤ length out.old }
     ensures { WrittenIn 250 (lines_text (clash_lines edition (filed_lists (cut lengths.now area.now)) number place)) out.old out.new at result }
 {

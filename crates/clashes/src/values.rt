@@ -36,8 +36,7 @@ pub fn field_above(row: Row, numbers: &[u32]) -> Reason
     requires { (length numbers.now ≡ numbers_of row.kind) × (length numbers.now ≤ 16) }
     ensures { result ≡ limit_by row (above_from 0 (layout row.kind) numbers.now) }
 {
-    let mut i: usize = 0;
-    while i < numbers.len() {
+    for i in 0..numbers.len() {
         let limit = field(row.kind as usize, i).limit;
         let value = numbers[i];
         if limit < value {
@@ -48,11 +47,10 @@ pub fn field_above(row: Row, numbers: &[u32]) -> Reason
                 limit,
             };
         }
-        i += 1;
     }
     Reason::FieldAbove {
         row,
-        field: i as u32,
+        field: numbers.len() as u32,
         value: 0,
         limit: 0,
     }

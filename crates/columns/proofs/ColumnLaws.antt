@@ -2,20 +2,23 @@
 --     told            a function of a field's number gives the decimals of the columns, by one test that the checker computes
 --     few_decimals    a field has at most four; with_few, beside what they are
 --     by_unit         the decimals go by the unit in a stock row alone, and there only behind the unit itself
+--     kind_is         a kind, as it is told
 --     name_met, name-passed    a word by the first of some names: it names that kind, or what the others say
 use Prim.Native.Nat.{ℕ, zero, suc, ◌≤◌, ◌<◌}
-use mathlib.Core.Path.{◌≡◌, refl, sym, ap, ◌∙◌}
+use mathlib.Core.Path.{◌≡◌, refl, sym, ap, subst, ◌∙◌}
 use mathlib.Core.Bool.{Bool, true, false, not, ◌&&◌}
 use mathlib.Core.List.{List, [], ◌∷◌}
 use native.Mathlib.Omega.{arith}
 use borrow.Author.Tests.{leb-true, eqb-true, not-false}
 use lib.Dec.{leb, eqb}
 use lib.ListN.{length, get_or}
+use Rattle.std.specs.Prelude.{Some, None}
+use Rattle.form.specs.Layout.{kinds}
 use Rattle.form.specs.First.{any}
 use Rattle.cells.specs.Cells.{same_word}
 use Rattle.form.proofs.Tests.{and-true, taken, left}
 use Rattle.form.proofs.Search.{any_each}
-use Rattle.columns.specs.Columns.{Column, plain, columns, decimals_of, named_from}
+use Rattle.columns.specs.Columns.{Column, plain, columns, decimals_of, named_from, kind_or_none}
 
 -- ---- by its number
 
@@ -79,3 +82,16 @@ module _ (k : ℕ) (n : List ℕ) (ns : List (List ℕ)) (word : List ℕ) {b : 
   pub name-passed : {r : ℕ} → b ≡ false → r ≡ named_from (suc k) ns word → r ≡ named_from k (n ∷ ns) word
   unfolding named_from
   name-passed t more = left _ (sym e ∙ t) more
+
+-- a kind, as it is told
+pub kind_is : {k n : ℕ} → suc k ≡ n → suc k ≤ kinds → (Some (suc k) ≡ kind_or_none n) × (n ≤ kinds)
+kind_is e h = (ap kind_or_none e, subst (λ (x : ℕ). x ≤ kinds) e h)
+
+-- and back
+pub none_named : (n : ℕ) → None ≡ kind_or_none n → n ≡ 0
+none_named zero e = refl
+none_named (suc n) e = let z : ◌≡◌ {A = ℕ} 0 1 = cc in absurd (omega arith)
+
+pub some_named : (k n : ℕ) → Some k ≡ kind_or_none n → (k ≡ n) × (0 < k)
+some_named k zero e = let z : ◌≡◌ {A = ℕ} 0 1 = cc in absurd (omega arith)
+some_named k (suc n) e = let q : k ≡ suc n = cc in (q, omega (arith, q))

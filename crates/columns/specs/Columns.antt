@@ -1,6 +1,6 @@
 -- The columns of a row as text: "Write this table once, in data, beside the layouts". What each kind's fields are measured in and how many decimals they have, in the
 -- order of `layouts`; and the kinds by their names. Assumes nothing.
-use Rattle.std.specs.Prelude.{ℕ, suc, ◌≡◌, refl, Bool, cond, ◌&&◌, List, [], ◌∷◌, map, length, get_or, eqb}
+use Rattle.std.specs.Prelude.{ℕ, suc, ◌≡◌, refl, Bool, cond, ◌&&◌, List, [], ◌∷◌, map, length, get_or, eqb, zero, Option, Some, None}
 use Rattle.form.specs.Layout.{Layout, layouts}
 use Rattle.phrases.specs.Ascii.{codes}
 use Rattle.cells.specs.Cells.{same_word}
@@ -146,3 +146,8 @@ named_from k (n ∷ ns) word = cond (same_word n word) k (named_from (suc k) ns 
 
 abbrev pub kind_named : List ℕ → ℕ
 kind_named word = named_from 1 kind_names word
+
+-- as it is told: a kind, or that it is none
+abbrev pub kind_or_none : ℕ → Option ℕ
+kind_or_none zero = None
+kind_or_none (suc k) = Some (suc k)

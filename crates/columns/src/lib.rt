@@ -3,7 +3,7 @@
 
 ghost use Rattle.std.specs.Prelude.{◌≡◌, ◌≤◌, ◌<◌, length, get_or};
 ghost use Rattle.form.specs.Layout.{kinds, numbers_of};
-ghost use Rattle.columns.specs.Columns.{plain, conversion, stock, harvest, abandoned, savanna, soil, crop, decimals_of, kind_named};
+ghost use Rattle.columns.specs.Columns.{plain, conversion, stock, harvest, abandoned, savanna, soil, crop, decimals_of, kind_named, kind_or_none};
 
 use cells::same_word;
 
@@ -11,16 +11,12 @@ fn conversion(i: usize) -> u32
     requires { i < length conversion }
     ensures { result ≡ (get_or conversion i plain).decimals }
 {
-    if i == 0 {
-        return 0;
+    match i {
+        0 => 0,
+        1 | 10 => 2,
+        2 | 3 | 11 | 12 => 1,
+        _ => 3,
     }
-    if (i == 1) | (i == 10) {
-        return 2;
-    }
-    if (i == 2) | (i == 3) | (i == 11) | (i == 12) {
-        return 1;
-    }
-    3
 }
 
 fn stock(unit: u32, i: usize) -> u32
@@ -43,62 +39,59 @@ fn harvest(i: usize) -> u32
     requires { i < length harvest }
     ensures { result ≡ (get_or harvest i plain).decimals }
 {
-    if i == 0 {
-        return 0;
+    match i {
+        0 => 0,
+        2 => 3,
+        _ => 1,
     }
-    if i == 2 { 3 } else { 1 }
 }
 
 fn abandoned(i: usize) -> u32
     requires { i < length abandoned }
     ensures { result ≡ (get_or abandoned i plain).decimals }
 {
-    if i == 0 {
-        return 0;
+    match i {
+        0 => 0,
+        3 | 6 => 3,
+        _ => 2,
     }
-    if (i == 3) | (i == 6) { 3 } else { 2 }
 }
 
 fn savanna(i: usize) -> u32
     requires { i < length savanna }
     ensures { result ≡ (get_or savanna i plain).decimals }
 {
-    if i == 0 {
-        return 0;
+    match i {
+        0 => 0,
+        1 => 2,
+        2 => 1,
+        _ => 3,
     }
-    if i == 1 {
-        return 2;
-    }
-    if i == 2 { 1 } else { 3 }
 }
 
 fn soil(i: usize) -> u32
     requires { i < length soil }
     ensures { result ≡ (get_or soil i plain).decimals }
 {
-    if i < 3 {
-        return 0;
+    match i {
+        0..=2 => 0,
+        3 | 4 => 3,
+        5 => 1,
+        _ => 2,
     }
-    if i < 5 {
-        return 3;
-    }
-    if i == 5 { 1 } else { 2 }
 }
 
 fn crop(i: usize) -> u32
     requires { i < length crop }
     ensures { result ≡ (get_or crop i plain).decimals }
 {
-    if i == 0 {
-        return 0;
+    match i {
+        0 => 0,
+        1 => 1,
+        2 => 2,
+        6 => 4,
+        _ => 3,
     }
-    if i == 1 {
-        return 1;
-    }
-    if i == 2 {
-        return 2;
-    }
-    if i == 6 { 4 } else { 3 }
 }
 
 // The decimals of field i of a row with a unit. A new kind is a new line.
@@ -119,33 +112,33 @@ pub fn decimals(kind: usize, unit: u32, i: usize) -> u32
     }
 }
 
-// The kind that a word names, or 0. A new kind is a new line.
-pub fn kind_named(word: &[u8]) -> usize
-    ensures { (result ≡ kind_named word.now) × (result ≤ kinds) }
+// The kind that a word names. A new kind is a new line.
+pub fn kind_named(word: &[u8]) -> Option<usize>
+    ensures { (result ≡ kind_or_none (kind_named word.now)) × (kind_named word.now ≤ kinds) }
 {
     if same_word(b"conversion", word) {
-        return 1;
+        return Some(1);
     }
     if same_word(b"stock", word) {
-        return 2;
+        return Some(2);
     }
     if same_word(b"harvest", word) {
-        return 3;
+        return Some(3);
     }
     if same_word(b"parameters", word) {
-        return 4;
+        return Some(4);
     }
     if same_word(b"abandoned", word) {
-        return 5;
+        return Some(5);
     }
     if same_word(b"savanna", word) {
-        return 6;
+        return Some(6);
     }
     if same_word(b"soil", word) {
-        return 7;
+        return Some(7);
     }
     if same_word(b"crop", word) {
-        return 8;
+        return Some(8);
     }
-    0
+    None
 }

@@ -1,23 +1,21 @@
 // Standard input and output for programs that take some bytes up to a limit and print a text.
 #![tactic(auto)]
 
-ghost use Rattle.std.specs.Prelude.{◌≤◌, ◌<◌, length, take, get_or, IsTrue};
+ghost use Rattle.std.specs.Prelude.{◌≤◌, ◌<◌, length, take, get_or, IsTrue, IfOk};
 ghost use Rattle.std.specs.Io.KnownBytes.{Consumes, Keeps, IsAtEnd};
 ghost use Rattle.console.specs.Input.{TakesAll};
-ghost use Rattle.console.specs.Counts.{IsPrefixLen};
+ghost use Rattle.console.specs.Counts.{IsPrefixLen, taken};
 ghost use Rattle.console.specs.Within.{Within};
 
-use phrases::Put;
 use std::io::Read;
 
-// How many bytes were taken, and whether that is all that the room or the input had.
-#[derive(Clone, Copy)]
-pub struct Taken {
-    pub whole: bool,
+// The input could not be read to its end; so many bytes were taken before.
+#[derive(Clone, Copy, Debug, PartialEq, Eq)]
+pub struct Unread {
     pub count: usize,
 }
 
-// Reads until the room is full, the input ends or a read fails.
+// Reads until the room is full, the input ends or a read fails. A read says by itself how far it came, so no index is counted.
 fn read_full<R: Read>(input: &mut R, bytes: &mut [u8]) -> usize
     ensures count { IsPrefixLen result bytes.new }
     ensures bytes { Consumes (R.remaining input.old) (R.remaining input.new) (take result bytes.new) }
@@ -48,22 +46,25 @@ fn is_at_end<R: Read>(input: &mut R) -> bool
     }
 }
 
-// An input, until it ends or the room is full.
-pub fn take_from<R: Read>(input: &mut R, bytes: &mut [u8]) -> Taken
-    ensures count { IsPrefixLen result.count bytes.new }
-    ensures whole { IsTrue result.whole → TakesAll (R.remaining input.old) (R.remaining input.new) result.count bytes.new }
+// How many bytes an input gave until it ended or the room was full.
+pub fn take_from<R: Read>(input: &mut R, bytes: &mut [u8]) -> Result<usize, Unread>
+    ensures count { IsPrefixLen (taken result) bytes.new }
+    ensures whole { IfOk result (λ n. TakesAll (R.remaining input.old) (R.remaining input.new) n bytes.new) }
 {
     let count = read_full(input, bytes);
-    let whole = count == bytes.len() || is_at_end(input);
-    Taken { whole, count }
+    if count == bytes.len() || is_at_end(input) {
+        Ok(count)
+    } else {
+        Err(Unread { count })
+    }
 }
 
 // Standard input, until it ends or the room is full. Where it could not be read, `unread` is said on standard error.
-pub fn take(rt: &HostRuntime, bytes: &mut [u8], unread: &[u8]) -> Taken
-    ensures { IsPrefixLen result.count bytes.new }
+pub fn take(rt: &HostRuntime, bytes: &mut [u8], unread: &[u8]) -> Result<usize, Unread>
+    ensures { IsPrefixLen (taken result) bytes.new }
 {
     let taken = take_from(&mut rt.stdin(), bytes);
-    if !taken.whole {
+    if taken.is_err() {
         let _ = rt.stderr().write_all(unread);
     }
     taken
@@ -77,19 +78,19 @@ pub fn put(rt: &HostRuntime, text: &[u8], lost: &[u8]) {
 }
 
 // The text that was put at the front of the room. A program's room is never too short for its text.
-pub fn print(rt: &HostRuntime, room: &[u8], done: Put, lost: &[u8])
+pub fn print(rt: &HostRuntime, room: &[u8], done: Option<usize>, lost: &[u8])
     requires { Within done room.now }
 {
-    if let Put::Done(n) = done {
+    if let Some(n) = done {
         put(rt, &room[..n], lost);
     }
 }
 
 // The same on standard error: what was asked for is not there, and this is why. Nothing is said of what standard error does not take.
-pub fn complain(rt: &HostRuntime, room: &[u8], done: Put)
+pub fn complain(rt: &HostRuntime, room: &[u8], done: Option<usize>)
     requires { Within done room.now }
 {
-    if let Put::Done(n) = done {
+    if let Some(n) = done {
         let _ = rt.stderr().write_all(&room[..n]);
     }
 }

@@ -1,7 +1,7 @@
 -- Whatever answer meets an entry point's contract is the one that the definitions give, with the lent memory as they say.
 -- No contract asks anything of its caller, and each admits one answer.
 use Rattle.std.proofs.Common.{ap, ◌∙◌}
-use Rattle.std.specs.Prelude.{List, ℕ, ℤ}
+use Rattle.std.specs.Prelude.{List, ℕ, ℤ, Option}
 use seplogic.Ra.Ura.{Ura}
 use base.Logic.{SProp, id⊢}
 use contract.Monad.{Fun}
@@ -9,13 +9,12 @@ use prog.Memory.{Memory}
 use prog.Routine.{Routine}
 use types.Logic.{Logic}
 use Rattle.form.specs.Verdict.{verdict_of}
-use Rattle.form.specs.declared.Ruling.{Ruling}
+use Rattle.form.specs.Refusals.{Ruling}
 use Rattle.rows.specs.Reading.{read_answer, room_after}
 use Rattle.rows.specs.Writing.{write_answer, bytes_after}
 use Rattle.worksheets.specs.Answers.{outcome_of, said, answered}
 use Rattle.doubles.specs.Subtotals.{answer_of}
 use Rattle.phrases.specs.Room.{put_of, text_after}
-use Rattle.phrases.specs.declared.Put.{Put}
 use Rattle.report.specs.Lines.{printed}
 use Rattle.tabled.specs.Figures.{figures_answer, figures_after}
 use Rattle.counted.specs.Counts.{judge_call, counts_after}
@@ -64,7 +63,7 @@ abbrev pub coded : Ruling → (Ruling → List ℕ) → ℕ × List ℕ
 coded v after = (code_of v, after v)
 
 -- or the size of a text
-abbrev pub sized : Put → (Put → List ℕ) → ℕ × List ℕ
+abbrev pub sized : Option ℕ → (Option ℕ → List ℕ) → ℕ × List ℕ
 sized p after = (size_of p, after p)
 
 module _ {M : Type 1} {𝓤 : Ura M} (𝓛 : Logic 𝓤) (mem : Memory → SProp 𝓤) (run : Routine → Fun 𝓤) where

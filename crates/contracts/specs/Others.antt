@@ -1,6 +1,6 @@
 -- "Each public function's contract states its answer and the final contents of lent memory completely", and "admits one answer": of the public functions
 -- behind the entry points, each as Answers has it of those. Which other contracts there are, by their form, is in docs/DECISIONS.md; the forms are below.
-use Rattle.std.specs.Prelude.{ℕ, ◌≡◌, List, ℤ}
+use Rattle.std.specs.Prelude.{ℕ, ◌≡◌, List, ℤ, Result}
 use Rattle.std.proofs.Common.{sym, ◌∙◌}
 use seplogic.Ra.Ura.{Ura}
 use base.Logic.{SProp, id⊢}
@@ -9,7 +9,7 @@ use prog.Memory.{Memory}
 use prog.Routine.{Routine}
 use types.Logic.{Logic}
 use Rattle.form.specs.Verdict.{rows}
-use Rattle.form.specs.declared.Ruling.{Ruling}
+use Rattle.form.specs.Refusals.{Ruling}
 use Rattle.held.specs.Checked.{checked_of}
 use Rattle.wide.specs.Numbers.{Is}
 use Rattle.wide.specs.Signs.{Holds}
@@ -29,7 +29,7 @@ use Rattle.weighed.specs.Heaviest.{heaviest_call, heaviest_after}
 use Rattle.handed.specs.Rows.{read_call, rows_read, counts_read, write_call, blocks_written, size_written}
 use Rattle.table52.specs.Lookup.{looked_up}
 use Rattle.table52.specs.Lent.{told_of, room_after}
-use Rattle.table52.specs.declared.lent.Told.{Told}
+use Rattle.table52.specs.declared.lent.NotTold.{NotTold}
 use Rattle.steps.proofs.Clauses.{paired, followed}
 use Rattle.contracts.specs.Contract.{Says, says, SaysAsked, says_asked}
 use Rattle.contracts.specs.Answers.{with_room}
@@ -93,7 +93,7 @@ module _ {M : Type 1} {𝓤 : Ura M} (𝓛 : Logic 𝓤) (mem : Memory → SProp
       (λ κs a. with_room (defaults_call a.0.now) (defaults_after a.0.now))
   offered_says = says 𝓤 _ _ _ _ (λ κs a g. id⊢ 𝓤 _) (λ κs a g r e. paired 𝓤 _ _ _ _ (id⊢ 𝓤 _))
 
-  pub table-says : Says 𝓤 table.ended (table.clauses 𝓛 mem run) {X = Told × List ℤ} (λ κs r e. (r, e.1.1.0.now))
+  pub table-says : Says 𝓤 table.ended (table.clauses 𝓛 mem run) {X = Result (Unit {0}) NotTold × List ℤ} (λ κs r e. (r, e.1.1.0.now))
       (λ κs a. (told_of (looked_up a.0 a.1.0) a.1.1.0.now, room_after (looked_up a.0 a.1.0) a.1.1.0.now))
   table-says = says 𝓤 _ _ _ _ (λ κs a g. id⊢ 𝓤 _) (λ κs a g r e. paired 𝓤 _ _ _ _ (id⊢ 𝓤 _))
 

@@ -1,6 +1,6 @@
 -- Rows as text: the contracts of the functions that pack a text, say why it can't be packed and unpack a return, from Rattle and from C. Each asks nothing of its caller, says what
 -- promises/Texts speaks of, admits one answer, and is met; and the room that the header names for the lines is enough for any text.
-use Rattle.std.specs.Prelude.{ℕ, ◌≤◌, ◌≡◌, List, length}
+use Rattle.std.specs.Prelude.{ℕ, ◌≤◌, ◌≡◌, List, length, Some, Result}
 use Rattle.std.proofs.Common.{ap, ◌∙◌}
 use seplogic.Ra.Ura.{Ura}
 use base.Logic.{SProp, ent, id⊢}
@@ -11,12 +11,11 @@ use prog.Routine.{Routine}
 use types.Logic.{Logic}
 use denote.Triple.Entry.{Args, Res}
 use denote.Triple.Clauses.{AtExit}
-use Rattle.form.specs.declared.Ruling.{Ruling}
+use Rattle.form.specs.Refusals.{Ruling}
 use Rattle.phrases.specs.Room.{put_of, text_after}
-use Rattle.phrases.specs.declared.Put.TheVariants.{Done}
 use Rattle.unpacked.specs.Calls.{unpack_call, text_unpacked, size_unpacked}
 use Rattle.packing.specs.Packing.{pack_call, bytes_packed, size_packed}
-use Rattle.packing.specs.declared.Packing.{Packing}
+use Rattle.packing.specs.declared.NotPacked.{NotPacked}
 use Rattle.objections.specs.Objections.{pack_why, why_room}
 use Rattle.door.specs.Door.{code_of}
 use Rattle.door.specs.Texts.{pack_code}
@@ -39,7 +38,7 @@ use Rattle.door.proofs.niloferq_unpack as proved-c-unpack
 
 module _ {M : Type 1} {𝓤 : Ura M} (𝓛 : Logic 𝓤) (mem : Memory → SProp 𝓤) (run : Routine → Fun 𝓤) where
   -- the answer, the room and the size
-  pub pack_says : Says 𝓤 pack.ended (pack.clauses 𝓛 mem run) {X = Packing × (List ℕ × List ℕ)} (λ κs r e. (r, (e.1.0.now, e.1.1.0.now)))
+  pub pack_says : Says 𝓤 pack.ended (pack.clauses 𝓛 mem run) {X = Result (Unit {0}) NotPacked × (List ℕ × List ℕ)} (λ κs r e. (r, (e.1.0.now, e.1.1.0.now)))
       (λ κs a. let text = a.0.now in let room = a.1.0.now in let size = a.1.1.0.now in
       (pack_call text room size, (bytes_packed text room size, size_packed text room size)))
   pack_says = says 𝓤 _ _ _ _ (λ κs a g. id⊢ 𝓤 _) (λ κs a g r e. paired 𝓤 _ _ _ _ (paired 𝓤 _ _ _ _ (id⊢ 𝓤 _)))
@@ -71,7 +70,7 @@ module _ {M : Type 1} {𝓤 : Ura M} (𝓛 : Logic 𝓤) (mem : Memory → SProp
   -- room of `why_room` bytes, NILOFERQ_PACK_WHY_ROOM, is enough for the lines of any text
   pub why-fits : (κs : Lfts (why.ended).signature.lifetimes) (a : Args (why.ended).signature κs) (g : (why.clauses 𝓛 mem run κs a).ghost)
       (r : Res (why.ended).signature κs) (e : AtExit why.ended κs)
-      → ent 𝓤 ((why.clauses 𝓛 mem run κs a).ensures g r e) (fact 𝓤 (why_room ≤ length a.1.0.now → r ≡ Done (length (pack_why a.0.now))))
+      → ent 𝓤 ((why.clauses 𝓛 mem run κs a).ensures g r e) (fact 𝓤 (why_room ≤ length a.1.0.now → r ≡ Some (length (pack_why a.0.now))))
   why-fits κs a g r e = then 𝓤 _ _ (outer 𝓤 _ _ _) (λ p h. p.0 ∙ done_in (pack_why a.0.now) a.1.0.now why_room p.1 h)
 
 -- ---- each meets its contract

@@ -10,9 +10,8 @@ use Rattle.filing.proofs.Stores.{sets-front}
 use Rattle.form.specs.Ruling.{too_short, on_front, ruling}
 use Rattle.form.specs.Verdict.{rules, verdict_of}
 use Rattle.form.specs.declared.Counts.{Counts}
-use Rattle.form.specs.declared.Ruling.{Ruling}
-use Rattle.form.specs.declared.Ruling.TheVariants.{Clean, Broken}
-use Rattle.form.specs.declared.Verdict.TheVariants.{Accepted, Refused}
+use Rattle.form.specs.Refusals.{Clean, Refused, Ruling}
+use Rattle.std.specs.Prelude.{Ok}
 use Rattle.form.proofs.Order.{ruled_before, kept-before, too_short_lem, long_enough}
 use Rattle.form.proofs.Meaning.{refused-ruling}
 use Rattle.standing.proofs.Accepted.{accepted-ruling, formed, formed_counts}
@@ -40,15 +39,15 @@ module _ (s room : List ℕ) where
   abbrev Out : Ruling → List ℕ → Type 0
   Out r l = (r ≡ judge_call s room) × (l ≡ counts_after s room (judge_call s room))
 
-  pub refused_out : (n p : ℕ) → verdict_of s ≡ Refused n p → Out (Broken n p) room
+  pub refused_out : (n p : ℕ) → verdict_of s ≡ Refused n p → Out (Refused n p) room
   refused_out n p e = rw (ruled_before (rules s) (too_short counts_room room ∷ []) (refused-ruling s n p e)) (refl, refl)
 
   -- of an accepted return, the room is left
-  left : {c : Counts} → verdict_of s ≡ Accepted c → judge_call s room ≡ ruling (too_short counts_room room ∷ [])
+  left : {c : Counts} → verdict_of s ≡ Ok c → judge_call s room ≡ ruling (too_short counts_room room ∷ [])
   left e = kept-before (rules s) _ (accepted-ruling s _ e)
 
-  pub short_out : (c : Counts) → verdict_of s ≡ Accepted c → length room < counts_room → Out (Broken 9 0) room
+  pub short_out : (c : Counts) → verdict_of s ≡ Ok c → length room < counts_room → Out (Refused 9 0) room
   short_out c e l = rw (left e ∙ too_short_lem counts_room room l) (refl, refl)
 
-  pub done_out : (c : Counts) (l : List ℕ) → verdict_of s ≡ Accepted c → counts_room ≤ length room → l ≡ on_front (held c) room → Out Clean l
+  pub done_out : (c : Counts) (l : List ℕ) → verdict_of s ≡ Ok c → counts_room ≤ length room → l ≡ on_front (held c) room → Out Clean l
   done_out c l e h q = rw (left e ∙ long_enough counts_room room h) (refl, q ∙ ap (λ (x : Counts). on_front (held x) room) (formed_counts s c (formed s c e)))

@@ -1,11 +1,10 @@
 -- The judge from C: what a return holds, in lent room. "1 to 8 (from C, then 11 and last 9)."
-use Rattle.std.specs.Prelude.{ℕ, suc, List, [], ◌∷◌, ◌++◌}
+use Rattle.std.specs.Prelude.{ℕ, suc, List, [], ◌∷◌, ◌++◌, Err}
 use Rattle.form.specs.Layout.{kinds}
 use Rattle.form.specs.Ruling.{Rule, too_short, on_front, ruling}
 use Rattle.form.specs.Verdict.{rules, counts_of, count_list}
 use Rattle.form.specs.declared.Counts.{Counts}
-use Rattle.form.specs.declared.Ruling.{Ruling}
-use Rattle.form.specs.declared.Ruling.TheVariants.{Clean, Broken}
+use Rattle.form.specs.Refusals.{Clean, Ruling}
 
 -- what a return holds: its edition, then a count for each kind, so that a count's place is its kind; last "how many such rows there were", of scattered trees
 abbrev pub held : Counts → List ℕ
@@ -25,7 +24,7 @@ judge_call s room = ruling (judge_rules s room)
 -- the room afterwards: the edition and the counts at the front and "later elements keep their values"; on a refusal "lent memory is unchanged"
 abbrev pub counts_after : List ℕ → List ℕ → Ruling → List ℕ
 counts_after s room Clean = on_front (held (counts_of s)) room
-counts_after s room (Broken n p) = room
+counts_after s room (Err r) = room
 
 -- after the judge from C
 abbrev pub counts_judged : List ℕ → List ℕ → List ℕ

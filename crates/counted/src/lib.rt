@@ -5,7 +5,7 @@ ghost use Rattle.std.specs.Prelude.{◌≡◌, ◌≤◌, length, get_or};
 ghost use Rattle.form.specs.Ruling.{on_front};
 ghost use Rattle.counted.specs.Counts.{held, counts_room, judge_call, counts_judged};
 
-use form::{Counts, KINDS, Ruling, Verdict, count_of};
+use form::{Counts, KINDS, Refusal, count_of, room_for};
 
 // The last place, and how many places there are.
 const LAST: usize = KINDS + 1;
@@ -29,29 +29,18 @@ pub fn put_counts(c: Counts, room: &mut [u32])
     requires { counts_room ≤ length room.old }
     ensures { room.new ≡ on_front (held c) room.old }
 {
-    let mut k: usize = 0;
-    while k < COUNTS_ROOM {
+    for k in 0..COUNTS_ROOM {
         room[k] = held_at(c, k);
-        k += 1;
     }
 }
 
 // The edition and the counts at the front of the room; or the rule that is broken, and the room as it was.
-pub fn tell(bytes: &[u8], counts: &mut [u32]) -> Ruling
+pub fn tell(bytes: &[u8], counts: &mut [u32]) -> Result<(), Refusal>
     ensures value { result ≡ judge_call bytes.now counts.old }
     ensures counts_after { counts.new ≡ counts_judged bytes.now counts.old }
 {
-    match judge::judge(bytes) {
-        Verdict::Refused { number, place } => Ruling::Broken { number, place },
-        Verdict::Accepted(c) => {
-            if counts.len() < COUNTS_ROOM {
-                return Ruling::Broken {
-                    number: 9,
-                    place: 0,
-                };
-            }
-            put_counts(c, counts);
-            Ruling::Clean
-        }
-    }
+    let c = judge::judge(bytes)?;
+    room_for(COUNTS_ROOM, counts.len())?;
+    put_counts(c, counts);
+    Ok(())
 }

@@ -2,8 +2,9 @@
 --     prepend              what was cut before, in front of what is cut behind it
 --     at_start, one_more, at_stop   the turns of a run: what was cut so far, with what is left, is the whole file's
 --     size_of              how long a return that comes next is; few_cut, how many there are
+use Rattle.std.specs.Prelude.{Result, Ok, Err}
 use Prim.Native.Nat.{ℕ, zero, suc, ◌+◌, ◌-◌, ◌*◌, ◌<◌, ◌≤◌}
-use mathlib.Core.Path.{◌≡◌, refl, sym, ap, ap₂, subst, ◌∙◌}
+use mathlib.Core.Path.{◌≡◌, refl, sym, ap, ◌∙◌}
 use mathlib.Core.Bool.{Bool, true, false, cond, ◌||◌}
 use mathlib.Core.List.{List, [], ◌∷◌, ◌++◌, append-nil, append_assoc}
 use native.Mathlib.Decide.{dec_lt}
@@ -17,8 +18,6 @@ use Rattle.form.proofs.Tests.{or_none}
 use Rattle.cutting.specs.Cutting.{most_returns, sized_by, next_of, end_of, next_after, Cut, stopped_by, behind, cut_by, cut_from, cut_file}
 use Rattle.cutting.specs.declared.Stop.{Stop}
 use Rattle.cutting.specs.declared.Stop.TheVariants.{Blocks, Short, Whole}
-use Rattle.cutting.specs.declared.Next.{Next}
-use Rattle.cutting.specs.declared.Next.TheVariants.{Return, Stopped}
 
 -- a return that comes next has all its blocks there
 pub record Size (s : List ℕ) (n : ℕ) : Type 0 where
@@ -28,7 +27,7 @@ pub record Size (s : List ℕ) (n : ℕ) : Type 0 where
   pub said : n ≡ 512 * blocks_said s 0
 
 sized-long : (s : List ℕ) (m n : ℕ) (b q : Bool) → eqb m 0 || ltb most_blocks m ≡ b → ltb (length s) (512 * m) ≡ q
-    → cond b (Stopped (Blocks m)) (cond q (Stopped Short) (Return (512 * m))) ≡ Return n → m ≡ blocks_said s 0 → Size s n
+    → cond b (Err (Blocks m)) (cond q (Err Short) (Ok (512 * m))) ≡ Ok n → m ≡ blocks_said s 0 → Size s n
 sized-long s m n true q eb eq e z = let x : ◌≡◌ {A = ℕ} 0 1 = cc in absurd (omega arith)
 sized-long s m n false true eb eq e z = let x : ◌≡◌ {A = ℕ} 0 1 = cc in absurd (omega arith)
 sized-long s m n false false eb eq e z =
@@ -42,22 +41,22 @@ sized-long s m n false false eb eq e z =
       said = omega arith;
     }
 
-next-long : (s : List ℕ) (n : ℕ) (b q : Bool) → cond b (Stopped Whole) (cond q (Stopped Short) (sized_by (blocks_said s 0) (length s))) ≡ Return n → Size s n
+next-long : (s : List ℕ) (n : ℕ) (b q : Bool) → cond b (Err Whole) (cond q (Err Short) (sized_by (blocks_said s 0) (length s))) ≡ Ok n → Size s n
 unfolding sized_by
 next-long s n true q e = let x : ◌≡◌ {A = ℕ} 0 1 = cc in absurd (omega arith)
 next-long s n false true e = let x : ◌≡◌ {A = ℕ} 0 1 = cc in absurd (omega arith)
 next-long s n false false e = sized-long s (blocks_said s 0) n _ _ refl refl e refl
 
-pub size_of : (s : List ℕ) (n : ℕ) → next_of s ≡ Return n → Size s n
+pub size_of : (s : List ℕ) (n : ℕ) → next_of s ≡ Ok n → Size s n
 unfolding next_of
 size_of s n e = next-long s n (eqb (length s) 0) (ltb (length s) 6) e
 
 -- what comes next after some returns: one only where it is allowed
-after_by : (s : List ℕ) (b : Bool) (n : ℕ) → cond b (next_of s) (Stopped (end_of s)) ≡ Return n → (b ≡ true) × (next_of s ≡ Return n)
+after_by : (s : List ℕ) (b : Bool) (n : ℕ) → cond b (next_of s) (Err (end_of s)) ≡ Ok n → (b ≡ true) × (next_of s ≡ Ok n)
 after_by s true n e = (refl, e)
 after_by s false n e = let x : ◌≡◌ {A = ℕ} 0 1 = cc in absurd (omega arith)
 
-pub return-after : (s : List ℕ) (taken n : ℕ) → next_after taken s ≡ Return n → (taken < most_returns) × (next_of s ≡ Return n)
+pub return-after : (s : List ℕ) (taken n : ℕ) → next_after taken s ≡ Ok n → (taken < most_returns) × (next_of s ≡ Ok n)
 return-after s taken n e =
     let a = after_by s (ltb taken most_returns) n e in
     (ltb-true taken most_returns a.0, a.1)
@@ -75,20 +74,20 @@ module _ (s : List ℕ) where
   pub at_start : Going [] 0
   at_start = record { few = omega arith; inside = omega arith; whole = refl }
 
-  cut-more : (k : ℕ) (t : List ℕ) (n : ℕ) → next_of t ≡ Return n → cut_from (suc k) t ≡ behind (take n t) (cut_from k (drop n t))
+  cut-more : (k : ℕ) (t : List ℕ) (n : ℕ) → next_of t ≡ Ok n → cut_from (suc k) t ≡ behind (take n t) (cut_from k (drop n t))
   unfolding cut_from
-  cut-more k t n e = ap (λ (x : Next). cut_by t x (λ m. cut_from k (drop m t))) e
+  cut-more k t n e = ap (λ (x : Result ℕ Stop). cut_by t x (λ m. cut_from k (drop m t))) e
 
-  cut-end : (t : List ℕ) (w : Stop) → Stopped (end_of t) ≡ Stopped w → cut_from 0 t ≡ stopped_by w
+  cut-end : (t : List ℕ) (w : Stop) → ◌≡◌ {A = Result ℕ Stop} (Err (end_of t)) (Err w) → cut_from 0 t ≡ stopped_by w
   unfolding cut_from
   cut-end t w e = let q : end_of t ≡ w = cc in ap stopped_by q
 
-  cut-stop : (k : ℕ) (t : List ℕ) (w : Stop) → next_of t ≡ Stopped w → cut_from (suc k) t ≡ stopped_by w
+  cut-stop : (k : ℕ) (t : List ℕ) (w : Stop) → next_of t ≡ Err w → cut_from (suc k) t ≡ stopped_by w
   unfolding cut_from
-  cut-stop k t w e = ap (λ (x : Next). cut_by t x (λ m. cut_from k (drop m t))) e
+  cut-stop k t w e = ap (λ (x : Result ℕ Stop). cut_by t x (λ m. cut_from k (drop m t))) e
 
   module _ (done : List (List ℕ)) (from : ℕ) (g : Going done from) where
-    pub one_more : (n : ℕ) → length done < most_returns → next_of (drop from s) ≡ Return n → Going (done ++ (take n (drop from s) ∷ [])) (from + n)
+    pub one_more : (n : ℕ) → length done < most_returns → next_of (drop from s) ≡ Ok n → Going (done ++ (take n (drop from s) ∷ [])) (from + n)
     one_more n h e =
         let z = size_of (drop from s) n e in
         let r = take n (drop from s) in
@@ -108,7 +107,7 @@ module _ (s : List ℕ) where
               ∙ g.whole;
         }
 
-    pub at_stop : (w : Stop) → next_after (length done) (drop from s) ≡ Stopped w → cut_file s ≡ record { returns = done; stop = w }
+    pub at_stop : (w : Stop) → next_after (length done) (drop from s) ≡ Err w → cut_file s ≡ record { returns = done; stop = w }
     at_stop w e = by (dec_lt (length done) most_returns)
       where
         ends : cut_from (most_returns - length done) (drop from s) ≡ stopped_by w → cut_file s ≡ record { returns = done; stop = w }
@@ -124,9 +123,9 @@ module _ (s : List ℕ) where
             ends (ap (λ (x : ℕ). cut_from x (drop from s)) k ∙ cut-end (drop from s) w (rw (le-ltb (length done) most_returns o) at e))
 
 -- no more returns are cut than are allowed
-few_by : (k : ℕ) (s : List ℕ) (x : Next) → ((n : ℕ) → length (cut_from k (drop n s)).returns ≤ k) → length (cut_by s x (λ n. cut_from k (drop n s))).returns ≤ suc k
-few_by k s (Return n) h = omega (arith, h n)
-few_by k s (Stopped w) h = omega arith
+few_by : (k : ℕ) (s : List ℕ) (x : Result ℕ Stop) → ((n : ℕ) → length (cut_from k (drop n s)).returns ≤ k) → length (cut_by s x (λ n. cut_from k (drop n s))).returns ≤ suc k
+few_by k s (Ok n) h = omega (arith, h n)
+few_by k s (Err w) h = omega arith
 
 few_from : (k : ℕ) (s : List ℕ) → length (cut_from k s).returns ≤ k
 unfolding cut_from

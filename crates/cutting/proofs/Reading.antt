@@ -1,24 +1,25 @@
 -- A program that reads a return at a time: what it has read settles what comes next in the whole file. Assumes nothing.
 --     wanted-head    the first six bytes say how many are wanted
+--     wanted_said    by the size that their number of blocks comes to
 --     wanted_is      they are the return's, where one comes next
 --     as_read        what comes next in the wanted bytes is what comes next in the file
+use Rattle.std.specs.Prelude.{None, Some, unwrap_or, Ok, Err}
 use Prim.Native.Nat.{ℕ, ◌*◌, ◌<◌, ◌≤◌}
 use mathlib.Core.Path.{◌≡◌, refl, sym, ap, ◌∙◌}
 use mathlib.Core.Bool.{Bool, true, false, cond, ◌||◌}
 use mathlib.Core.List.{List}
 use native.Mathlib.Decide.{dec_lt}
 use native.Mathlib.Omega.{arith}
-use borrow.Author.Tests.{lt-ltb, le-ltb, ne_eqb, eqb-false}
+use borrow.Author.Tests.{lt-ltb, le-ltb, ne_eqb, eqb-false, ltb-false}
 use lib.Dec.{eqb, ltb}
 use lib.ListN.{length, take}
 use lib.Seq.{take_all, length-take-le, get_or-take}
-use Rattle.form.specs.Block.{most_blocks, blocks_said}
+use Rattle.form.specs.Block.{most_blocks, longest, blocks_said}
+use Rattle.form.proofs.EachKind.{kinds_are}
 use Rattle.form.proofs.Tests.{or_none}
 use Rattle.form.proofs.Numbers.{number_2}
-use Rattle.cutting.specs.Cutting.{most_returns, sized_by, next_of, end_of, next_after, wanted_by, wanted_of}
+use Rattle.cutting.specs.Cutting.{most_returns, size_said, sized_by, next_of, end_of, next_after, wanted_by, wanted_of}
 use Rattle.cutting.specs.declared.Stop.TheVariants.{Blocks}
-use Rattle.cutting.specs.declared.Next.{Next}
-use Rattle.cutting.specs.declared.Next.TheVariants.{Return, Stopped}
 use Rattle.cutting.proofs.Going.{size_of}
 
 -- a number of blocks that a return has, or none has, and what is wanted of it
@@ -30,7 +31,17 @@ pub good_wanted : (n : ℕ) → eqb n 0 || ltb most_blocks n ≡ false → wante
 unfolding wanted_by
 good_wanted n e = rw e
 
-bad_sized : (n l : ℕ) → eqb n 0 || ltb most_blocks n ≡ true → sized_by n l ≡ Stopped (Blocks n)
+pub wanted_said : (n : ℕ) → let w = unwrap_or (size_said n) 6 in (w ≡ wanted_by n) × (6 ≤ w) × (w ≤ longest)
+unfolding wanted_by
+wanted_said n = by (eqb n 0 || ltb most_blocks n) refl
+  where
+    by : (b : Bool) → eqb n 0 || ltb most_blocks n ≡ b → let w = unwrap_or (cond b None (Some (512 * n))) 6 in (w ≡ cond b 6 (512 * n)) × (6 ≤ w) × (w ≤ longest)
+    by true e = (refl, omega arith, omega (arith, kinds_are))
+    by false e =
+        let f = or_none (eqb n 0) (ltb most_blocks n) e in
+        (refl, omega (arith, eqb-false n 0 f.0), omega (arith, kinds_are, ltb-false most_blocks n f.1))
+
+bad_sized : (n l : ℕ) → eqb n 0 || ltb most_blocks n ≡ true → sized_by n l ≡ Err (Blocks n)
 unfolding sized_by
 bad_sized n l e = rw e
 
@@ -97,20 +108,20 @@ module _ (s : List ℕ) where
           part-read (wanted_of s) (omega arith) e (omega arith) (omega (arith, e, six_least (blocks_said s 0) _ refl))
 
   pub as_read : (k : ℕ) → next_after k (take (wanted_of s) s) ≡ next_after k s
-  as_read k = λ i. cond (ltb k most_returns) (both_read.0 i) (Stopped (both_read.1 i))
+  as_read k = λ i. cond (ltb k most_returns) (both_read.0 i) (Err (both_read.1 i))
 
 -- where a return comes next, it is what is wanted
-wanted_by_lem : (s : List ℕ) (n : ℕ) (b : Bool) → eqb (blocks_said s 0) 0 || ltb most_blocks (blocks_said s 0) ≡ b → next_of s ≡ Return n → wanted_by (blocks_said s 0) ≡ n
+wanted_by_lem : (s : List ℕ) (n : ℕ) (b : Bool) → eqb (blocks_said s 0) 0 || ltb most_blocks (blocks_said s 0) ≡ b → next_of s ≡ Ok n → wanted_by (blocks_said s 0) ≡ n
 wanted_by_lem s n true e q =
     let z = size_of s n q in
     let m = blocks_said s 0 in
     let l : 6 ≤ length s = omega (arith, z.some, z.there) in
-    let a : Stopped (Blocks m) ≡ Return n = sym (bad_sized m (length s) e) ∙ sym (next-six s l) ∙ q in
+    let a : Err (Blocks m) ≡ Ok n = sym (bad_sized m (length s) e) ∙ sym (next-six s l) ∙ q in
     let x : ◌≡◌ {A = ℕ} 0 1 = cc in
     absurd (omega arith)
 wanted_by_lem s n false e q = good_wanted (blocks_said s 0) e ∙ sym (size_of s n q).said
 
-pub wanted_is : (s : List ℕ) (n : ℕ) → next_of s ≡ Return n → wanted_of s ≡ n
+pub wanted_is : (s : List ℕ) (n : ℕ) → next_of s ≡ Ok n → wanted_of s ≡ n
 wanted_is s n q =
     let z = size_of s n q in
     six-wanted s (omega (arith, z.some, z.there)) ∙ wanted_by_lem s n _ refl q

@@ -1,30 +1,32 @@
 -- §10: "a file of returns end to end, up to 500, each cut by the number of blocks in its first header", and where the cutting stops. Assumes nothing.
-use Rattle.std.specs.Prelude.{ℕ, zero, suc, ◌*◌, ◌≤◌, ◌≡◌, cond, ◌||◌, List, [], ◌∷◌, ◌++◌, length, take, drop, eqb, ltb}
+use Rattle.std.specs.Prelude.{ℕ, zero, suc, ◌*◌, ◌≤◌, ◌≡◌, cond, ◌||◌, List, [], ◌∷◌, ◌++◌, length, take, drop, eqb, ltb, Option, None, Some, Result, Ok, Err}
 use Rattle.form.specs.Block.{most_blocks, blocks_said}
 use Rattle.cutting.specs.declared.Stop.{Stop}
 use Rattle.cutting.specs.declared.Stop.TheVariants.{Whole, Blocks, Short, Many}
-use Rattle.cutting.specs.declared.Next.{Next}
-use Rattle.cutting.specs.declared.Next.TheVariants.{Return, Stopped}
 
 -- "up to 500"
 abbrev pub most_returns : ℕ
 most_returns = 500
 
+-- how many bytes a return of so many blocks has, where a return has so many
+abbrev pub size_said : ℕ → Option ℕ
+size_said n = cond (eqb n 0 || ltb most_blocks n) None (Some (512 * n))
+
 -- "a first header that says 0 blocks or more than 16", which with §14 is 22, the most a return has, "or a file that ends inside a return": by the number that it says, and how many bytes are left
-unfoldable pub sized_by : ℕ → ℕ → Next
-sized_by n left = cond (eqb n 0 || ltb most_blocks n) (Stopped (Blocks n)) (cond (ltb left (512 * n)) (Stopped Short) (Return (512 * n)))
+unfoldable pub sized_by : ℕ → ℕ → Result ℕ Stop
+sized_by n left = cond (eqb n 0 || ltb most_blocks n) (Err (Blocks n)) (cond (ltb left (512 * n)) (Err Short) (Ok (512 * n)))
 
 -- what comes next in the bytes that are left, where a return is allowed: a file that ends inside the first six bytes ends inside a return too
-unfoldable pub next_of : List ℕ → Next
-next_of s = cond (eqb (length s) 0) (Stopped Whole) (cond (ltb (length s) 6) (Stopped Short) (sized_by (blocks_said s 0) (length s)))
+unfoldable pub next_of : List ℕ → Result ℕ Stop
+next_of s = cond (eqb (length s) 0) (Err Whole) (cond (ltb (length s) 6) (Err Short) (sized_by (blocks_said s 0) (length s)))
 
 -- and where none is: "a 501st return does the same", any byte of it
 unfoldable pub end_of : List ℕ → Stop
 end_of s = cond (eqb (length s) 0) Whole Many
 
 -- by how many returns were taken before
-abbrev pub next_after : ℕ → List ℕ → Next
-next_after taken s = cond (ltb taken most_returns) (next_of s) (Stopped (end_of s))
+abbrev pub next_after : ℕ → List ℕ → Result ℕ Stop
+next_after taken s = cond (ltb taken most_returns) (next_of s) (Err (end_of s))
 
 -- the returns in their order, and why the run goes no further
 pub record Cut : Type 0 where
@@ -38,9 +40,9 @@ abbrev pub behind : List ℕ → Cut → Cut
 behind r c = record { returns = r ∷ c.returns; stop = c.stop }
 
 -- by what comes next, and what is cut behind a return of n bytes
-abbrev pub cut_by : List ℕ → Next → (ℕ → Cut) → Cut
-cut_by s (Return n) more = behind (take n s) (more n)
-cut_by s (Stopped w) more = stopped_by w
+abbrev pub cut_by : List ℕ → Result ℕ Stop → (ℕ → Cut) → Cut
+cut_by s (Ok n) more = behind (take n s) (more n)
+cut_by s (Err w) more = stopped_by w
 
 -- a file of which so many returns are still allowed
 unfoldable pub cut_from : ℕ → List ℕ → Cut

@@ -2,7 +2,7 @@
 #![tactic(auto)]
 
 ghost use Rattle.std.specs.Prelude.{◌≡◌, ◌≤◌, ◌<◌, length};
-ghost use Rattle.cutting.specs.Cutting.{sized_by, next_after, wanted_by, wanted_of};
+ghost use Rattle.cutting.specs.Cutting.{size_said, next_after, wanted_of};
 ghost use Rattle.form.specs.Block.{longest};
 
 use form::{MOST_BLOCKS, two_at};
@@ -12,7 +12,7 @@ pub const MOST_RETURNS: u32 = 500;
 
 // Why a run goes no further: the file is whole, or the first header says a number of blocks that no return has, or the file ends inside a return, or it has
 // a return too many.
-#[derive(Clone, Copy)]
+#[derive(Clone, Copy, Debug, PartialEq, Eq)]
 pub enum Stop {
     Whole,
     Blocks(u32),
@@ -20,57 +20,35 @@ pub enum Stop {
     Many,
 }
 
-// A return of so many bytes, or the end of the run.
-#[derive(Clone, Copy)]
-pub enum Next {
-    Return(usize),
-    Stopped(Stop),
-}
-
-// By the number of blocks that its header says, and the bytes that are left.
-fn size_by(blocks: u32, left: usize) -> Next
-    requires { blocks < 65536 }
-    ensures { result ≡ sized_by blocks left }
+// How many bytes a return of so many blocks has; none where no return has so many.
+fn size_of(blocks: u32) -> Option<usize>
+    ensures { result ≡ size_said blocks }
 {
-    if blocks == 0 {
-        return Next::Stopped(Stop::Blocks(blocks));
+    if blocks == 0 || MOST_BLOCKS < blocks as usize {
+        return None;
     }
-    if MOST_BLOCKS < blocks as usize {
-        return Next::Stopped(Stop::Blocks(blocks));
-    }
-    let size = 512 * (blocks as usize);
-    if left < size {
-        return Next::Stopped(Stop::Short);
-    }
-    Next::Return(size)
+    Some(512 * (blocks as usize))
 }
 
-// What comes next in the bytes that are left, when some returns were taken before.
-pub fn cut_next(left: &[u8], taken: u32) -> Next
+// How many bytes the return has that comes next in what is left, when some returns were taken before; or why the run goes no further.
+pub fn cut_next(left: &[u8], taken: u32) -> Result<usize, Stop>
     ensures { result ≡ next_after taken left.now }
 {
-    if left.len() == 0 {
-        return Next::Stopped(Stop::Whole);
+    if left.is_empty() {
+        return Err(Stop::Whole);
     }
     if MOST_RETURNS <= taken {
-        return Next::Stopped(Stop::Many);
+        return Err(Stop::Many);
     }
     if left.len() < 6 {
-        return Next::Stopped(Stop::Short);
+        return Err(Stop::Short);
     }
-    size_by(two_at(left, 4), left.len())
-}
-
-fn wanted_by(blocks: u32) -> usize
-    ensures { (result ≡ wanted_by blocks) × (6 ≤ result) × (result ≤ longest) }
-{
-    if blocks == 0 {
-        return 6;
+    let blocks = two_at(left, 4);
+    let size = size_of(blocks).ok_or(Stop::Blocks(blocks))?;
+    if left.len() < size {
+        return Err(Stop::Short);
     }
-    if MOST_BLOCKS < blocks as usize {
-        return 6;
-    }
-    512 * (blocks as usize)
+    Ok(size)
 }
 
 // How many bytes a program that reads a return at a time has to have, by the first six: then `cut_next` of these is that of the whole file.
@@ -80,5 +58,5 @@ pub fn wanted(head: &[u8]) -> usize
     if head.len() < 6 {
         return 6;
     }
-    wanted_by(two_at(head, 4))
+    size_of(two_at(head, 4)).unwrap_or(6)
 }

@@ -18,13 +18,11 @@ fn decode_row(bytes: &[u8], kind: usize, at: usize, room: &mut [u32], to: usize)
 {
     let n = numbers(kind);
     let mut k: usize = 0;
-    let mut i: usize = 0;
-    while i < n {
+    for i in 0..n {
         let f = field(kind, i);
         k += f.zeros;
         room[to + i] = number_at(bytes, at + k, f.width);
         k += f.width;
-        i += 1;
     }
 }
 
@@ -35,12 +33,10 @@ fn decode_rows(bytes: &[u8], kind: usize, place: usize, n: usize, room: &mut [u3
 {
     let m = numbers(kind);
     let mut to = start;
-    let mut i: usize = 0;
-    while i < n {
+    for i in 0..n {
         let j = place + i;
         decode_row(bytes, kind, 512 * (j / 12) + 8 + 40 * (j % 12), room, to);
         to += m;
-        i += 1;
     }
 }
 

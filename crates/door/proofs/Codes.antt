@@ -2,14 +2,14 @@
 --     bounded-bytes, bounded-lists    a refusal's number is not 0 and its place is below 1,000; bounded_then, of rules tried one list after another
 --     judge_bounded and so on         so it is for each function; in_place, for the number that it makes of its ruling
 --     code-refused, code-clean        so a code says which rule is the first broken one and where, or that none is
+use Rattle.std.specs.Prelude.{Err}
 use Prim.Native.Nat.{ℕ, ◌+◌, ◌*◌, ◌<◌, ◌≤◌}
 use mathlib.Core.Path.{◌≡◌}
 use mathlib.Core.List.{List, [], ◌∷◌, ◌++◌}
 use native.Mathlib.Omega.{arith}
 use Rattle.form.specs.Ruling.{Rule, too_short, ruling}
 use Rattle.form.specs.Verdict.{block_rules, rules}
-use Rattle.form.specs.declared.Ruling.{Ruling}
-use Rattle.form.specs.declared.Ruling.TheVariants.{Clean, Broken}
+use Rattle.form.specs.Refusals.{Clean, Ruling}
 use Rattle.form.proofs.Order.{Kept, Least, this, later, AllKept, Means, ruling_means}
 use Rattle.form.proofs.Lengths as bytes
 use Rattle.form.proofs.EachKind.{few_kinds}
@@ -87,7 +87,7 @@ defaults-bounded room = bounded (omega arith)
 
 means_in_place : {rs : List Rule} → Bounded rs → (v : Ruling) → Means rs v → InPlace v
 means_in_place b Clean m = tt
-means_in_place b (Broken n p) m = (b n p m).1
+means_in_place b (Err r) m = (b r.number r.place m).1
 
 pub in_place : (rs : List Rule) → Bounded rs → InPlace (ruling rs)
 in_place rs b = means_in_place b (ruling rs) (ruling_means rs)
@@ -95,7 +95,7 @@ in_place rs b = means_in_place b (ruling rs) (ruling_means rs)
 -- a text's fault has no place, and its rows have those of writing
 ruled_in_place : (v : Ruling) → InPlace v → PackInPlace (of_ruling v)
 ruled_in_place Clean h = tt
-ruled_in_place (Broken n p) h = h
+ruled_in_place (Err r) h = h
 
 read_in_place : (room size : List ℕ) (t : TextRead) → PackInPlace (packed_by t room size)
 read_in_place room size (rows e lengths area) =
@@ -110,12 +110,12 @@ pack_in_place text room size = read_in_place room size (text_read text)
 module _ {rs : List Rule} (b : Bounded rs) where
   pub code-refused : (v : Ruling) → Means rs v → (n p : ℕ) → 0 < n → p < 1000 → code_of v ≡ 1000 * n + p → Least rs n p
   code-refused Clean m n p h k e = absurd (omega arith)
-  code-refused (Broken i j) m n p h k e =
-      let f = b i j m in
-      let x : i ≡ n = omega arith in
-      let y : j ≡ p = omega arith in
+  code-refused (Err r) m n p h k e =
+      let f = b r.number r.place m in
+      let x : r.number ≡ n = omega arith in
+      let y : r.place ≡ p = omega arith in
       rw (x, y) at m
 
   pub code-clean : (v : Ruling) → Means rs v → code_of v ≡ 0 → AllKept rs
   code-clean Clean m e = m
-  code-clean (Broken i j) m e = absurd (omega (arith, (b i j m).0))
+  code-clean (Err r) m e = absurd (omega (arith, (b r.number r.place m).0))

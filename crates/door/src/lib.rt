@@ -23,38 +23,35 @@ ghost use Rattle.door.specs.Nation.{nation_after};
 ghost use Rattle.door.specs.Table.{table_code, table_call, table_after};
 ghost use Rattle.door.specs.Texts.{pack_code, PackInPlace, why_after};
 
-use form::Ruling;
-use packing::Packing;
-use phrases::Put;
-use table52::lent::Told;
+use form::Refusal;
+use packing::NotPacked;
+use table52::OffTable;
+use table52::lent::NotTold;
 
-fn code_of(v: Ruling) -> u32
+fn code_of(v: Result<(), Refusal>) -> u32
     requires { InPlace v }
     ensures { result ≡ code_of v }
 {
     match v {
-        Ruling::Clean => 0,
-        Ruling::Broken { number, place } => 1000 * (number as u32) + place,
+        Ok(()) => 0,
+        Err(r) => 1000 * (r.number as u32) + r.place,
     }
 }
 
-fn size_of(p: Put) -> usize
+fn size_of(p: Option<usize>) -> usize
     ensures { result ≡ size_of p }
 {
-    match p {
-        Put::Done(n) => n,
-        Put::Short => 0,
-    }
+    p.unwrap_or(0)
 }
 
-fn code_of_text(p: Packing) -> u32
-    requires { PackInPlace p }
-    ensures { result ≡ pack_code p }
+fn code_of_text(packed: Result<(), NotPacked>) -> u32
+    requires { PackInPlace packed }
+    ensures { result ≡ pack_code packed }
 {
-    match p {
-        Packing::Packed => 0,
-        Packing::Faulty(f) => f.fault,
-        Packing::Refused { number, place } => 1000 * (number as u32) + place,
+    match packed {
+        Ok(()) => 0,
+        Err(NotPacked::Faulty(f)) => f.fault.number(),
+        Err(NotPacked::Refused(r)) => 1000 * (r.number as u32) + r.place,
     }
 }
 
@@ -128,10 +125,10 @@ pub fn niloferq_table52(country: u32, zone: u32, room: &mut [i32]) -> u32
     ensures room_after { room.new ≡ table_after country zone room.old }
 {
     match table52::lent::tell(country, zone, room) {
-        Told::Done => 0,
-        Told::NoCountry => 1,
-        Told::NoZone => 2,
-        Told::Short => 9000,
+        Ok(()) => 0,
+        Err(NotTold::NoEntry(OffTable::Country)) => 1,
+        Err(NotTold::NoEntry(OffTable::Zone)) => 2,
+        Err(NotTold::Short) => 9000,
     }
 }
 

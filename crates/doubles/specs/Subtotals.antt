@@ -1,15 +1,13 @@
 -- "The answer is three doubles together, or a refusal number and place with no figure."
-use Rattle.std.specs.Prelude.{ℕ, List, [], ◌∷◌, Float}
+use Rattle.std.specs.Prelude.{ℕ, List, [], ◌∷◌, Float, Ok, Err}
 use Rattle.std.specs.Float.{binary64}
 use Rattle.std.specs.Float.Ieee.{mul, add}
 use Rattle.form.specs.Records.{area_of, onsite, onsite_oxidised, onsite_carbon, offsite, offsite_oxidised, offsite_carbon, ten_year_area, decay, decay_carbon, difference, ten_year_difference}
 use Rattle.form.specs.Verdict.{rows, verdict_of}
-use Rattle.form.specs.declared.Verdict.{Verdict}
-use Rattle.form.specs.declared.Verdict.TheVariants as verdict
+use Rattle.doubles.specs.Answers.{Answer}
+use Rattle.form.specs.Refusals.{Verdict}
 use Rattle.doubles.specs.Double.{double}
 use Rattle.doubles.specs.declared.Doubles.{Doubles}
-use Rattle.doubles.specs.declared.Answer.{Answer}
-use Rattle.doubles.specs.declared.Answer.TheVariants.{Figures, Refused}
 
 -- a double times a number
 abbrev pub times : Float → ℕ → Float
@@ -49,8 +47,8 @@ subtotals_of rs = add_all (record { onsite = double 0; offsite = double 0; decay
 
 -- "three doubles together, or a refusal number and place"
 abbrev pub answer_by : List ℕ → Verdict → Answer
-answer_by s (verdict.Accepted c) = Figures (subtotals_of (rows 1 s))
-answer_by s (verdict.Refused n p) = Refused n p
+answer_by s (Ok c) = Ok (subtotals_of (rows 1 s))
+answer_by s (Err r) = Err r
 
 abbrev pub answer_of : List ℕ → Answer
 answer_of s = answer_by s (verdict_of s)

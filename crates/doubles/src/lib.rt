@@ -4,11 +4,10 @@
 ghost use Rattle.std.specs.Prelude.{◌≡◌, ◌+◌, ◌≤◌, length};
 ghost use Rattle.form.specs.Layout.{conversion, row_at};
 ghost use Rattle.form.specs.Verdict.{rows, verdict_of};
-ghost use Rattle.form.specs.declared.Verdict.TheVariants.{Accepted};
 ghost use Rattle.doubles.specs.Subtotals.{part_of, decay_double, subtotals_of, answer_of};
 ghost use Rattle.doubles.specs.Steps.{burnt_of, double_parts_of, plus_of};
 
-use form::{Counts, Verdict, counted_difference, four_at, row_start, two_at};
+use form::{Counts, Refusal, counted_difference, four_at, row_start, two_at};
 use held::Checked;
 
 #[derive(Clone, Copy)]
@@ -16,12 +15,6 @@ pub struct Doubles {
     pub onsite: f64,
     pub offsite: f64,
     pub decay: f64,
-}
-
-#[derive(Clone, Copy)]
-pub enum Answer {
-    Figures(Doubles),
-    Refused { number: u8, place: u32 },
 }
 
 // Four products, each rounded to a double: another order may give other bits.
@@ -84,27 +77,26 @@ fn plus(t: Doubles, p: Doubles) -> Doubles
     }
 }
 
-// The subtotals of judged bytes: the conversion rows stand one after the other from the first record on.
+// The subtotals of judged bytes: the conversion rows stand one after the other from the first record on. No sum of totals' trait, since doubles go by their order.
 pub fn add_up(bytes: &[u8], c: Counts) -> Doubles
-    requires { verdict_of bytes.now ≡ Accepted c }
+    requires { verdict_of bytes.now ≡ Ok c }
     ensures { result ≡ subtotals_of (rows 1 bytes.now) }
 {
+    let n = c.conversion as usize;
     let mut t = Doubles {
         onsite: 0.0,
         offsite: 0.0,
         decay: 0.0,
     };
-    let mut i: usize = 0;
-    while i < c.conversion as usize {
+    for i in 0..n {
         t = plus(t, parts_at(bytes, row_start(0, i)));
-        i += 1;
     }
     t
 }
 
 // The subtotals of a checked return.
 pub fn subtotals_of<'a>(c: Checked<'a>) -> Doubles
-    requires { verdict_of c.bytes.now ≡ Accepted c.counts }
+    requires { verdict_of c.bytes.now ≡ Ok c.counts }
     ensures { result ≡ subtotals_of (rows 1 c.entry.bytes.now) }
 {
     add_up(c.bytes, c.counts)
@@ -112,18 +104,16 @@ pub fn subtotals_of<'a>(c: Checked<'a>) -> Doubles
 
 // Bytes that were judged, held with their counts as a checked return.
 fn subtotals_judged(bytes: &[u8], counts: Counts) -> Doubles
-    requires { verdict_of bytes.now ≡ Accepted counts }
+    requires { verdict_of bytes.now ≡ Ok counts }
     ensures { result ≡ subtotals_of (rows 1 bytes.now) }
 {
     subtotals_of(held::hold(bytes, counts))
 }
 
 // Any bytes of any length, judged once.
-pub fn subtotals(bytes: &[u8]) -> Answer
+pub fn subtotals(bytes: &[u8]) -> Result<Doubles, Refusal>
     ensures { result ≡ answer_of bytes.now }
 {
-    match judge::judge(bytes) {
-        Verdict::Accepted(counts) => Answer::Figures(subtotals_judged(bytes, counts)),
-        Verdict::Refused { number, place } => Answer::Refused { number, place },
-    }
+    let counts = judge::judge(bytes)?;
+    Ok(subtotals_judged(bytes, counts))
 }

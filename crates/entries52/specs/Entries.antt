@@ -1,7 +1,5 @@
 -- What the table has of an entry: "the three figures with the mark".
-use Rattle.std.specs.Prelude.{ℕ, Bool, false, cond, ◌||◌, List, [], ◌∷◌, get_or, ℤ, pos, negsuc, eqb}
-use Rattle.entries52.specs.declared.Figure.{Figure}
-use Rattle.entries52.specs.declared.Figure.TheVariants.{Given, NotGiven}
+use Rattle.std.specs.Prelude.{ℕ, Bool, false, cond, ◌||◌, List, [], ◌∷◌, get_or, ℤ, pos, negsuc, eqb, Option, Some, None}
 use Rattle.entries52.specs.declared.Entry.{Entry}
 use Rattle.entries52.specs.Table.{Printed, none, table}
 
@@ -12,15 +10,15 @@ same_number (negsuc a) (negsuc b) = eqb a b
 same_number (pos a) (negsuc b) = false
 same_number (negsuc a) (pos b) = false
 
-abbrev pub same_area : Figure → Figure → Bool
-same_area (Given a) (Given b) = same_number a b
-same_area (Given a) NotGiven = false
-same_area NotGiven f = false
+abbrev pub same_area : Option ℤ → Option ℤ → Bool
+same_area (Some a) (Some b) = same_number a b
+same_area (Some a) None = false
+same_area None f = false
 
 -- "A blank rate beside two equal areas is zero; every other blank is 'not given' and never zero."
-abbrev pub rate_of : Figure → Figure → Figure → Figure
-rate_of a b (Given r) = Given r
-rate_of a b NotGiven = cond (same_area a b) (Given (pos 0)) NotGiven
+abbrev pub rate_of : Option ℤ → Option ℤ → Option ℤ → Option ℤ
+rate_of a b (Some r) = Some r
+rate_of a b None = cond (same_area a b) (Some (pos 0)) None
 
 -- "Entries of the source that break it are .. marked": their numbers, 6 * country + zone. None breaks it.
 abbrev pub marked : List ℕ

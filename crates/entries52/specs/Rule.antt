@@ -1,7 +1,5 @@
 -- "Every entry with all three figures obeys one rule: ten times the rate differs from the fall in area by at most 6 tenths."
-use Rattle.std.specs.Prelude.{ℕ, suc, Bool, true, not, ◌&&◌, ◌||◌, List, [], ◌∷◌, ℤ, pos, nat_abs, ◌-ℤ◌, ◌*ℤ◌, T, leb}
-use Rattle.entries52.specs.declared.Figure.{Figure}
-use Rattle.entries52.specs.declared.Figure.TheVariants.{Given, NotGiven}
+use Rattle.std.specs.Prelude.{ℕ, suc, Bool, true, not, ◌&&◌, ◌||◌, List, [], ◌∷◌, ℤ, pos, nat_abs, ◌-ℤ◌, ◌*ℤ◌, T, leb, Option, Some, None}
 use Rattle.entries52.specs.declared.Entry.{Entry}
 use Rattle.entries52.specs.Table.{Printed, table}
 use Rattle.entries52.specs.Entries.{entry_of, marked, among}
@@ -11,11 +9,11 @@ abbrev pub deviation : ℤ → ℤ → ℤ → ℕ
 deviation a b r = nat_abs (pos 10 *ℤ r -ℤ (a -ℤ b))
 
 -- where a figure is not given there is nothing to compare
-abbrev pub near : Figure → Figure → Figure → Bool
-near (Given a) (Given b) (Given r) = leb (deviation a b r) 6
-near (Given a) (Given b) NotGiven = true
-near (Given a) NotGiven r = true
-near NotGiven b r = true
+abbrev pub near : Option ℤ → Option ℤ → Option ℤ → Bool
+near (Some a) (Some b) (Some r) = leb (deviation a b r) 6
+near (Some a) (Some b) None = true
+near (Some a) None r = true
+near None b r = true
 
 -- an entry obeys the rule, or is marked
 abbrev pub obeys : Entry → Bool

@@ -1,7 +1,5 @@
 -- Table 5-2 of document 001 as it is printed, "in tenths of kha": "each numbered from 0 in the document's order without totals".
-use Rattle.std.specs.Prelude.{ℕ, ◌*◌, List, [], ◌∷◌, pos, neg_ℤ}
-use Rattle.entries52.specs.declared.Figure.{Figure}
-use Rattle.entries52.specs.declared.Figure.TheVariants.{Given, NotGiven}
+use Rattle.std.specs.Prelude.{ℕ, ◌*◌, List, [], ◌∷◌, pos, neg_ℤ, Option, Some, None, ℤ}
 
 abbrev pub countries : ℕ
 countries = 90
@@ -14,25 +12,25 @@ entries = countries * zones
 
 -- what is printed of a country in a zone: "the forest area of 1980, of 1990 and the yearly conversion rate"; a blank is not given
 pub record Printed : Type 0 where
-  pub area1980 : Figure
-  pub area1990 : Figure
-  pub rate : Figure
+  pub area1980 : Option ℤ
+  pub area1990 : Option ℤ
+  pub rate : Option ℤ
 
 -- the five ways in which an entry is printed: all three figures, nothing, no rate, a rate below zero, no area of 1990
 abbrev all : ℕ → ℕ → ℕ → Printed
-all a b r = record { area1980 = Given (pos a); area1990 = Given (pos b); rate = Given (pos r) }
+all a b r = record { area1980 = Some (pos a); area1990 = Some (pos b); rate = Some (pos r) }
 
 abbrev pub none : Printed
-none = record { area1980 = NotGiven; area1990 = NotGiven; rate = NotGiven }
+none = record { area1980 = None; area1990 = None; rate = None }
 
 abbrev no_rate : ℕ → ℕ → Printed
-no_rate a b = record { area1980 = Given (pos a); area1990 = Given (pos b); rate = NotGiven }
+no_rate a b = record { area1980 = Some (pos a); area1990 = Some (pos b); rate = None }
 
 abbrev rising : ℕ → ℕ → ℕ → Printed
-rising a b r = record { area1980 = Given (pos a); area1990 = Given (pos b); rate = Given (neg_ℤ (pos r)) }
+rising a b r = record { area1980 = Some (pos a); area1990 = Some (pos b); rate = Some (neg_ℤ (pos r)) }
 
 abbrev no1990 : ℕ → ℕ → Printed
-no1990 a r = record { area1980 = Given (pos a); area1990 = NotGiven; rate = Given (pos r) }
+no1990 a r = record { area1980 = Some (pos a); area1990 = None; rate = Some (pos r) }
 
 -- country by country, the six zones of each: very moist, moist with a short dry season, moist with a long dry season, dry, moist montane, dry montane
 unfoldable pub table : List Printed

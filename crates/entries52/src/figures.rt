@@ -1,6 +1,6 @@
 // Table 5-2 of document 001, in tenths of kha: country by country, zone by zone, the area of 1980, that of 1990 and the yearly rate.
 
-// A blank of the document: no area is below zero, and no rate is so far below it.
+// A blank of the document: no area is below zero, and no rate is so far below it. A number and no `Option`, which would have the array twice as long (8 bytes a figure).
 pub const BLANK: i32 = -2147483648;
 
 // Entries that break the rule of the rates: none does (docs/TABLE52.md).

@@ -4,70 +4,51 @@
 mod figures;
 
 ghost use Rattle.std.specs.Prelude.{◌≡◌, ◌+◌, ◌*◌, ◌<◌, get_or};
-ghost use Rattle.entries52.specs.declared.Figure.TheVariants.{NotGiven};
 ghost use Rattle.entries52.specs.Table.{table, entries};
 ghost use Rattle.entries52.specs.Entries.{same_area, rate_of, marked, among, entry_at};
 ghost use Rattle.entries52.specs.Cells.{cells, figure_of};
 
 use crate::figures::{BLANK, FIGURES, MARKED};
 
-// A figure in tenths of kha, or in tenths of kha a year; a blank of the document has no number that could be taken for one.
-#[derive(Clone, Copy)]
-pub enum Figure {
-    Given(i32),
-    NotGiven,
-}
-
-// What the table has of a country in a zone; the mark says that the source breaks the rule of the rates there.
-#[derive(Clone, Copy)]
+// What the table has of a country in a zone, in tenths of kha and in tenths of kha a year: a blank of the document has no number that could be taken for one.
+// The mark says that the source breaks the rule of the rates there.
+#[derive(Clone, Copy, Debug, PartialEq, Eq)]
 pub struct Entry {
-    pub area1980: Figure,
-    pub area1990: Figure,
-    pub rate: Figure,
+    pub area1980: Option<i32>,
+    pub area1990: Option<i32>,
+    pub rate: Option<i32>,
     pub marked: bool,
 }
 
 // A number of the table, or a blank.
-fn figure_of(n: i32) -> Figure
+fn figure_of(n: i32) -> Option<i32>
     ensures { result ≡ figure_of n }
 {
     if n == BLANK {
-        return Figure::NotGiven;
+        return None;
     }
-    Figure::Given(n)
+    Some(n)
 }
 
-fn figure_at(at: usize) -> Figure
+fn figure_at(at: usize) -> Option<i32>
     requires { at < 3 * entries }
-    ensures { result ≡ get_or (cells table) at NotGiven }
+    ensures { result ≡ get_or (cells table) at None }
 {
     figure_of(FIGURES[at])
 }
 
 // Two areas that are given and equal.
-fn same_area(a: Figure, b: Figure) -> bool
+fn same_area(a: Option<i32>, b: Option<i32>) -> bool
     ensures { result ≡ same_area a b }
 {
-    let Figure::Given(x) = a else {
-        return false;
-    };
-    let Figure::Given(y) = b else {
-        return false;
-    };
-    x == y
+    a.is_some() && a == b
 }
 
 // A blank rate beside two equal areas is zero; every other blank is not given.
-fn rate_of(a: Figure, b: Figure, rate: Figure) -> Figure
+fn rate_of(a: Option<i32>, b: Option<i32>, rate: Option<i32>) -> Option<i32>
     ensures { result ≡ rate_of a b rate }
 {
-    if let Figure::Given(_) = rate {
-        return rate;
-    }
-    if same_area(a, b) {
-        return Figure::Given(0);
-    }
-    Figure::NotGiven
+    rate.or(same_area(a, b).then_some(0))
 }
 
 fn marked_at(n: usize) -> bool

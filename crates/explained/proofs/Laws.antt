@@ -8,7 +8,7 @@
 --     soil-place, soil-text                where 13 is given: which row stands there, and the whole text
 --     trees-place, trees-text              where 14 is given: the same
 use Prim.Native.Nat.{ℕ, ◌*◌, ◌<◌, ◌≤◌}
-use mathlib.Core.Path.{◌≡◌, refl, ap, subst, ◌∙◌}
+use mathlib.Core.Path.{◌≡◌, refl, sym, ap, subst, ◌∙◌}
 use mathlib.Core.List.{List, ◌++◌}
 use native.Mathlib.Omega.{arith}
 use lib.ListN.{length}
@@ -18,9 +18,9 @@ use Rattle.form.specs.Records.{filed, unit_code}
 use Rattle.form.specs.Sums.{column_k, column_l, soil_type, sum_now, sum_then}
 use Rattle.form.specs.Verdict.{rules, rows, verdict_by, verdict_of}
 use Rattle.form.specs.declared.Counts.{Counts}
-use Rattle.form.specs.declared.Ruling.{Ruling}
-use Rattle.form.specs.declared.Ruling.TheVariants.{Clean, Broken}
-use Rattle.form.specs.declared.Verdict.TheVariants as verdict
+use Rattle.explained.specs.Explanation.{Accepted}
+use Rattle.form.specs.Refusals.{Clean, Refused, Ruling}
+use Rattle.std.specs.Prelude.{Ok, Err}
 use Rattle.form.proofs.EachKind.{few_kinds}
 use Rattle.form.proofs.Meaning.{clean_of, refused-ruling, small}
 use Rattle.decimal.proofs.DigitLaws.{decimal-length}
@@ -40,15 +40,19 @@ use Rattle.reasons.specs.declared.Reason.TheVariants.{BadBlock, ClearedAbove, So
 use Rattle.naming.specs.RowLines.{named_lines, soil_lines, trees_lines}
 use Rattle.wording.specs.Wording.{wood_lines, value_lines}
 use Rattle.explained.specs.Explained.{explained_by, explanation_of, ruling_of, refused_text, explained_text, explained}
-use Rattle.explained.specs.declared.Explanation.TheVariants.{Accepted, Refused}
+
+-- the place that a ruling refuses by
+abbrev place_said : Ruling → ℕ
+place_said Clean = 0
+place_said (Err r) = r.place
 
 module _ (s : List ℕ) where
-  pub accepted-explained : {c : Counts} → verdict_of s ≡ verdict.Accepted c → explanation_of s ≡ Accepted (heaviest_of s) (matter_of (rows 1 s))
+  pub accepted-explained : {c : Counts} → verdict_of s ≡ Ok c → explanation_of s ≡ Accepted (heaviest_of s) (matter_of (rows 1 s))
   unfolding verdict_of explanation_of
   accepted-explained {c} e = ap (explained_by s) (clean_of s (ruling (rules s)) c e).0
 
-  module _ {n p : ℕ} (e : verdict_of s ≡ verdict.Refused n p) where
-    pub refused-explained : explanation_of s ≡ Refused (reason_of s n p)
+  module _ {n p : ℕ} (e : verdict_of s ≡ Refused n p) where
+    pub refused-explained : explanation_of s ≡ Err (reason_of s n p)
     unfolding explanation_of
     refused-explained = ap (explained_by s) (refused-ruling s n p e)
 
@@ -64,10 +68,10 @@ module _ (s : List ℕ) where
   clash_above : {u l : ℕ} → Explains s (ClearedAbove u l) → u < l
   clash_above (wood_12 h) = h
 
-  module _ {p : ℕ} (e : verdict_of s ≡ verdict.Refused 12 p) where
+  module _ {p : ℕ} (e : verdict_of s ≡ Refused 12 p) where
     pub wood-place : p ≡ 0
     unfolding reason_of
-    wood-place = let told : Broken 12 0 ≡ Broken 12 p = reason_told s e in cc
+    wood-place = sym (ap place_said (reason_told s e))
 
     pub wood-above : 100 * column_k (rows 3 s) < column_l (rows 1 s)
     unfolding reason_of
@@ -81,7 +85,7 @@ module _ (s : List ℕ) where
   clash_place : {w : Row} {t n o : ℕ} → Explains s (SoilUneven w t n o) → FirstOfLowest (filed s) w.place t
   clash_place (soils_13 w t r f) = f
 
-  module _ {p : ℕ} (e : verdict_of s ≡ verdict.Refused 13 p) where
+  module _ {p : ℕ} (e : verdict_of s ≡ Refused 13 p) where
     pub soil-place : FirstOfLowest (filed s) p (soil_type ((filed s).row p))
     unfolding reason_of
     soil-place = clash_place (explains s e)
@@ -95,7 +99,7 @@ module _ (s : List ℕ) where
   clash_trees : {w : Row} {c e : ℕ} → Explains s (ScatteredTrees w c e) → (w.kind ≡ 2) × (c ≡ 1) × (e ≡ 3)
   clash_trees (trees_14 w r k c e) = (k, c, e)
 
-  module _ {p : ℕ} (e : verdict_of s ≡ verdict.Refused 14 p) where
+  module _ {p : ℕ} (e : verdict_of s ≡ Refused 14 p) where
     pub trees-place : ((filed s).kind p ≡ 2) × (unit_code ((filed s).row p) ≡ 1) × (edition s 0 ≡ 3)
     unfolding reason_of
     trees-place = clash_trees (explains s e)
@@ -108,30 +112,30 @@ module _ (s : List ℕ) where
   by_ruling : (u : Ruling) → ruling (rules s) ≡ u → ruling_of (explained_by s u) ≡ u
   unfolding verdict_of
   by_ruling Clean e = refl
-  by_ruling (Broken n p) e = reason_told s (ap (verdict_by s) e)
+  by_ruling (Err r) e = reason_told s (ap (verdict_by s) e)
 
   pub ruling-explained : ruling_of (explanation_of s) ≡ ruling (rules s)
   unfolding explanation_of
   ruling-explained = by_ruling (ruling (rules s)) refl
 
-  values_by : (u : Ruling) (r : Reason) → ruling (rules s) ≡ u → explained_by s u ≡ Refused r → Explains s r
+  values_by : (u : Ruling) (r : Reason) → ruling (rules s) ≡ u → explained_by s u ≡ Err r → Explains s r
   unfolding verdict_of
   values_by Clean r q e = let z : ◌≡◌ {A = ℕ} 0 1 = cc in absurd (omega arith)
-  values_by (Broken n p) r q e =
-      let x : reason_of s n p ≡ r = cc in
+  values_by (Err refusal) r q e =
+      let x : reason_of s refusal.number refusal.place ≡ r = cc in
       subst (Explains s) x (explains s (ap (verdict_by s) q))
 
-  pub values_stand : (r : Reason) → explanation_of s ≡ Refused r → Explains s r
+  pub values_stand : (r : Reason) → explanation_of s ≡ Err r → Explains s r
   unfolding explanation_of
   values_stand r e = values_by (ruling (rules s)) r refl e
 
-  no_fourth_by : (u : Ruling) (b : ℕ) (h : Header) → ruling (rules s) ≡ u → explained_by s u ≡ Refused (BadBlock b h Fourth) → ⊥
+  no_fourth_by : (u : Ruling) (b : ℕ) (h : Header) → ruling (rules s) ≡ u → explained_by s u ≡ Err (BadBlock b h Fourth) → ⊥
   unfolding verdict_of
   no_fourth_by Clean b h q e = let z : ◌≡◌ {A = ℕ} 0 1 = cc in absurd (omega arith)
-  no_fourth_by (Broken n p) b h q e =
-      let x : reason_of s n p ≡ BadBlock b h Fourth = cc in
+  no_fourth_by (Err r) b h q e =
+      let x : reason_of s r.number r.place ≡ BadBlock b h Fourth = cc in
       no_fourth s (ap (verdict_by s) q) x
 
-  pub fourth_never : (b : ℕ) (h : Header) → explanation_of s ≡ Refused (BadBlock b h Fourth) → ⊥
+  pub fourth_never : (b : ℕ) (h : Header) → explanation_of s ≡ Err (BadBlock b h Fourth) → ⊥
   unfolding explanation_of
   fourth_never b h e = no_fourth_by (ruling (rules s)) b h refl e

@@ -1,11 +1,11 @@
 -- §7: "A small tool takes a return and says, for a refusal, the number, the place and the values that clash." "For an accepted return and one of the three
 -- subtotals it names the row
 -- with the largest exact part, the lower id on a tie, 'none' where the subtotal is zero." §13: behind these rows it prints all five totals of what became of the biomass.
-use Rattle.std.specs.Prelude.{ℕ, cond, List, [], ◌∷◌, ◌++◌, eqb}
+use Rattle.std.specs.Prelude.{ℕ, cond, List, [], ◌∷◌, ◌++◌, eqb, Err}
 use Rattle.form.specs.Ruling.{ruling}
 use Rattle.form.specs.Verdict.{rules, rows}
-use Rattle.form.specs.declared.Ruling.{Ruling}
-use Rattle.form.specs.declared.Ruling.TheVariants.{Clean, Broken}
+use Rattle.explained.specs.Explanation.{Accepted, Explanation}
+use Rattle.form.specs.Refusals.{Clean, Ruling}
 use Rattle.heaviest.specs.Heaviest.{heaviest_of}
 use Rattle.heaviest.specs.declared.Weight.{Weight}
 use Rattle.heaviest.specs.declared.Weights.{Weights}
@@ -16,13 +16,11 @@ use Rattle.fates.specs.Fates.{matter_lines}
 use Rattle.reasons.specs.Reasons.{refusal_of, reason_of}
 use Rattle.naming.specs.RowLines.{word_line}
 use Rattle.wording.specs.Wording.{value_lines}
-use Rattle.explained.specs.declared.Explanation.{Explanation}
-use Rattle.explained.specs.declared.Explanation.TheVariants.{Accepted, Refused}
 
 -- by the ruling: the heaviest row of each subtotal and what became of the cleared biomass, or the values that clash
 abbrev pub explained_by : List ℕ → Ruling → Explanation
 explained_by s Clean = Accepted (heaviest_of s) (matter_of (rows 1 s))
-explained_by s (Broken n p) = Refused (reason_of s n p)
+explained_by s (Err r) = Err (reason_of s r.number r.place)
 
 -- of any bytes
 unfoldable pub explanation_of : List ℕ → Explanation
@@ -31,7 +29,7 @@ explanation_of s = explained_by s (ruling (rules s))
 -- the ruling that an explanation is of
 abbrev pub ruling_of : Explanation → Ruling
 ruling_of (Accepted w m) = Clean
-ruling_of (Refused r) = refusal_of r
+ruling_of (Err r) = refusal_of r
 
 -- ---- the text
 
@@ -57,11 +55,11 @@ weights_lines w = weight_lines onsite_name w.onsite ++ (weight_lines offsite_nam
 -- "first `refused NUMBER PLACE` as `sheets` does", then the values
 abbrev pub refused_text : Ruling → List ℕ
 refused_text Clean = []
-refused_text (Broken n p) = refused_line n p
+refused_text (Err r) = refused_line r.number r.place
 
 abbrev pub explained_text : Explanation → List ℕ
 explained_text (Accepted w m) = lines_text (weights_lines w ++ matter_lines m)
-explained_text (Refused r) = refused_text (refusal_of r) ++ lines_text (value_lines r)
+explained_text (Err r) = refused_text (refusal_of r) ++ lines_text (value_lines r)
 
 -- what `explain` prints
 abbrev pub explained : List ℕ → List ℕ

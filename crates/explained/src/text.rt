@@ -7,10 +7,9 @@ ghost use Rattle.fates.specs.Fates.{matter_lines};
 ghost use Rattle.explained.specs.Explained.{weight_text, weights_lines, explained, weights_room, explain_room};
 
 use fates::put_matter;
-use form::Verdict;
 use heaviest::{Weight, Weights, weigh_rows};
 use matter::{Matter, work_matter};
-use phrases::text::put;
+use phrases::text::{plain, put};
 use phrases::{put_lines, put_refused};
 use reasons::reason_of;
 use wording::put_reason;
@@ -21,9 +20,9 @@ fn put_weight(none: &[u8], names: &[u8], w: Weight, out: &mut [u8], at: usize) -
     ensures { WrittenIn 90 (weight_text none.now names.now w) out.old out.new at result }
 {
     if w.part == 0 {
-        return put(none, none.len(), out, at);
+        return put(none, out, at);
     }
-    let values = [0, 0, w.id as u64, 0, 0, w.part];
+    let values = [plain(w.id as u64), plain(w.part)];
     put_lines(names, &values, out, at)
 }
 
@@ -70,10 +69,10 @@ pub fn write_text(bytes: &[u8], out: &mut [u8]) -> usize
     ensures { WrittenAt (explained bytes.now) out.old out.new 0 result × (result ≤ explain_room) }
 {
     match judge::judge(bytes) {
-        Verdict::Accepted(c) => put_accepted(weigh_rows(bytes, c), work_matter(bytes, c), out),
-        Verdict::Refused { number, place } => {
-            let next = put_refused(number, place, out, 0);
-            put_reason(reason_of(bytes, number, place), out, next)
+        Ok(c) => put_accepted(weigh_rows(bytes, c), work_matter(bytes, c), out),
+        Err(r) => {
+            let next = put_refused(r.number, r.place, out, 0);
+            put_reason(reason_of(bytes, r.number, r.place), out, next)
         }
     }
 }

@@ -1,37 +1,37 @@
 -- The five lines: the names filled in with the numbers, and how long they are. Assumes nothing.
 --     names_few, matter-filled     what `put_lines` asks, and that it writes the lines
 --     matter-short                 how long they are
-use Prim.Native.Nat.{ℕ, ◌+◌, ◌*◌, ◌^◌, ◌≤◌}
-use mathlib.Core.Path.{◌≡◌, refl, ap, ◌∙◌}
+use Prim.Native.Nat.{ℕ, ◌+◌, ◌^◌, ◌≤◌}
+use mathlib.Core.Path.{◌≡◌, ap}
 use mathlib.Core.List.{List, [], ◌∷◌}
 use native.Mathlib.Omega.{arith}
+use lib.IntN.{ℤ}
 use lib.ListN.{length, length-append}
 use Rattle.wide.specs.Numbers.{value}
 use Rattle.totals.specs.declared.DryMatter.{DryMatter}
-use Rattle.decimal.specs.Digits.{decimal}
 use Rattle.decimal.proofs.DigitLaws.{decimal-length}
 use Rattle.matter.specs.Matter.{MatterMost}
 use Rattle.matter.specs.declared.Matter.{Matter}
 use Rattle.phrases.specs.Ascii.{codes}
-use Rattle.phrases.specs.Lines.{Line, lines_text, spaces, filled_in}
-use Rattle.phrases.specs.Threes.{of_threes}
-use Rattle.fates.specs.Fates.{mass_line, matter_lines, matter_text, matter_room, matter_numbers}
+use Rattle.phrases.specs.Lines.{Line, lines_text, spaces, filled_in, unsigned}
+use Rattle.fates.specs.Fates.{mass_line, matter_lines, matter_text, matter_room}
 
 -- the names, each with a space behind it, as they stand in the code
 abbrev pub matter_names : List ℕ
 matter_names = codes "oxidised_onsite charcoal_onsite oxidised_offsite charcoal_offsite unburned "
 
-numbers-filled : (m : Matter) → filled_in matter_names (of_threes (matter_numbers m)) ≡ matter_text m
-unfolding filled_in of_threes lines_text matter_lines
-numbers-filled m = refl
+-- what the masses come to, in the order of the lines
+abbrev pub masses : Matter → List ℤ
+masses m =
+    unsigned (value m.onsite.oxidised.0 ∷ value m.onsite.charcoal.0 ∷ value m.offsite.oxidised.0 ∷ value m.offsite.charcoal.0 ∷ value m.unburned.0 ∷ [])
 
-module _ (m : Matter) {ns : List ℕ} (e : ns ≡ matter_numbers m) where
-  pub names_few : 3 * spaces matter_names ≤ length ns
-  unfolding spaces
-  names_few = omega (arith, ap length e)
+pub matter-filled : (m : Matter) {vs : List ℤ} → vs ≡ masses m → filled_in matter_names vs ≡ matter_text m
+unfolding filled_in lines_text matter_lines
+matter-filled m e = ap (filled_in matter_names) e
 
-  pub matter-filled : filled_in matter_names (of_threes ns) ≡ matter_text m
-  matter-filled = ap (λ (x : List ℕ). filled_in matter_names (of_threes x)) e ∙ numbers-filled m
+pub names_few : spaces matter_names ≤ 5
+unfolding spaces
+names_few = omega arith
 
 -- a line of at most 25 digits
 line-short : (name : List ℕ) (mass : DryMatter) (ls : List Line) {n : ℕ} → value mass.0 ≤ 2 ^ 80 → length (lines_text ls) ≤ n

@@ -1,7 +1,6 @@
 -- §13: what became of the cleared biomass, in lines: the national line and the explaining tool "print all five", by the same names in the same order as `sheets`.
 use Rattle.std.specs.Prelude.{ℕ, List, [], ◌∷◌}
 use Rattle.wide.specs.Numbers.{value}
-use Rattle.wide.specs.declared.Wide.{Wide}
 use Rattle.totals.specs.declared.DryMatter.{DryMatter}
 use Rattle.matter.specs.declared.Matter.{Matter}
 use Rattle.phrases.specs.Ascii.{codes}
@@ -25,10 +24,3 @@ matter_text m = lines_text (matter_lines m)
 -- room that is always enough for it: 70 letters, and for each line a space, at most 25 digits and a line feed
 abbrev pub matter_room : ℕ
 matter_room = 205
-
--- the numbers as the code lists them, three a mass: no sign, then the upper and the lower word
-abbrev pub three_of : Wide → List ℕ → List ℕ
-three_of w more = 0 ∷ w.hi ∷ w.lo ∷ more
-
-abbrev pub matter_numbers : Matter → List ℕ
-matter_numbers m = three_of m.onsite.oxidised.0 (three_of m.onsite.charcoal.0 (three_of m.offsite.oxidised.0 (three_of m.offsite.charcoal.0 (three_of m.unburned.0 []))))

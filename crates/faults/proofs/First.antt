@@ -7,8 +7,7 @@ use mathlib.Core.Bool.{Bool, true, false, cond, ◌||◌, false≢true}
 use mathlib.Core.List.{List, [], ◌∷◌}
 use Rattle.form.specs.First.{first}
 use Rattle.form.specs.Block.{kind_of, kind_falls, low_behind, ends_low, none_before, fourth_of_kind, bad_count, not_filled, over_filled, stray, bad_block}
-use Rattle.form.specs.declared.Spot.{Spot}
-use Rattle.form.specs.declared.Spot.TheVariants.{At, Nowhere}
+use Rattle.std.specs.Prelude.{None, Option, Some}
 use Rattle.form.proofs.Search.{first_at, first_none}
 use Rattle.faults.specs.declared.Fault.{Fault}
 use Rattle.faults.specs.declared.Fault.TheVariants.{Order, End, Fourth, Count, Unfilled, Overfilled}
@@ -26,10 +25,10 @@ module _ (s : List ℕ) (b : ℕ) where
       cond k (Order (kind_of s (b - 1))) (cond e End (cond f Fourth (cond c Count (cond n (Unfilled (kind_of s (b + 1))) (cond o Overfilled (stray_fault s b))))))
 
   -- a stray byte is where rule 4 says that there is one
-  found : (p : Spot) → first (stray_byte s b) 512 ≡ p → stray s b ≡ true → kind_falls s b ≡ false → ends_wrong s b ≡ false → fourth_of_kind s b ≡ false
+  found : (p : Option ℕ) → first (stray_byte s b) 512 ≡ p → stray s b ≡ true → kind_falls s b ≡ false → ends_wrong s b ≡ false → fourth_of_kind s b ≡ false
       → bad_count s b ≡ false → not_filled s b ≡ false → over_filled s b ≡ false → Faulty s b (stray_by s b p)
-  found (At i) e t k x f c n o = let h = first_at (stray_byte s b) e in stray_byte_lem k x f c n o i h.0 h.1 h.2
-  found Nowhere e t k x f c n o = absurd (false≢true (sym (none_stray s b (first_none (stray_byte s b) e)) ∙ t))
+  found (Some i) e t k x f c n o = let h = first_at (stray_byte s b) e in stray_byte_lem k x f c n o i h.0 h.1 h.2
+  found None e t k x f c n o = absurd (false≢true (sym (none_stray s b (first_none (stray_byte s b) e)) ∙ t))
 
   by_tests : (k e f c n o : Bool) → kind_falls s b ≡ k → ends_wrong s b ≡ e → fourth_of_kind s b ≡ f → bad_count s b ≡ c → not_filled s b ≡ n → over_filled s b ≡ o
       → (k || e || f || c || n || o || stray s b) ≡ true → Faulty s b (fault_by k e f c n o)

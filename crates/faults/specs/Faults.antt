@@ -1,11 +1,9 @@
 -- §7: what is wrong with a block that 4 is given at. "the block's header or non-zero byte": the first fault in the order of 01's sentence, with the values that clash.
-use Rattle.std.specs.Prelude.{ℕ, ◌+◌, ◌-◌, ◌*◌, ◌/◌, ◌%◌, ◌<◌, ◌≡◌, Bool, true, false, cond, not, ◌&&◌, ◌||◌, List, [], ◌∷◌, ltb, leb, eqb}
+use Rattle.std.specs.Prelude.{ℕ, ◌+◌, ◌-◌, ◌*◌, ◌/◌, ◌%◌, ◌<◌, ◌≡◌, Bool, true, false, cond, not, ◌&&◌, ◌||◌, List, [], ◌∷◌, ltb, leb, eqb, None, Option, Some}
 use Rattle.form.specs.First.{first}
 use Rattle.form.specs.Bytes.{byte_at}
 use Rattle.form.specs.Layout.{Layout, layout}
 use Rattle.form.specs.Block.{kind_of, count_of, kind_falls, low_behind, ends_low, none_before, fourth_of_kind, bad_count, not_filled, over_filled}
-use Rattle.form.specs.declared.Spot.{Spot}
-use Rattle.form.specs.declared.Spot.TheVariants.{At, Nowhere}
 use Rattle.faults.specs.declared.Fault.{Fault}
 use Rattle.faults.specs.declared.Fault.TheVariants.{Order, End, Fourth, Count, Unfilled, Overfilled, Stray}
 
@@ -26,9 +24,9 @@ abbrev pub stray_byte : List ℕ → ℕ → ℕ → Bool
 stray_byte s b i = zero_due s b i && not (eqb (byte_at s (512 * b + i)) 0)
 
 -- the lowest such offset and its byte; a block that has none is never asked about (`first-fault`)
-abbrev pub stray_by : List ℕ → ℕ → Spot → Fault
-stray_by s b (At i) = Stray i (byte_at s (512 * b + i))
-stray_by s b Nowhere = Stray 512 0
+abbrev pub stray_by : List ℕ → ℕ → Option ℕ → Fault
+stray_by s b (Some i) = Stray i (byte_at s (512 * b + i))
+stray_by s b None = Stray 512 0
 
 abbrev pub stray_fault : List ℕ → ℕ → Fault
 stray_fault s b = stray_by s b (first (stray_byte s b) 512)

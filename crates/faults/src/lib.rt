@@ -31,12 +31,10 @@ fn due_in_record(kind: usize, k: usize) -> bool
     let n = numbers(kind);
     let mut due = false;
     let mut at: usize = 0;
-    let mut i: usize = 0;
-    while i < n {
+    for i in 0..n {
         let f = field(kind, i);
         due = due | ((at <= k) & (k < at + f.zeros));
         at = at + f.zeros + f.width;
-        i += 1;
     }
     due | (at <= k)
 }
@@ -63,8 +61,7 @@ fn first_stray(bytes: &[u8], b: usize) -> Fault
     requires { b < blocks bytes.now }
     ensures { result ≡ stray_fault bytes.now b }
 {
-    let mut i: usize = 0;
-    while i < 512 {
+    for i in 0..512 {
         let byte = byte_at(bytes, 512 * b + i);
         if zero_due(bytes, b, i) & (byte != 0) {
             return Fault::Stray {
@@ -72,7 +69,6 @@ fn first_stray(bytes: &[u8], b: usize) -> Fault
                 byte,
             };
         }
-        i += 1;
     }
     Fault::Stray {
         offset: 512,

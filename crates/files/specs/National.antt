@@ -11,8 +11,7 @@ use Rattle.form.specs.Block.{blocks_below}
 use Rattle.form.specs.Records.{counted_difference, rows_below}
 use Rattle.form.specs.Sums.{sum_of, harvest_part, cleared_part}
 use Rattle.form.specs.Verdict.{count_below, verdict_of}
-use Rattle.form.specs.declared.Verdict.{Verdict}
-use Rattle.form.specs.declared.Verdict.TheVariants.{Refused}
+use Rattle.form.specs.Refusals.{Refused, Verdict}
 use Rattle.wide.specs.Numbers.{value, words_of}
 use Rattle.wide.specs.Rounding.{even_of, settled}
 use Rattle.decimal.specs.Digits.{digits}

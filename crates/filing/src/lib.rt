@@ -53,10 +53,8 @@ fn clear(out: &mut [u8], at: usize, n: usize)
     requires { at + n ≤ length out.old }
     ensures { out.new ≡ sets out.old at (zeros n) }
 {
-    let mut i: usize = 0;
-    while i < n {
+    for i in 0..n {
         out[at + i] = 0;
-        i += 1;
     }
 }
 
@@ -67,13 +65,11 @@ fn write_fields(kind: usize, rows: &[u32], from: usize, out: &mut [u8], to: usiz
 {
     let n = numbers(kind);
     let mut k: usize = 0;
-    let mut i: usize = 0;
-    while i < n {
+    for i in 0..n {
         let f = field(kind, i);
         clear(out, to + k, f.zeros);
         put_number(out, to + k + f.zeros, f.width, rows[from + i]);
         k = k + f.zeros + f.width;
-        i += 1;
     }
     clear(out, to + k, 40 - k);
 }
@@ -113,11 +109,9 @@ fn write_records(kind: usize, rows: &[u32], m: usize, place: usize, out: &mut [u
     ensures { out.new ≡ sets out.old to (in_turn (record_on (filed_list kind rows.now)) place 12) }
 {
     let mut at = to;
-    let mut i: usize = 0;
-    while i < 12 {
+    for i in 0..12 {
         write_place(kind, rows, m, place + i, out, at);
         at += 40;
-        i += 1;
     }
 }
 
@@ -180,9 +174,7 @@ pub fn write_kind(edition: u32, kind: usize, rows: &[u32], start: usize, n: usiz
 {
     let m = rows.len() / numbers(kind);
     let blocks = (m + 11) / 12;
-    let mut b: usize = 0;
-    while b < blocks {
+    for b in 0..blocks {
         write_block(edition, kind, rows, m, b, start, n, out);
-        b += 1;
     }
 }

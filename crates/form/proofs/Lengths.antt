@@ -11,7 +11,7 @@ use Rattle.form.specs.Block.{longest, edition, bad_length}
 use Rattle.form.specs.Ruling.{ruling}
 use Rattle.form.specs.Records.{filed, record_rules}
 use Rattle.form.specs.Verdict.{block_rules, form_rules}
-use Rattle.form.specs.declared.Ruling.TheVariants.{Clean}
+use Rattle.form.specs.Refusals.{Clean}
 use Rattle.form.proofs.Tests.{all_fail, same_of}
 use Rattle.form.proofs.EachKind.{few_kinds}
 use Rattle.form.proofs.Order.{AllKept, Kept, more, ruling_append, ruling-clean, or_clean}

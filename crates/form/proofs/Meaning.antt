@@ -15,22 +15,21 @@ use Rattle.form.specs.Ruling.{Rule, ruling}
 use Rattle.form.specs.Block.{most_blocks}
 use Rattle.form.specs.Verdict.{block_rules, rules, counts_of, verdict_by, verdict_of}
 use Rattle.form.specs.declared.Counts.{Counts}
-use Rattle.form.specs.declared.Ruling.{Ruling}
-use Rattle.form.specs.declared.Ruling.TheVariants.{Clean, Broken}
-use Rattle.form.specs.declared.Verdict.TheVariants.{Accepted, Refused}
+use Rattle.form.specs.Refusals.{Clean, Refused, Ruling}
+use Rattle.std.specs.Prelude.{Ok, Err}
 use Rattle.form.proofs.Order.{Kept, Least, this, later, AllKept, rule_of, has, apart, BrokenAt, least_has, least_of, ruling_least, ruling-clean, least_ruling, clean-ruling}
 use Rattle.form.proofs.Lengths.{few_blocks, short}
 
-broken_of : (s : List ℕ) (u : Ruling) (n p : ℕ) → verdict_by s u ≡ Refused n p → u ≡ Broken n p
+broken_of : (s : List ℕ) (u : Ruling) (n p : ℕ) → verdict_by s u ≡ Refused n p → u ≡ Refused n p
 broken_of s Clean n p e = let z : ◌≡◌ {A = ℕ} 0 1 = cc in absurd (omega arith)
-broken_of s (Broken m q) n p e = cc
+broken_of s (Err r) n p e = cc
 
 -- an accepted verdict comes of a clean ruling, and has the counts
-pub clean_of : (s : List ℕ) (u : Ruling) (c : Counts) → verdict_by s u ≡ Accepted c → (u ≡ Clean) × (c ≡ counts_of s)
+pub clean_of : (s : List ℕ) (u : Ruling) (c : Counts) → verdict_by s u ≡ Ok c → (u ≡ Clean) × (c ≡ counts_of s)
 clean_of s Clean c e = (refl, cc)
-clean_of s (Broken n p) c e = let z : ◌≡◌ {A = ℕ} 0 1 = cc in absurd (omega arith)
+clean_of s (Err r) c e = let z : ◌≡◌ {A = ℕ} 0 1 = cc in absurd (omega arith)
 
-pub refused-ruling : (s : List ℕ) (n p : ℕ) → verdict_of s ≡ Refused n p → ruling (rules s) ≡ Broken n p
+pub refused-ruling : (s : List ℕ) (n p : ℕ) → verdict_of s ≡ Refused n p → ruling (rules s) ≡ Refused n p
 unfolding verdict_of
 refused-ruling s n p e = broken_of s (ruling (rules s)) n p e
 
@@ -38,7 +37,7 @@ pub refused : (s : List ℕ) (n p : ℕ) → (verdict_of s ≡ Refused n p) ↔ 
 unfolding verdict_of
 refused s n p = (λ e. ruling_least (refused-ruling s n p e), λ l. ap (verdict_by s) (least_ruling l))
 
-pub accepted : (s : List ℕ) → (verdict_of s ≡ Accepted (counts_of s)) ↔ AllKept (rules s)
+pub accepted : (s : List ℕ) → (verdict_of s ≡ Ok (counts_of s)) ↔ AllKept (rules s)
 unfolding verdict_of
 accepted s = (λ e. ruling-clean (clean_of s (ruling (rules s)) (counts_of s) e).0, λ k. ap (verdict_by s) (clean-ruling k))
 

@@ -13,36 +13,35 @@ use native.Mathlib.Numerals.{add-one}
 use native.Mathlib.Omega.{arith}
 use Rattle.form.specs.First.{first, any, or_else}
 use Rattle.form.proofs.Tests.{or_none}
-use Rattle.form.specs.declared.Spot.{Spot}
-use Rattle.form.specs.declared.Spot.TheVariants.{At, Nowhere}
+use Rattle.std.specs.Prelude.{None, Option, Some}
 
 module _ (p : ℕ → Bool) where
-  pub first-zero : first p 0 ≡ Nowhere
+  pub first-zero : first p 0 ≡ None
   unfolding first
   first-zero = refl
 
-  pub first_more : (i : ℕ) → first p i ≡ Nowhere → p i ≡ false → first p (i + 1) ≡ Nowhere
+  pub first_more : (i : ℕ) → first p i ≡ None → p i ≡ false → first p (i + 1) ≡ None
   unfolding first
   first_more i none fails = rw (add-one, none, fails)
 
-  pub first_found : (i n : ℕ) → first p i ≡ Nowhere → p i ≡ true → i < n → first p n ≡ At i
+  pub first_found : (i n : ℕ) → first p i ≡ None → p i ≡ true → i < n → first p n ≡ Some i
   unfolding first
   first_found i zero none holds l = absurd (not-suc-le-zero l)
   first_found i (suc n) none holds l =
       ⊎_elim
-      (λ e. subst (λ (k : ℕ). first p (suc k) ≡ At i) e (rw (none, holds)))
-      (λ lt. let e : first p n ≡ At i = first_found i n none holds lt in rw e)
+      (λ e. subst (λ (k : ℕ). first p (suc k) ≡ Some i) e (rw (none, holds)))
+      (λ lt. let e : first p n ≡ Some i = first_found i n none holds lt in rw e)
       (eq-or-lt_of_le (le_of_suc-le-suc l))
 
   -- what a spot says of the test, below n
-  abbrev pub Says : ℕ → Spot → Type 0
-  Says n (At i) = (i < n) × (p i ≡ true) × ((k : ℕ) → k < i → p k ≡ false)
-  Says n Nowhere = (k : ℕ) → k < n → p k ≡ false
+  abbrev pub Says : ℕ → Option ℕ → Type 0
+  Says n (Some i) = (i < n) × (p i ≡ true) × ((k : ℕ) → k < i → p k ≡ false)
+  Says n None = (k : ℕ) → k < n → p k ≡ false
 
-  step : (n : ℕ) (s : Spot) (b : Bool) → Says n s → p n ≡ b → Says (suc n) (or_else s (cond b (At n) Nowhere))
-  step n (At i) b h e = (omega arith, h.1, h.2)
-  step n Nowhere true h e = (omega arith, e, h)
-  step n Nowhere false h e =
+  step : (n : ℕ) (s : Option ℕ) (b : Bool) → Says n s → p n ≡ b → Says (suc n) (or_else s (cond b (Some n) None))
+  step n (Some i) b h e = (omega arith, h.1, h.2)
+  step n None true h e = (omega arith, e, h)
+  step n None false h e =
       λ k l. ⊎_elim (λ q. subst (λ (m : ℕ). p m ≡ false) (sym q) e) (λ lt. h k lt) (eq-or-lt_of_le (le_of_suc-le-suc l))
 
   pub first_says : (n : ℕ) → Says n (first p n)
@@ -50,21 +49,21 @@ module _ (p : ℕ → Bool) where
   first_says zero = λ k l. absurd (not-suc-le-zero l)
   first_says (suc n) = step n (first p n) (p n) (first_says n) refl
 
-  pub first_at : {n i : ℕ} → first p n ≡ At i → (i < n) × (p i ≡ true) × ((k : ℕ) → k < i → p k ≡ false)
+  pub first_at : {n i : ℕ} → first p n ≡ Some i → (i < n) × (p i ≡ true) × ((k : ℕ) → k < i → p k ≡ false)
   first_at {n} {i} e = subst (Says n) e (first_says n)
 
-  pub first_none : {n : ℕ} → first p n ≡ Nowhere → (k : ℕ) → k < n → p k ≡ false
+  pub first_none : {n : ℕ} → first p n ≡ None → (k : ℕ) → k < n → p k ≡ false
   first_none {n} e = subst (Says n) e (first_says n)
 
-  pub first_is_none : (n : ℕ) → ((k : ℕ) → k < n → p k ≡ false) → first p n ≡ Nowhere
+  pub first_is_none : (n : ℕ) → ((k : ℕ) → k < n → p k ≡ false) → first p n ≡ None
   first_is_none zero h = first-zero
   first_is_none (suc n) h = rw (← add-one n) (first_more n (first_is_none n (λ k l. h k (omega arith))) (h n (omega arith)))
 
-  pub first_is : (n i : ℕ) → i < n → p i ≡ true → ((k : ℕ) → k < i → p k ≡ false) → first p n ≡ At i
+  pub first_is : (n i : ℕ) → i < n → p i ≡ true → ((k : ℕ) → k < i → p k ≡ false) → first p n ≡ Some i
   first_is n i l e h = first_found i n (first_is_none i h) e l
 
   -- found nowhere below m, and failing from m on
-  pub first_rest : (m n : ℕ) → first p m ≡ Nowhere → ((k : ℕ) → m ≤ k → k < n → p k ≡ false) → first p n ≡ Nowhere
+  pub first_rest : (m n : ℕ) → first p m ≡ None → ((k : ℕ) → m ≤ k → k < n → p k ≡ false) → first p n ≡ None
   first_rest m n none h = first_is_none n (λ k l. go k l (dec_lt k m))
     where
       go : (k : ℕ) → k < n → Dec (k < m) → p k ≡ false
@@ -72,7 +71,7 @@ module _ (p : ℕ → Bool) where
       go k l (no ge) = h k (omega arith) l
 
   -- the test fails at each place of the first b parts of w places, and at the next m
-  in_part : (w b m : ℕ) → first p (w * b) ≡ Nowhere → ((i : ℕ) → i < m → p (w * b + i) ≡ false) → (k : ℕ) → k < w * b + m → p k ≡ false
+  in_part : (w b m : ℕ) → first p (w * b) ≡ None → ((i : ℕ) → i < m → p (w * b + i) ≡ false) → (k : ℕ) → k < w * b + m → p k ≡ false
   in_part w b m none h =
       first_none (first_rest (w * b) (w * b + m) none (λ k g l. let e : w * b + (k - w * b) ≡ k = omega arith in rw e at (h (k - w * b) (omega arith))))
 
@@ -111,13 +110,13 @@ any_each p (suc n) e i l =
     (λ lt. any_each p n (or_none (any p n) (p n) e).0 i lt)
     (eq-or-lt_of_le (le_of_suc-le-suc l))
 
-module _ (p : ℕ → Bool) (w b : ℕ) (none : first p (w * b) ≡ Nowhere) where
+module _ (p : ℕ → Bool) (w b : ℕ) (none : first p (w * b) ≡ None) where
   -- nor at a place of part b: none below the next part
-  pub part_none : first (λ r. p (w * b + r)) w ≡ Nowhere → first p (w * (b + 1)) ≡ Nowhere
+  pub part_none : first (λ r. p (w * b + r)) w ≡ None → first p (w * (b + 1)) ≡ None
   part_none here = first_is_none p (w * (b + 1)) (λ k l. in_part p w b w none (first_none (λ r. p (w * b + r)) here) k (omega arith))
 
   -- the lowest place of part b is the lowest of all
-  pub part_found : (n r : ℕ) → first (λ i. p (w * b + i)) w ≡ At r → b < n → first p (w * n) ≡ At (w * b + r)
+  pub part_found : (n r : ℕ) → first (λ i. p (w * b + i)) w ≡ Some r → b < n → first p (w * n) ≡ Some (w * b + r)
   part_found n r here l =
       let h = first_at (λ i. p (w * b + i)) here in
       let le : w * (b + 1) ≤ w * n = mul-le-mul_left w (omega arith) in

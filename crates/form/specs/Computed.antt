@@ -9,7 +9,7 @@ use Rattle.form.specs.Block.{weighed, check_due, bad_length, bad_check, bad_head
 use Rattle.form.specs.Records.{counted_difference, bad_id, broken_by, rows_below}
 use Rattle.form.specs.Sums.{sum_of, scattered_part, harvest_part, cleared_part, area_in, uneven, uneven_below, lowest_uneven, soil_uneven}
 use Rattle.form.specs.Verdict.{block_rules, count_below, verdict_of}
-use Rattle.form.specs.declared.Verdict.{Verdict}
+use Rattle.form.specs.Refusals.{Verdict}
 
 -- the verdict, opened for computing: `unfolding computed` opens all that this line names
 unfoldable pub computed : List ℕ → Verdict

@@ -1,5 +1,6 @@
 -- What a return is. Read in this order.
 pub mod First
+pub mod Refusals
 pub mod Ruling
 pub mod Bytes
 pub mod Layout

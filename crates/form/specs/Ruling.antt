@@ -1,10 +1,7 @@
 -- "Each number is tried over the whole input before the next, and the lowest place is given."
-use Rattle.std.specs.Prelude.{ℕ, Bool, List, [], ◌∷◌, ◌++◌, length, drop, ltb}
+use Rattle.std.specs.Prelude.{ℕ, Bool, List, [], ◌∷◌, ◌++◌, length, drop, ltb, None, Option, Some}
 use Rattle.form.specs.First.{first}
-use Rattle.form.specs.declared.Spot.{Spot}
-use Rattle.form.specs.declared.Spot.TheVariants.{At, Nowhere}
-use Rattle.form.specs.declared.Ruling.{Ruling}
-use Rattle.form.specs.declared.Ruling.TheVariants.{Clean, Broken}
+use Rattle.form.specs.Refusals.{Clean, Refused, Ruling}
 
 -- a rule: its refusal number, how many places it has, and the test that a place breaks it
 pub record Rule : Type 0 where
@@ -23,9 +20,9 @@ too_short n room = rule 9 1 (λ p. ltb (length room) n)
 abbrev pub on_front : List ℕ → List ℕ → List ℕ
 on_front x room = x ++ drop (length x) room
 
-abbrev pub refuse : ℕ → Spot → Ruling → Ruling
-refuse n (At i) rest = Broken n i
-refuse n Nowhere rest = rest
+abbrev pub refuse : ℕ → Option ℕ → Ruling → Ruling
+refuse n (Some i) rest = Refused n i
+refuse n None rest = rest
 
 -- the first broken rule of a list, at its lowest place; or Clean
 unfoldable pub ruling : List Rule → Ruling

@@ -1,14 +1,11 @@
 -- "Reading: 1 to 9. Sheets and doubles: 1 to 8": the rules of the bytes alone in the paper's order, the row counts, and the verdict.
-use Rattle.std.specs.Prelude.{ℕ, zero, suc, ◌+◌, ◌≡◌, cond, List, [], ◌∷◌, ◌++◌, get_or, eqb}
+use Rattle.std.specs.Prelude.{ℕ, zero, suc, ◌+◌, ◌≡◌, cond, List, [], ◌∷◌, ◌++◌, get_or, eqb, Ok, Err}
 use Rattle.form.specs.Ruling.{Rule, rule, ruling}
 use Rattle.form.specs.Block.{blocks, kind_of, count_of, edition, bad_length, bad_check, bad_header, bad_block}
 use Rattle.form.specs.Records.{filed, filed_rows, record_rules}
 use Rattle.form.specs.Sums.{scattered_in, sum_rules}
 use Rattle.form.specs.declared.Counts.{Counts}
-use Rattle.form.specs.declared.Ruling.{Ruling}
-use Rattle.form.specs.declared.Ruling.TheVariants.{Clean, Broken}
-use Rattle.form.specs.declared.Verdict.{Verdict}
-use Rattle.form.specs.declared.Verdict.TheVariants.{Accepted, Refused}
+use Rattle.form.specs.Refusals.{Clean, Ruling, Verdict}
 
 unfoldable pub block_rules : List ℕ → List Rule
 block_rules s =
@@ -73,8 +70,8 @@ count_in c kind = get_or (0 ∷ count_list c) kind 0
 
 -- "its answer, or one refusal number with its place"
 abbrev pub verdict_by : List ℕ → Ruling → Verdict
-verdict_by s Clean = Accepted (counts_of s)
-verdict_by s (Broken n p) = Refused n p
+verdict_by s Clean = Ok (counts_of s)
+verdict_by s (Err r) = Err r
 
 -- a return that can be read row by row: no rule is broken but perhaps one that adds rows up, and these are the counts
 pub record Formed (s : List ℕ) (c : Counts) : Type 0 where

@@ -3,7 +3,10 @@
 
 pub mod layout;
 
-ghost use Rattle.std.specs.Prelude.{◌≡◌, cond, ◌+◌, ◌*◌, ◌/◌, ◌%◌, ◌^◌, ◌≤◌, ◌<◌, length, get_or, eqb};
+ghost use Rattle.std.specs.Prelude.{◌≡◌, ℕ, Bool, cond, ltb, ◌+◌, ◌*◌, ◌/◌, ◌%◌, ◌^◌, ◌≤◌, ◌<◌, length, get_or, eqb};
+ghost use Rattle.form.specs.First.{first};
+ghost use Rattle.form.specs.Refusals.{Refused, Clean};
+ghost use Rattle.form.specs.Ruling.{refuse};
 ghost use Rattle.form.specs.Bytes.{byte_at, number, stray_in};
 ghost use Rattle.form.specs.Edition.{last_kind};
 ghost use Rattle.form.specs.Block.{record_at, check_due};
@@ -33,18 +36,11 @@ pub struct Field {
     pub limit: u32,
 }
 
-// The lowest place where a test holds.
-#[derive(Clone, Copy)]
-pub enum Spot {
-    At(u32),
-    Nowhere,
-}
-
-// The first broken rule with its lowest place.
-#[derive(Clone, Copy)]
-pub enum Ruling {
-    Clean,
-    Broken { number: u8, place: u32 },
+// Why a return, or rows that are to be written, are refused: the number of the first broken rule, and its lowest place.
+#[derive(Clone, Copy, Debug, PartialEq, Eq)]
+pub struct Refusal {
+    pub number: u8,
+    pub place: u32,
 }
 
 // What a return holds: its edition, how many rows of each kind, and how many of its stock rows are of scattered trees. A new kind is a new line.
@@ -62,10 +58,41 @@ pub struct Counts {
     pub scattered: u32,
 }
 
-#[derive(Clone, Copy)]
-pub enum Verdict {
-    Accepted(Counts),
-    Refused { number: u8, place: u32 },
+// The lowest place below n where a test holds.
+pub fn first<F: Fn(usize) -> bool>(n: usize, test: F) -> Option<u32>
+    requires few { n < 2 ^ 32 }
+    requires may { (i : ℕ) → i < n → F.pre test i }
+    ensures { (p : ℕ → Bool) → ((i : ℕ) (r : Bool) → i < n → F.post test i r → r ≡ p i) → result ≡ first p n }
+{
+    for i in 0..n {
+        if test(i) {
+            return Some(i as u32);
+        }
+    }
+    None
+}
+
+// A rule that is broken at a place, or nowhere.
+pub fn refuse(number: u8, place: Option<u32>) -> Result<(), Refusal>
+    ensures { result ≡ refuse number place Clean }
+{
+    match place {
+        Some(place) => Err(Refusal { number, place }),
+        None => Ok(()),
+    }
+}
+
+// 9: lent room too short, for n elements.
+pub fn room_for(n: usize, room: usize) -> Result<(), Refusal>
+    ensures { result ≡ cond (ltb room n) (Refused 9 0) Clean }
+{
+    if room < n {
+        return Err(Refusal {
+            number: 9,
+            place: 0,
+        });
+    }
+    Ok(())
 }
 
 pub fn byte_at(bytes: &[u8], at: usize) -> u32
@@ -109,10 +136,8 @@ pub fn stray_in(bytes: &[u8], at: usize, n: usize) -> bool
     ensures { result ≡ stray_in bytes.now at n }
 {
     let mut bits: u32 = 0;
-    let mut i: usize = 0;
-    while i < n {
+    for i in 0..n {
         bits |= byte_at(bytes, at + i);
-        i += 1;
     }
     bits != 0
 }
@@ -126,9 +151,7 @@ pub fn check_due(bytes: &[u8], b: usize) -> u32
     let start = 512 * b;
     let mut running: u32 = 0;
     let mut total: u32 = 0;
-    let mut offset: usize = 508;
-    while 0 < offset {
-        offset -= 1;
+    for offset in (0..508).rev() {
         running += byte_at(bytes, start + offset);
         total += running;
     }
@@ -180,10 +203,8 @@ pub fn first_block(c: Counts, kind: usize) -> usize
     ensures { (result ≡ first_block kind c) × (result ≤ 3 * kind) }
 {
     let mut first: usize = 0;
-    let mut k: usize = 1;
-    while k < kind {
+    for k in 1..kind {
         first += blocks_for(count_of(c, k) as usize);
-        k += 1;
     }
     first
 }

@@ -9,8 +9,8 @@ use native.Mathlib.Omega.{arith}
 use lib.IntN.{ℤ, pos, neg_ℤ, ◌+ℤ◌, ◌-ℤ◌, +ℤ_assoc, +ℤ_comm, neg_ℤ-+ℤ, pos-+ℤ-pos}
 use Rattle.form.specs.Sums.{sum_of}
 use Rattle.form.specs.Verdict.{rows, verdict_of}
-use Rattle.form.specs.declared.Verdict.{Verdict}
-use Rattle.form.specs.declared.Verdict.TheVariants.{Accepted, Refused}
+use Rattle.form.specs.Refusals.{Verdict}
+use Rattle.std.specs.Prelude.{Ok, Err}
 use Rattle.standing.proofs.Accepted.{formed}
 use Rattle.wide.specs.Numbers.{value, words_of}
 use Rattle.wide.specs.Signs.{amount, signed_of}
@@ -109,8 +109,8 @@ Parts rs = sum_of matter_in rs ≡ 1000000 * sum_of (λ r. lost_total (rows 1 r)
 
 parts_by : (r : List ℕ) (v : Verdict) (xs : List (List ℕ)) → verdict_of r ≡ v → Parts xs → Parts (if_accepted v (r ∷ xs) xs)
 unfolding sum_of entered
-parts_by r (Accepted c) xs e h = omega (arith, return-together r c (formed r c e))
-parts_by r (Refused n p) xs e h = h
+parts_by r (Ok c) xs e h = omega (arith, return-together r c (formed r c e))
+parts_by r (Err refusal) xs e h = h
 
 all_parts : (xs : List (List ℕ)) → Parts (accepted_of xs)
 unfolding accepted_of sum_of

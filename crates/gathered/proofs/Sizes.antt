@@ -19,8 +19,8 @@ use Rattle.form.specs.Records.{filed}
 use Rattle.form.specs.Sums.{harvest_part, cleared_part, column_k, column_l, sum_rules}
 use Rattle.form.specs.Verdict.{Formed, form_rules, rows, verdict_of}
 use Rattle.form.specs.declared.Counts.{Counts}
-use Rattle.form.specs.declared.Verdict.{Verdict}
-use Rattle.form.specs.declared.Verdict.TheVariants.{Accepted, Refused}
+use Rattle.form.specs.Refusals.{Verdict}
+use Rattle.std.specs.Prelude.{Ok, Err}
 use Rattle.form.proofs.EachKind.{kinds_are, one_kind}
 use Rattle.form.proofs.Order.{Kept, ruling-clean, append_kept, kept_of}
 use Rattle.standing.proofs.Accepted.{accepted-ruling, formed}
@@ -59,7 +59,7 @@ removed_is k l n h =
 removed_small : (m n : ℕ) → m ≤ 32 * 10 ^ 14 → n ≤ 1000 → m * n ≤ 32 * 10 ^ 17
 removed_small m n hm hn = grw (bound, hm, hn) (lit≤ tt)
 
-module _ (s : List ℕ) (c : Counts) (acc : verdict_of s ≡ Accepted c) where
+module _ (s : List ℕ) (c : Counts) (acc : verdict_of s ≡ Ok c) where
   pub wood_enough : column_l (rows 1 s) ≤ 100 * column_k (rows 3 s)
   unfolding Kept
   wood_enough = ltb-false (100 * column_k (rows 3 s)) (column_l (rows 1 s)) (kept_of 12 (append_kept (form_rules s) (sum_rules (filed s)) (ruling-clean (accepted-ruling s c acc))).1 0 (omega arith))
@@ -92,10 +92,10 @@ module _ (s : List ℕ) (c : Counts) (acc : verdict_of s ≡ Accepted c) where
 
 -- one more in front, and the tally of any returns
 front-sized : (r : List ℕ) (v : Verdict) (t : Tally) → verdict_of r ≡ v → AtMost t.accepted t.ledger → AtMost (front_by r v t).accepted (front_by r v t).ledger
-front-sized r (Accepted c) t e h =
+front-sized r (Ok c) t e h =
     let n : 1 + t.accepted ≡ suc t.accepted = omega arith in
     rw n at (at_most_plus 1 t.accepted (ledger_in r) t.ledger (one_return r c e) h)
-front-sized r (Refused n p) t e h = h
+front-sized r (Err refusal) t e h = h
 
 pub tally-sized : (rs : List (List ℕ)) → AtMost (tally_of rs).accepted (tally_of rs).ledger
 unfolding tally_of accepted_of

@@ -13,8 +13,8 @@ use lib.ListN.{length}
 use Rattle.form.specs.Sums.{column_k, column_l}
 use Rattle.form.specs.Verdict.{rows, verdict_of}
 use Rattle.form.specs.declared.Counts.{Counts}
-use Rattle.form.specs.declared.Verdict.{Verdict}
-use Rattle.form.specs.declared.Verdict.TheVariants.{Accepted, Refused}
+use Rattle.form.specs.Refusals.{Verdict}
+use Rattle.std.specs.Prelude.{Ok, Err}
 use Rattle.wide.specs.Signs.{amount, signed_of}
 use Rattle.wide.proofs.SignLaws.{form-holds}
 use Rattle.totals.specs.Columns.{column_e, onsite_total, offsite_total, decay_total}
@@ -31,39 +31,39 @@ use Rattle.gathered.specs.declared.Tally.{Tally}
 
 -- a return in front of others
 abbrev pub front_by : List ℕ → Verdict → Tally → Tally
-front_by r (Accepted c) t = record { accepted = suc t.accepted; refused = t.refused; ledger = plus (ledger_in r) t.ledger }
-front_by r (Refused n p) t = record { accepted = t.accepted; refused = suc t.refused; ledger = t.ledger }
+front_by r (Ok c) t = record { accepted = suc t.accepted; refused = t.refused; ledger = plus (ledger_in r) t.ledger }
+front_by r (Err refusal) t = record { accepted = t.accepted; refused = suc t.refused; ledger = t.ledger }
 
 front_by_lem : (r : List ℕ) (rs : List (List ℕ)) (v : Verdict) → verdict_of r ≡ v → tally_of (r ∷ rs) ≡ front_by r v (tally_of rs)
 unfolding tally_of accepted_of refused_of
-front_by_lem r rs (Accepted c) e = rw e
-front_by_lem r rs (Refused n p) e = rw e
+front_by_lem r rs (Ok c) e = rw e
+front_by_lem r rs (Err refusal) e = rw e
 
 pub tally-front : (r : List ℕ) (rs : List (List ℕ)) → tally_of (r ∷ rs) ≡ front_by r (verdict_of r) (tally_of rs)
 tally-front r rs = front_by_lem r rs (verdict_of r) refl
 
 pub front_swap : (r s : List ℕ) (u v : Verdict) (t : Tally) → front_by r u (front_by s v t) ≡ front_by s v (front_by r u t)
-front_swap r s (Accepted c) (Accepted d) t =
+front_swap r s (Ok c) (Ok d) t =
     ap (λ (g : Ledger). record { accepted = suc (suc t.accepted); refused = t.refused; ledger = g }) (plus_swap (ledger_in r) (ledger_in s) t.ledger)
-front_swap r s (Accepted c) (Refused n p) t = refl
-front_swap r s (Refused n p) (Accepted d) t = refl
-front_swap r s (Refused n p) (Refused m q) t = refl
+front_swap r s (Ok c) (Err refusal) t = refl
+front_swap r s (Err refusal) (Ok d) t = refl
+front_swap r s (Err refusal) (Err x) t = refl
 
 -- one behind the others
 next-count : (n : ℕ) → suc (n + 1) ≡ suc n + 1
 next-count n = omega arith
 
 front_step : (r s : List ℕ) (u v : Verdict) (t : Tally) → front_by r u (step_by t s v) ≡ step_by (front_by r u t) s v
-front_step r s (Accepted c) (Accepted d) t =
+front_step r s (Ok c) (Ok d) t =
     λ i. record { accepted = next-count t.accepted i; refused = t.refused; ledger = sym (plus_assoc (ledger_in r) t.ledger (ledger_in s)) i }
-front_step r s (Accepted c) (Refused n p) t = refl
-front_step r s (Refused n p) (Accepted d) t = refl
-front_step r s (Refused n p) (Refused m q) t = λ i. record { accepted = t.accepted; refused = next-count t.refused i; ledger = t.ledger }
+front_step r s (Ok c) (Err refusal) t = refl
+front_step r s (Err refusal) (Ok d) t = refl
+front_step r s (Err refusal) (Err x) t = λ i. record { accepted = t.accepted; refused = next-count t.refused i; ledger = t.ledger }
 
 first_step : (s : List ℕ) (v : Verdict) → front_by s v (tally_of []) ≡ step_by (tally_of []) s v
 unfolding tally_of accepted_of refused_of
-first_step s (Accepted c) = ap (λ (g : Ledger). record { accepted = 1; refused = 0; ledger = g }) (plus_comm (ledger_in s) none)
-first_step s (Refused n p) = refl
+first_step s (Ok c) = ap (λ (g : Ledger). record { accepted = 1; refused = 0; ledger = g }) (plus_comm (ledger_in s) none)
+first_step s (Err r) = refl
 
 pub tally-last : (rs : List (List ℕ)) (s : List ℕ) → tally_of (rs ++ (s ∷ [])) ≡ step_of (tally_of rs) s
 tally-last [] s = tally-front s [] ∙ first_step s (verdict_of s)
@@ -75,8 +75,8 @@ tally-last (r ∷ rs) s =
 
 -- every return is counted once
 count_by : (r : List ℕ) (v : Verdict) (t : Tally) → count_of (front_by r v t) ≡ suc (count_of t)
-count_by r (Accepted c) t = omega arith
-count_by r (Refused n p) t = omega arith
+count_by r (Ok c) t = omega arith
+count_by r (Err refusal) t = omega arith
 
 pub counted : (rs : List (List ℕ)) → count_of (tally_of rs) ≡ length rs
 unfolding tally_of accepted_of refused_of
@@ -86,8 +86,8 @@ counted (r ∷ rs) = ap count_of (tally-front r rs) ∙ count_by r (verdict_of r
 -- "The totals equal those of the accepted returns": these by themselves are all accepted, and have the same ledger
 kept_by : (r : List ℕ) (v : Verdict) (xs : List (List ℕ)) → verdict_of r ≡ v → accepted_of (if_accepted v (r ∷ xs) xs) ≡ if_accepted v (r ∷ accepted_of xs) (accepted_of xs)
 unfolding accepted_of
-kept_by r (Accepted c) xs e = rw e
-kept_by r (Refused n p) xs e = refl
+kept_by r (Ok c) xs e = rw e
+kept_by r (Err refusal) xs e = refl
 
 pub kept_twice : (rs : List (List ℕ)) → accepted_of (accepted_of rs) ≡ accepted_of rs
 unfolding accepted_of
@@ -98,8 +98,8 @@ kept_twice (r ∷ rs) =
 
 left_by : (r : List ℕ) (v : Verdict) (xs : List (List ℕ)) → verdict_of r ≡ v → refused_of (if_accepted v (r ∷ xs) xs) ≡ refused_of xs
 unfolding refused_of
-left_by r (Accepted c) xs e = rw e
-left_by r (Refused n p) xs e = refl
+left_by r (Ok c) xs e = rw e
+left_by r (Err refusal) xs e = refl
 
 none_left : (rs : List (List ℕ)) → refused_of (accepted_of rs) ≡ []
 unfolding accepted_of refused_of
@@ -116,14 +116,14 @@ alone rs = λ i. record {
 
 -- a step counts one return more
 step_by_lem : (t : Tally) (s : List ℕ) (v : Verdict) → count_of (step_by t s v) ≡ suc (count_of t)
-step_by_lem t s (Accepted c) = omega arith
-step_by_lem t s (Refused n p) = omega arith
+step_by_lem t s (Ok c) = omega arith
+step_by_lem t s (Err r) = omega arith
 
 pub step_count : (t : Tally) (s : List ℕ) → count_of (step_of t s) ≡ suc (count_of t)
 step_count t s = step_by_lem t s (verdict_of s)
 
 -- "A return present twice counts twice."
-pub twice : (r : List ℕ) (rs : List (List ℕ)) {c : Counts} → verdict_of r ≡ Accepted c
+pub twice : (r : List ℕ) (rs : List (List ℕ)) {c : Counts} → verdict_of r ≡ Ok c
     → tally_of (r ∷ r ∷ rs) ≡ record { accepted = suc (suc (tally_of rs).accepted); refused = (tally_of rs).refused; ledger = plus (ledger_in r) (plus (ledger_in r) (tally_of rs).ledger) }
 twice r rs e =
     tally-front r (r ∷ rs)
@@ -147,6 +147,6 @@ ledger_alone r = λ i. record {
   matter = matter_alone (rows 1 r) i;
 }
 
-pub lone : (r : List ℕ) {c : Counts} → verdict_of r ≡ Accepted c → tally_of (r ∷ []) ≡ record { accepted = 1; refused = 0; ledger = ledger_in r }
+pub lone : (r : List ℕ) {c : Counts} → verdict_of r ≡ Ok c → tally_of (r ∷ []) ≡ record { accepted = 1; refused = 0; ledger = ledger_in r }
 unfolding tally_of accepted_of refused_of
 lone r e = tally-front r [] ∙ ap (λ (v : Verdict). front_by r v (tally_of [])) e ∙ ap (λ (g : Ledger). record { accepted = 1; refused = 0; ledger = g }) (ledger_alone r)

@@ -1,9 +1,8 @@
 -- §10: what the returns of a file add up to. "A refused return is listed by its position, from 1, with number and place and adds nothing;
 -- accepted and refused are counted and printed." Assumes nothing.
-use Rattle.std.specs.Prelude.{ℕ, ◌+◌, suc, ◌≤◌, ◌<◌, List, [], ◌∷◌, map, ℤ, pos, ◌+ℤ◌, length}
+use Rattle.std.specs.Prelude.{ℕ, ◌+◌, suc, ◌≤◌, ◌<◌, List, [], ◌∷◌, map, ℤ, pos, ◌+ℤ◌, length, Ok, Err}
 use Rattle.form.specs.Verdict.{rows, verdict_of}
-use Rattle.form.specs.declared.Verdict.{Verdict}
-use Rattle.form.specs.declared.Verdict.TheVariants.{Accepted, Refused}
+use Rattle.form.specs.Refusals.{Verdict}
 use Rattle.ledger.specs.Ledger.{ledger_of, plus, none, sum_ledgers}
 use Rattle.ledger.specs.Several.{AtMost}
 use Rattle.ledger.specs.declared.Ledger.{Ledger}
@@ -17,8 +16,8 @@ ledger_in s = ledger_of (rows 1 s) (rows 2 s) (rows 3 s) (given (by_kind s)).n
 
 -- by a verdict
 abbrev pub if_accepted : {A : Type 0} → Verdict → A → A → A
-if_accepted (Accepted c) x y = x
-if_accepted (Refused n p) x y = y
+if_accepted (Ok c) x y = x
+if_accepted (Err r) x y = y
 
 -- the accepted ones among some returns, in their order, and the refused ones
 unfoldable pub accepted_of : List (List ℕ) → List (List ℕ)
@@ -49,8 +48,8 @@ signed_sum f (r ∷ rs) = f r +ℤ signed_sum f rs
 -- ---- one return more, as the steps go
 
 abbrev pub step_by : Tally → List ℕ → Verdict → Tally
-step_by t s (Accepted c) = record { accepted = t.accepted + 1; refused = t.refused; ledger = plus t.ledger (ledger_in s) }
-step_by t s (Refused n p) = record { accepted = t.accepted; refused = t.refused + 1; ledger = t.ledger }
+step_by t s (Ok c) = record { accepted = t.accepted + 1; refused = t.refused; ledger = plus t.ledger (ledger_in s) }
+step_by t s (Err r) = record { accepted = t.accepted; refused = t.refused + 1; ledger = t.ledger }
 
 abbrev pub step_of : Tally → List ℕ → Tally
 step_of t s = step_by t s (verdict_of s)

@@ -3,11 +3,10 @@
 
 ghost use Rattle.std.specs.Prelude.{◌≡◌, ◌≤◌, []};
 ghost use Rattle.form.specs.Verdict.{verdict_of};
-ghost use Rattle.form.specs.declared.Verdict.TheVariants.{Accepted};
 ghost use Rattle.cutting.specs.Cutting.{most_returns};
 ghost use Rattle.gathered.specs.Gathered.{ledger_in, tally_of, count_of, step_by, Roomy};
 
-use form::{Counts, Verdict};
+use form::{Counts, Refusal};
 use ledger::several::{add_ledgers, no_returns};
 use ledger::{Ledger, enter};
 use matter::work_matter;
@@ -44,7 +43,7 @@ pub fn count_of(t: Tally) -> u32
 
 // The ledger of an accepted return.
 fn ledger_in(bytes: &[u8], c: Counts) -> Ledger
-    requires { verdict_of bytes.now ≡ Accepted c }
+    requires { verdict_of bytes.now ≡ Ok c }
     ensures { result ≡ ledger_in bytes.now }
 {
     let p = read_parameters(bytes, c);
@@ -59,12 +58,12 @@ fn ledger_in(bytes: &[u8], c: Counts) -> Ledger
 }
 
 // One return more, by its verdict: an accepted one is added, a refused one only counted.
-pub fn step(t: Tally, bytes: &[u8], v: Verdict) -> Tally
+pub fn step(t: Tally, bytes: &[u8], v: Result<Counts, Refusal>) -> Tally
     requires { Roomy t × (verdict_of bytes.now ≡ v) }
     ensures { result ≡ step_by t bytes.now v }
 {
     match v {
-        Verdict::Accepted(c) => {
+        Ok(c) => {
             let ledger = add_ledgers(t.ledger, ledger_in(bytes, c));
             Tally {
                 accepted: t.accepted + 1,
@@ -72,10 +71,7 @@ pub fn step(t: Tally, bytes: &[u8], v: Verdict) -> Tally
                 ledger,
             }
         }
-        Verdict::Refused {
-            number: _,
-            place: _,
-        } => {
+        Err(_) => {
             let ledger = t.ledger;
             Tally {
                 accepted: t.accepted,

@@ -13,7 +13,7 @@ use Rattle.filing.proofs.Cut.{cut-lengths}
 use Rattle.lists.specs.Rules.{bad_at, list_rules, blocks_from}
 use Rattle.lists.proofs.Numbers.{good, good_few}
 use Rattle.rows.specs.Writing.{written, write_rules, write_answer}
-use Rattle.rows.specs.declared.Written.TheVariants.{Done}
+use Rattle.std.specs.Prelude.{Ok}
 use Rattle.rows.proofs.Return.{places_from, length-written, done_by}
 
 module _ (ed : ℕ) (lengths area : List ℕ) where
@@ -32,7 +32,7 @@ module _ (ed : ℕ) (lengths area : List ℕ) where
     unfolding list_rules
     clean-small (more k _) = (few_blocks k).1
 
-    pub done-small : {n : ℕ} → write_answer ed lengths area room ≡ Done n → n ≤ 30720
+    pub done-small : {n : ℕ} → write_answer ed lengths area room ≡ Ok n → n ≤ 30720
     unfolding write_answer
     done-small e =
         let d = done_by ed (cut lengths area) (ruling (write_rules ed lengths area room)) e in

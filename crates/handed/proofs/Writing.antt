@@ -8,60 +8,59 @@ use lib.Dec.{ltb, lit<}
 use lib.ListN.{length}
 use Rattle.form.specs.First.{first}
 use Rattle.form.specs.Ruling.{rule, on_front, ruling}
-use Rattle.form.specs.declared.Ruling.{Ruling}
-use Rattle.form.specs.declared.Ruling.TheVariants.{Clean, Broken}
+use Rattle.form.specs.Refusals.{Clean, Refused, Ruling}
+use Rattle.rows.specs.Answers.{Written}
+use Rattle.std.specs.Prelude.{Ok, Err}
 use Rattle.form.proofs.Order.{or_rule, ruling_append, one_broken}
 use Rattle.filing.specs.Lists.{cut}
 use Rattle.lists.specs.Rules.{list_rules}
 use Rattle.rows.specs.Writing as rows
-use Rattle.rows.specs.declared.Written.{Written}
-use Rattle.rows.specs.declared.Written.TheVariants.{Done, Refused}
 use Rattle.handed.specs.Rows.{write_call, blocks_after, size_after}
 
 -- the ruling and the size's room by the answer that the code has at hand
 abbrev pub ruling_by : Written → Ruling
-ruling_by (Done n) = Clean
-ruling_by (Refused n p) = Broken n p
+ruling_by (Ok n) = Clean
+ruling_by (Err r) = Err r
 
 abbrev pub size_by : List ℕ → Written → List ℕ
-size_by size (Done n) = on_front (n ∷ []) size
-size_by size (Refused n p) = size
+size_by size (Ok n) = on_front (n ∷ []) size
+size_by size (Err r) = size
 
 -- no size can be handed back: 9, if no rule before it is broken
 abbrev pub unsized : Written → Ruling
-unsized (Done n) = Broken 9 0
-unsized (Refused n p) = Broken n p
+unsized (Ok n) = Refused 9 0
+unsized (Err r) = Err r
 
 module _ (ed : ℕ) (area lengths : List ℕ) where
   ruling-said : (v : Ruling) → ruling_by (rows.written_by ed (cut lengths area) v) ≡ v
   ruling-said Clean = refl
-  ruling-said (Broken n p) = refl
+  ruling-said (Err r) = refl
 
   size-said : (size : List ℕ) (v : Ruling) → size_by size (rows.written_by ed (cut lengths area) v) ≡ size_after ed area lengths size v
   size-said size Clean = refl
-  size-said size (Broken n p) = refl
+  size-said size (Err r) = refl
 
   -- a refusal leaves both rooms as they were, whichever rule it is by
-  room-kept : (room : List ℕ) (u : Ruling) → room ≡ blocks_after ed area lengths room (or_rule u (Broken 9 0))
+  room-kept : (room : List ℕ) (u : Ruling) → room ≡ blocks_after ed area lengths room (or_rule u (Refused 9 0))
   room-kept room Clean = refl
-  room-kept room (Broken n p) = refl
+  room-kept room (Err r) = refl
 
-  size-kept : (size : List ℕ) (u : Ruling) → size ≡ size_after ed area lengths size (or_rule u (Broken 9 0))
+  size-kept : (size : List ℕ) (u : Ruling) → size ≡ size_after ed area lengths size (or_rule u (Refused 9 0))
   size-kept size Clean = refl
-  size-kept size (Broken n p) = refl
+  size-kept size (Err r) = refl
 
   -- ---- no room for the size
 
-  no_size : (room size : List ℕ) → length size < 1 → write_call ed area lengths room size ≡ or_rule (ruling (list_rules ed lengths area)) (Broken 9 0)
+  no_size : (room size : List ℕ) → length size < 1 → write_call ed area lengths room size ≡ or_rule (ruling (list_rules ed lengths area)) (Refused 9 0)
   no_size room size h =
       ruling_append (list_rules ed lengths area) _
       ∙ ap (or_rule (ruling (list_rules ed lengths area))) (one_broken 9 _ [] (ap (λ (b : Bool). ltb (length room) (length (rows.written ed (cut lengths area))) || b) (lt-ltb (length size) 1 h) ∙ or-true (ltb (length room) (length (rows.written ed (cut lengths area))))))
 
-  last : (u : Ruling) (short : Bool) → unsized (rows.written_by ed (cut lengths area) (or_rule u (ruling (rule 9 1 (λ p. short) ∷ [])))) ≡ or_rule u (Broken 9 0)
+  last : (u : Ruling) (short : Bool) → unsized (rows.written_by ed (cut lengths area) (or_rule u (ruling (rule 9 1 (λ p. short) ∷ [])))) ≡ or_rule u (Refused 9 0)
   unfolding ruling first
   last Clean true = refl
   last Clean false = refl
-  last (Broken n p) short = refl
+  last (Err r) short = refl
 
   -- whatever room is tried
   pub tried : (room : List ℕ) (w : Written) {r : Ruling} → w ≡ rows.write_answer ed lengths area room → r ≡ unsized w → r ≡ write_call ed area lengths [] []

@@ -1,10 +1,9 @@
 -- Reading and writing rows from C. "Reading: 1 to 9." "Writing: 10, then 5 to 9." "A refusal gives number and place; lent memory is unchanged."
-use Rattle.std.specs.Prelude.{ℕ, zero, suc, Bool, ◌||◌, List, [], ◌∷◌, ◌++◌, length, ltb}
+use Rattle.std.specs.Prelude.{ℕ, zero, suc, Bool, ◌||◌, List, [], ◌∷◌, ◌++◌, length, ltb, Err}
 use Rattle.form.specs.Layout.{kinds}
 use Rattle.form.specs.Ruling.{Rule, rule, on_front, ruling}
 use Rattle.form.specs.Verdict.{rules, verdict_by}
-use Rattle.form.specs.declared.Ruling.{Ruling}
-use Rattle.form.specs.declared.Ruling.TheVariants.{Clean, Broken}
+use Rattle.form.specs.Refusals.{Clean, Ruling}
 use Rattle.filing.specs.Lists.{cut}
 use Rattle.lists.specs.Rules.{list_rules}
 use Rattle.rows.specs.Reading.{outgrown, room_after}
@@ -52,7 +51,7 @@ blocks_after edition area lengths room v = bytes_after edition lengths area room
 -- and that of the size: "a write answers the number of bytes written"
 abbrev pub size_after : ℕ → List ℕ → List ℕ → List ℕ → Ruling → List ℕ
 size_after edition area lengths size Clean = on_front (length (written edition (cut lengths area)) ∷ []) size
-size_after edition area lengths size (Broken n p) = size
+size_after edition area lengths size (Err r) = size
 
 -- both rooms after a write from C
 abbrev pub blocks_written : ℕ → List ℕ → List ℕ → List ℕ → List ℕ → List ℕ

@@ -5,11 +5,10 @@ ghost use Rattle.std.specs.Prelude.{◌≡◌, []};
 ghost use Rattle.handed.specs.Rows.{read_call, rows_read, counts_read, write_call, blocks_written, size_written};
 
 use counted::{COUNTS_ROOM, put_counts};
-use form::{Ruling, Verdict};
-use rows::Written;
+use form::Refusal;
 
 // The rows, kind after kind, at the front of their room and the counts at the front of theirs; or the rule that is broken, and both rooms as they were.
-pub fn read(bytes: &[u8], rows: &mut [u32], counts: &mut [u32]) -> Ruling
+pub fn read(bytes: &[u8], rows: &mut [u32], counts: &mut [u32]) -> Result<(), Refusal>
     ensures value { result ≡ read_call bytes.now rows.old counts.old }
     ensures rows_after { rows.new ≡ rows_read bytes.now rows.old counts.old }
     ensures counts_after { counts.new ≡ counts_read bytes.now rows.old counts.old }
@@ -18,28 +17,22 @@ pub fn read(bytes: &[u8], rows: &mut [u32], counts: &mut [u32]) -> Ruling
     if counts.len() < COUNTS_ROOM {
         return counted::tell(bytes, counts);
     }
-    match rows::read(bytes, rows) {
-        Verdict::Refused { number, place } => Ruling::Broken { number, place },
-        Verdict::Accepted(c) => {
-            put_counts(c, counts);
-            Ruling::Clean
-        }
-    }
+    let c = rows::read(bytes, rows)?;
+    put_counts(c, counts);
+    Ok(())
 }
 
 // Rows that can't be written, as there is no room for the size: the first rule that they break, or else 9.
-fn without_size(edition: u32, rows: &[u32], lengths: &[u32]) -> Ruling
+fn without_size(edition: u32, rows: &[u32], lengths: &[u32]) -> Result<(), Refusal>
     ensures { result ≡ write_call edition rows.now lengths.now [] [] }
 {
     // no return fits room for no byte, so this only refuses
     let mut none: [u8; 0] = [0; 0];
-    match rows::write(edition, lengths, rows, &mut none) {
-        Written::Refused { number, place } => Ruling::Broken { number, place },
-        Written::Done(_) => Ruling::Broken {
-            number: 9,
-            place: 0,
-        },
-    }
+    rows::write(edition, lengths, rows, &mut none)?;
+    Err(Refusal {
+        number: 9,
+        place: 0,
+    })
 }
 
 // The blocks at the front of the room and their number of bytes as the first size; or the rule that is broken, and both rooms as they were.
@@ -49,7 +42,7 @@ pub fn write(
     lengths: &[u32],
     room: &mut [u8],
     size: &mut [u32],
-) -> Ruling
+) -> Result<(), Refusal>
     ensures value { result ≡ write_call edition rows.now lengths.now room.old size.old }
     ensures room_after { room.new ≡ blocks_written edition rows.now lengths.now room.old size.old }
     ensures size_after { size.new ≡ size_written edition rows.now lengths.now room.old size.old }
@@ -57,11 +50,7 @@ pub fn write(
     if size.len() < 1 {
         return without_size(edition, rows, lengths);
     }
-    match rows::write(edition, lengths, rows, room) {
-        Written::Refused { number, place } => Ruling::Broken { number, place },
-        Written::Done(n) => {
-            size[0] = n as u32;
-            Ruling::Clean
-        }
-    }
+    let n = rows::write(edition, lengths, rows, room)?;
+    size[0] = n as u32;
+    Ok(())
 }

@@ -14,16 +14,16 @@ use lib.Dec.{eqb}
 use lib.ListN.{length, take, drop, get_or, length-take, length-drop, get_or-eq_default}
 use lib.Seq.{get_or-drop, drop-drop, drop-length}
 use borrow.Author.Tests.{eq-eqb, ne_eqb}
+use Rattle.std.specs.Prelude.{Some, None, Result, Err}
 use Rattle.cells.specs.Lines.{part, onto}
 use Rattle.cells.specs.Cells.{fields_of, front_off, cleaned, cell_at, is_empty, up_to_last, found_in, same_word}
 use Rattle.cells.proofs.Parts.{part-rest}
 use Rattle.cells.proofs.Tests.{and_off}
 use Rattle.cells.proofs.WordLaws.{other_length}
 use Rattle.numerals.specs.Numerals.{read_number}
-use Rattle.numerals.specs.declared.Numeral.{Numeral}
-use Rattle.heads.specs.Heads.{fault, edition_word, is_separator, behind_edition, is_quoted_word, separator_at, separator_in, head_by, head_of}
-use Rattle.heads.specs.declared.Head.{Head}
-use Rattle.heads.specs.declared.Head.TheVariants.{Fault}
+use Rattle.numerals.specs.declared.NumberFault.{NumberFault}
+use Rattle.heads.specs.Heads.{fault, edition_word, is_separator, behind_edition, is_quoted_word, separator_at, separator_in, head_by, head_behind, head_of}
+use Rattle.heads.specs.declared.Fault.TheVariants as F
 
 -- counted up to the last that is not empty, there are no more than there are, and these are no more than the separators and one
 module _ (sep : ℕ) where
@@ -102,13 +102,13 @@ module _ (l : List ℕ) (at : ℕ) where
     behind_none e = rw (← n, ← e) (drop-length l)
 
 -- the separator at a place, and that of a line
-pub separator_none : (l : List ℕ) (at : ℕ) → at ≡ length l → 0 ≡ separator_at (drop at l)
+pub separator_none : (l : List ℕ) (at : ℕ) → at ≡ length l → None ≡ separator_at (drop at l)
 unfolding separator_at
 separator_none l at e = sym (ap (λ (k : ℕ). separator_at (drop k l)) e ∙ ap separator_at (drop-length l))
 
-pub separator_is : (l : List ℕ) (at : ℕ) {q : Bool} → q ≡ is_separator (get_or l at 0) → cond q (get_or l at 0) 0 ≡ separator_at (drop at l)
+pub separator_is : (l : List ℕ) (at : ℕ) {q : Bool} → q ≡ is_separator (get_or l at 0) → cond q (Some (get_or l at 0)) None ≡ separator_at (drop at l)
 unfolding separator_at
-separator_is l at e = ap (λ (t : Bool). cond t (get_or l at 0) 0) e ∙ ap (λ (b : ℕ). cond (is_separator b) b 0) (sym (byte_here l at))
+separator_is l at e = ap (λ (t : Bool). cond t (Some (get_or l at 0)) None) e ∙ ap (λ (b : ℕ). cond (is_separator b) (Some b) None) (sym (byte_here l at))
 
 module _ (l : List ℕ) (word behind at : ℕ) where
   pub separator_by : part word (length l) l ≡ front_off 44 (part 0 (length l) l) → drop behind l ≡ behind_edition (drop word l)
@@ -119,16 +119,12 @@ module _ (l : List ℕ) (word behind at : ℕ) where
       ∙ ap (λ (x : List ℕ). separator_at (front_off 9 (behind_edition x))) (sym (part-rest word l) ∙ e ∙ ap (front_off 44) (part-rest 0 l))
 
 -- what is answered
-module _ (n : ℕ) (l : List ℕ) {sep : ℕ} (s : sep ≡ separator_in l) where
-  abbrev head_as : ℕ → Head
-  head_as k = cond (eqb k 0) (Fault (fault n 2)) (head_by n k (found_in k l) (read_number false 0 (cell_at k 1 l)))
-
-  head_as_lem : head_as sep ≡ head_of n l
+module _ (n : ℕ) (l : List ℕ) where
+  pub head_none : None ≡ separator_in l → Err (fault n F.Edition) ≡ head_of n l
   unfolding head_of
-  head_as_lem = ap head_as s
+  head_none e = ap (head_behind n l) e
 
-  pub head_none : sep ≡ 0 → Fault (fault n 2) ≡ head_of n l
-  head_none e = sym (rw (eq-eqb sep 0 e)) ∙ head_as_lem
-
-  pub head_by_fields : (sep ≡ 0 → ⊥) → {k : ℕ} {d : Numeral} → k ≡ found_in sep l → d ≡ read_number false 0 (cell_at sep 1 l) → head_by n sep k d ≡ head_of n l
-  head_by_fields e {d = d} f g = ap (λ (j : ℕ). head_by n sep j d) f ∙ ap (head_by n sep (found_in sep l)) g ∙ sym (rw (ne_eqb sep 0 e)) ∙ head_as_lem
+  pub head_by_fields : {sep : ℕ} → Some sep ≡ separator_in l → {k : ℕ} {d : Result ℕ NumberFault} → k ≡ found_in sep l → d ≡ read_number false 0 (cell_at sep 1 l)
+      → head_by n sep k d ≡ head_of n l
+  unfolding head_of
+  head_by_fields {sep} e {d = d} f g = ap (λ (j : ℕ). head_by n sep j d) f ∙ ap (head_by n sep (found_in sep l)) g ∙ ap (head_behind n l) e

@@ -4,77 +4,73 @@
 ghost use Rattle.std.specs.Prelude.{◌≡◌, true, false, ◌+◌, ◌≤◌, ◌<◌, length, take, drop};
 ghost use Rattle.cells.specs.Cells.{cell_at, same_word};
 ghost use Rattle.numerals.specs.Numerals.{read_number};
-ghost use Rattle.heads.specs.Heads.{is_passed, fault, fields_fault, cell_fault, edition_word, is_separator, behind_edition, is_quoted_word, separator_at, separator_in};
+ghost use Rattle.heads.specs.Heads.{is_passed, fault_number, edition_word, is_separator, behind_edition, is_quoted_word, separator_at, separator_in};
 ghost use Rattle.heads.specs.Heads.{head_by, head_of};
 
 use cells::{found, front, is_empty_line, is_note, next_field, same_word};
-use numerals::{Numeral, read_number};
+use numerals::{NumberFault, read_number};
+use rowtext::FieldFault;
 
-// A fault of a text: its line, its number by the order of the words, and what is told with it; what is not told is 0.
-#[derive(Clone, Copy)]
+// What is wrong with a text, and what is told with it.
+#[derive(Clone, Copy, PartialEq, Eq, Debug)]
+pub enum Fault {
+    Long,
+    Edition,
+    Kind,
+    Order,
+    Rows,
+    Fields {
+        due: u32,
+        found: u32,
+    },
+    Cell {
+        kind: u32,
+        field: u32,
+        fault: FieldFault,
+    },
+}
+
+impl Fault {
+    // Its number, by the order of the words.
+    pub fn number(self) -> u32
+        ensures { result ≡ fault_number self }
+    {
+        match self {
+            Fault::Long => 1,
+            Fault::Edition => 2,
+            Fault::Kind => 3,
+            Fault::Order => 4,
+            Fault::Rows => 5,
+            Fault::Fields { .. } => 6,
+            Fault::Cell { fault, .. } => match fault {
+                FieldFault::Unit => 7,
+                FieldFault::Number(NumberFault::NoNumber) => 8,
+                FieldFault::Number(NumberFault::ManyDecimals) => 9,
+                FieldFault::Number(NumberFault::Large) => 10,
+            },
+        }
+    }
+}
+
+// The first fault of a text, and its line.
+#[derive(Clone, Copy, PartialEq, Eq, Debug)]
 pub struct TextFault {
     pub line: u32,
-    pub fault: u32,
-    pub due: u32,
-    pub found: u32,
-    pub kind: u32,
-    pub field: u32,
+    pub fault: Fault,
 }
 
 // What the first line that counts says.
-#[derive(Clone, Copy)]
-pub enum Head {
-    Edition { edition: u32, separator: u8 },
-    Fault(TextFault),
+#[derive(Clone, Copy, PartialEq, Eq, Debug)]
+pub struct Head {
+    pub edition: u32,
+    pub separator: u8,
 }
 
 // A line that is passed over.
 pub fn is_passed(line: &[u8], sep: u8) -> bool
     ensures { result ≡ is_passed sep line.now }
 {
-    if is_empty_line(line) {
-        return true;
-    }
-    is_note(line, sep)
-}
-
-pub fn fault_at(line: u32, number: u32) -> TextFault
-    ensures { result ≡ fault line number }
-{
-    TextFault {
-        line,
-        fault: number,
-        due: 0,
-        found: 0,
-        kind: 0,
-        field: 0,
-    }
-}
-
-pub fn fields_fault_at(line: u32, due: u32, found: u32) -> TextFault
-    ensures { result ≡ fields_fault line due found }
-{
-    TextFault {
-        line,
-        fault: 6,
-        due,
-        found,
-        kind: 0,
-        field: 0,
-    }
-}
-
-pub fn cell_fault_at(line: u32, number: u32, kind: u32, field: u32) -> TextFault
-    ensures { result ≡ cell_fault line number kind field }
-{
-    TextFault {
-        line,
-        fault: number,
-        due: 0,
-        found: 0,
-        kind,
-        field,
-    }
+    is_empty_line(line) || is_note(line, sep)
 }
 
 // Whether the word stands at a place.
@@ -124,32 +120,23 @@ fn behind_edition(line: &[u8], at: usize) -> usize
 fn is_separator(b: u8) -> bool
     ensures { result ≡ is_separator b }
 {
-    if b == 44 {
-        return true;
-    }
-    if b == 59 {
-        return true;
-    }
-    b == 9
+    b == 44 || b == 59 || b == 9
 }
 
-// The separator at a place, or 0.
-fn separator_at(line: &[u8], at: usize) -> u8
+// The separator at a place.
+fn separator_at(line: &[u8], at: usize) -> Option<u8>
     requires { at ≤ length line.now }
     ensures { result ≡ separator_at (drop at line.now) }
 {
     if at == line.len() {
-        return 0;
+        return None;
     }
     let b = line[at];
-    if is_separator(b) {
-        return b;
-    }
-    0
+    if is_separator(b) { Some(b) } else { None }
 }
 
-// The separator of the file, by its first line that counts; 0, where that is no edition line.
-fn separator_in(line: &[u8]) -> u8
+// The separator of the file, by its first line that counts, if that is an edition line.
+fn separator_in(line: &[u8]) -> Option<u8>
     ensures { result ≡ separator_in line.now }
 {
     let word = front(line, 0, line.len(), 44);
@@ -159,27 +146,34 @@ fn separator_in(line: &[u8]) -> u8
 }
 
 // By the fields found behind the word, and the number that the first of them says.
-fn head_by(n: u32, sep: u8, fields: u32, number: Numeral) -> Head
-    ensures { result ≡ head_by n sep fields number }
+fn head_by(
+    n: u32,
+    separator: u8,
+    fields: u32,
+    number: Result<u32, NumberFault>,
+) -> Result<Head, TextFault>
+    ensures { result ≡ head_by n separator fields number }
 {
     match number {
-        Numeral::Units(edition) => {
+        Ok(edition) => {
             if fields == 1 {
-                return Head::Edition {
-                    edition,
-                    separator: sep,
-                };
+                return Ok(Head { edition, separator });
             }
-            Head::Fault(fields_fault_at(n, 1, fields))
+            let fault = Fault::Fields {
+                due: 1,
+                found: fields,
+            };
+            Err(TextFault { line: n, fault })
         }
-        Numeral::NoNumber => Head::Fault(fault_at(n, 2)),
-        Numeral::ManyDecimals => Head::Fault(fault_at(n, 2)),
-        Numeral::Large => Head::Fault(fault_at(n, 2)),
+        Err(_) => Err(TextFault {
+            line: n,
+            fault: Fault::Edition,
+        }),
     }
 }
 
 // The number in the field behind the word.
-fn edition_in(line: &[u8], sep: u8) -> Numeral
+fn edition_in(line: &[u8], sep: u8) -> Result<u32, NumberFault>
     ensures { result ≡ read_number false 0 (cell_at sep 1 line.now) }
 {
     let word = next_field(line, 0, sep);
@@ -190,14 +184,18 @@ fn edition_in(line: &[u8], sep: u8) -> Numeral
 }
 
 // Line number n, the first that counts.
-pub fn head_of(n: u32, line: &[u8]) -> Head
+pub fn head_of(n: u32, line: &[u8]) -> Result<Head, TextFault>
     requires { length line.now < 4294967296 }
     ensures { result ≡ head_of n line.now }
 {
-    let sep = separator_in(line);
-    if sep == 0 {
-        return Head::Fault(fault_at(n, 2));
+    match separator_in(line) {
+        Some(sep) => {
+            let fields = found(line, sep) as u32;
+            head_by(n, sep, fields, edition_in(line, sep))
+        }
+        None => Err(TextFault {
+            line: n,
+            fault: Fault::Edition,
+        }),
     }
-    let fields = found(line, sep) as u32;
-    head_by(n, sep, fields, edition_in(line, sep))
 }

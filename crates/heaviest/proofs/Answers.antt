@@ -15,7 +15,10 @@ use borrow.Author.Tests.{lt-ltb, le-ltb, eq-eqb, ne_eqb}
 use Rattle.form.specs.Ruling.{ruling}
 use Rattle.form.specs.Verdict.{rules, rows, verdict_of}
 use Rattle.form.specs.declared.Counts.{Counts}
-use Rattle.form.specs.declared.Verdict.TheVariants as verdict
+use Rattle.form.specs.declared.Refusal.{Refusal}
+use Rattle.form.specs.Refusals.{Refused}
+use Rattle.heaviest.specs.Named.{NoRow, Row}
+use Rattle.std.specs.Prelude.{Ok, Err}
 use Rattle.form.proofs.Order.{ruled_before, kept-before, one_broken, one_kept}
 use Rattle.form.proofs.Meaning.{refused-ruling}
 use Rattle.standing.proofs.Accepted.{accepted-ruling, formed}
@@ -25,7 +28,6 @@ use Rattle.totals.specs.Codes.{wrong_code}
 use Rattle.heaviest.specs.Heaviest.{part_by, heaviest_by, named_of, heaviest_rules, named_by, heaviest_answer}
 use Rattle.heaviest.specs.Largest.{Weighs}
 use Rattle.heaviest.specs.declared.Weight.{Weight}
-use Rattle.heaviest.specs.declared.Named.TheVariants.{Row, None, Refused}
 use Rattle.heaviest.proofs.Largest.{heaviest-zero, heaviest_weighs}
 
 pub part_0 : part_by 0 ≡ onsite_part
@@ -49,19 +51,19 @@ named-row w {i} {p} e = go (ℕ_discrete w.part 0)
     go (yes z) = let q = rw (eq-eqb w.part 0 z) at e in let x : ◌≡◌ {A = ℕ} 0 1 = cc in absurd (omega arith)
     go (no z) = let q = rw (ne_eqb w.part 0 z) at e in let x : w.part ≡ p = cc in let y : w.id ≡ i = cc in (omega arith, rw (← x, ← y))
 
-named_none : (w : Weight) → (named_of w ≡ None) ↔ (w.part ≡ 0)
+named_none : (w : Weight) → (named_of w ≡ NoRow) ↔ (w.part ≡ 0)
 unfolding named_of
 named_none w = (λ e. go e (ℕ_discrete w.part 0), λ z. rw (eq-eqb w.part 0 z))
   where
-    go : named_of w ≡ None → Dec (w.part ≡ 0) → w.part ≡ 0
+    go : named_of w ≡ NoRow → Dec (w.part ≡ 0) → w.part ≡ 0
     go e (yes z) = z
     go e (no z) = let q = rw (ne_eqb w.part 0 z) at e in let x : ◌≡◌ {A = ℕ} 0 1 = cc in absurd (omega arith)
 
 module _ (s : List ℕ) (code : ℕ) where
-  pub refused-answer : {n p : ℕ} → verdict_of s ≡ verdict.Refused n p → heaviest_answer s code ≡ Refused n p
-  refused-answer {n} {p} e = ap (named_by s code) (ruled_before (rules s) (wrong_code code ∷ []) (refused-ruling s n p e))
+  pub refused-answer : {w : Refusal} → verdict_of s ≡ Err w → heaviest_answer s code ≡ Err w
+  refused-answer {w} e = ap (named_by s code) (ruled_before (rules s) (wrong_code code ∷ []) (refused-ruling s w.number w.place e))
 
-  module _ {c : Counts} (acc : verdict_of s ≡ verdict.Accepted c) where
+  module _ {c : Counts} (acc : verdict_of s ≡ Ok c) where
     -- the rule of the code is left
     left : ruling (heaviest_rules s code) ≡ ruling (wrong_code code ∷ [])
     left = kept-before (rules s) (wrong_code code ∷ []) (accepted-ruling s c acc)
@@ -78,7 +80,7 @@ module _ (s : List ℕ) (code : ℕ) where
         let n = named-row (heaviest_by code s) (sym (named-answer h) ∙ e) in
         (n.0, subst (Weighs s (part_by code)) n.1 (heaviest_weighs s c (formed s c acc) (part_by code)))
 
-    pub none_at_zero : code ≤ 2 → (heaviest_answer s code ≡ None) ↔ (sum_of (part_by code) (rows 1 s) ≡ 0)
+    pub none_at_zero : code ≤ 2 → (heaviest_answer s code ≡ NoRow) ↔ (sum_of (part_by code) (rows 1 s) ≡ 0)
     none_at_zero h =
         let n = named_none (heaviest_by code s) in
         let z = heaviest-zero (rows 1 s) (part_by code) in

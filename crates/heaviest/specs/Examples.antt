@@ -1,7 +1,6 @@
 -- Answers that the checker computes. A row here is its id and one figure, which is taken as its part.
 use Rattle.std.specs.Prelude.{ℕ, ◌≡◌, refl, List, [], ◌∷◌, get_or}
-use Rattle.heaviest.specs.declared.Named.{Named}
-use Rattle.heaviest.specs.declared.Named.TheVariants.{Row, None}
+use Rattle.heaviest.specs.Named.{Named, NoRow, Row}
 use Rattle.heaviest.specs.Heaviest.{heavier, heaviest_from, heaviest_in, named_of}
 
 abbrev figure : List ℕ → ℕ
@@ -31,10 +30,10 @@ unfolding computed
 id_zero = refl
 
 -- all parts zero, and no rows at all
-all_zero : named_of (heaviest_in figure (short 3 0 ∷ short 5 0 ∷ [])) ≡ None
+all_zero : named_of (heaviest_in figure (short 3 0 ∷ short 5 0 ∷ [])) ≡ NoRow
 unfolding computed
 all_zero = refl
 
-no_rows : named_of (heaviest_in figure []) ≡ None
+no_rows : named_of (heaviest_in figure []) ≡ NoRow
 unfolding computed
 no_rows = refl

@@ -1,18 +1,16 @@
 -- §7: "For an accepted return and one of the three subtotals it names the row with the largest exact part, the lower id on a tie, 'none' where the subtotal is zero."
 -- How it is found, row by row; specs/Largest says what it then is.
-use Rattle.std.specs.Prelude.{ℕ, cond, List, [], ◌∷◌, ◌++◌, ltb, eqb}
+use Rattle.std.specs.Prelude.{ℕ, cond, List, [], ◌∷◌, ◌++◌, ltb, eqb, Err}
 use Rattle.form.specs.Ruling.{Rule, ruling}
 use Rattle.form.specs.Records.{id_of}
 use Rattle.form.specs.Verdict.{rules, rows}
-use Rattle.form.specs.declared.Ruling.{Ruling}
-use Rattle.form.specs.declared.Ruling.TheVariants.{Clean, Broken}
+use Rattle.form.specs.Refusals.{Clean, Ruling}
+use Rattle.heaviest.specs.Named.{Named, NoRow, Row}
 use Rattle.totals.specs.Columns.{onsite_part, offsite_part, decay_part}
 use Rattle.totals.specs.Codes.{by_code, wrong_code}
 use Rattle.totals.specs.declared.Parts.{Parts}
 use Rattle.heaviest.specs.declared.Weight.{Weight}
 use Rattle.heaviest.specs.declared.Weights.{Weights}
-use Rattle.heaviest.specs.declared.Named.{Named}
-use Rattle.heaviest.specs.declared.Named.TheVariants as named
 
 -- before any row: no id and no part
 abbrev pub no_weight : Weight
@@ -45,7 +43,7 @@ heaviest_by code s = heaviest_in (part_by code) (rows 1 s)
 
 -- the row is named, "'none' where the subtotal is zero"
 unfoldable pub named_of : Weight → Named
-named_of w = cond (eqb w.part 0) named.None (named.Row w.id w.part)
+named_of w = cond (eqb w.part 0) NoRow (Row w.id w.part)
 
 -- "Refusals: those of the sheets, then 11 for a subtotal's code above 2"
 abbrev pub heaviest_rules : List ℕ → ℕ → List Rule
@@ -53,7 +51,7 @@ heaviest_rules s code = rules s ++ (wrong_code code ∷ [])
 
 abbrev pub named_by : List ℕ → ℕ → Ruling → Named
 named_by s code Clean = named_of (heaviest_by code s)
-named_by s code (Broken n p) = named.Refused n p
+named_by s code (Err r) = Err r
 
 abbrev pub heaviest_answer : List ℕ → ℕ → Named
 heaviest_answer s code = named_by s code (ruling (heaviest_rules s code))

@@ -5,7 +5,7 @@ ghost use Rattle.std.specs.Prelude.{◌≡◌};
 ghost use Rattle.form.specs.Verdict.{Formed};
 ghost use Rattle.heaviest.specs.Heaviest.{heavier, heavier_three, heaviest_of, weight_by, named_of, heaviest_answer};
 
-use form::{Counts, Verdict, four_at, row_start};
+use form::{Counts, Refusal, four_at, row_start};
 use totals::{Parts, parts_at};
 
 // A row by its id, and its exact part in a subtotal: 0 where no row has any.
@@ -21,13 +21,6 @@ pub struct Weights {
     pub onsite: Weight,
     pub offsite: Weight,
     pub decay: Weight,
-}
-
-#[derive(Clone, Copy)]
-pub enum Named {
-    Row { id: u32, part: u64 },
-    None,
-    Refused { number: u8, place: u32 },
 }
 
 // Ids rise along the rows: of equal parts the first is that of the lower id, and it stays.
@@ -52,7 +45,7 @@ fn weigh(best: Weights, id: u32, p: Parts) -> Weights
     }
 }
 
-// One pass over the rows for all three: a row's parts are worked out once.
+// One pass over the rows for all three: a row's parts are worked out once. The heaviest row is no sum, so this is no sum_rows.
 pub fn weigh_rows(bytes: &[u8], c: Counts) -> Weights
     requires { Formed bytes.now c }
     ensures { result ≡ heaviest_of bytes.now }
@@ -63,11 +56,9 @@ pub fn weigh_rows(bytes: &[u8], c: Counts) -> Weights
         offsite: Weight { id: 0, part: 0 },
         decay: Weight { id: 0, part: 0 },
     };
-    let mut i: usize = 0;
-    while i < n {
+    for i in 0..n {
         let at = row_start(0, i);
         best = weigh(best, four_at(bytes, at), parts_at(bytes, at));
-        i += 1;
     }
     best
 }
@@ -82,33 +73,22 @@ fn by_code(t: Weights, code: u32) -> Weight
 }
 
 // The heaviest part is 0 just where the subtotal is.
-fn name_of(w: Weight) -> Named
-    ensures { result ≡ named_of w }
+fn name_of(w: Weight) -> Option<Weight>
+    ensures { Ok result ≡ named_of w }
 {
-    if w.part == 0 {
-        Named::None
-    } else {
-        Named::Row {
-            id: w.id,
-            part: w.part,
-        }
-    }
+    if w.part == 0 { None } else { Some(w) }
 }
 
 // Any bytes of any length and any code, judged once.
-pub fn heaviest(bytes: &[u8], code: u32) -> Named
+pub fn heaviest(bytes: &[u8], code: u32) -> Result<Option<Weight>, Refusal>
     ensures { result ≡ heaviest_answer bytes.now code }
 {
-    match judge::judge(bytes) {
-        Verdict::Refused { number, place } => Named::Refused { number, place },
-        Verdict::Accepted(counts) => {
-            if 2 < code {
-                return Named::Refused {
-                    number: 11,
-                    place: 0,
-                };
-            }
-            name_of(by_code(weigh_rows(bytes, counts), code))
-        }
+    let counts = judge::judge(bytes)?;
+    if 2 < code {
+        return Err(Refusal {
+            number: 11,
+            place: 0,
+        });
     }
+    Ok(name_of(by_code(weigh_rows(bytes, counts), code)))
 }

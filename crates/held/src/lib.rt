@@ -3,7 +3,6 @@
 
 ghost use Rattle.std.specs.Prelude.{◌≡◌};
 ghost use Rattle.form.specs.Verdict.{verdict_of};
-ghost use Rattle.form.specs.declared.Verdict.TheVariants.{Accepted};
 ghost use Rattle.held.specs.Checked.{checked_of};
 
 use form::Counts;
@@ -16,7 +15,7 @@ pub struct Checked<'a> {
 
 // Of bytes that were judged, with the counts that the judge gave.
 pub fn hold<'a>(bytes: &'a [u8], counts: Counts) -> Checked<'a>
-    requires { verdict_of bytes.now ≡ Accepted counts }
+    requires { verdict_of bytes.now ≡ Ok counts }
     ensures { result ≡ checked_of bytes.entry counts }
 {
     Checked { bytes, counts }

@@ -7,62 +7,48 @@ ghost use Rattle.form.specs.Block.{edition};
 ghost use Rattle.form.specs.Records.{filed, record_rules};
 ghost use Rattle.form.specs.Verdict.{block_rules, form_rules, row_count, counts_of, Formed, verdict_of};
 
+use balance::rule_sums;
+use blocks::bad_block;
 use form::{
-    Counts, RECORD_RULES, Ruling, Spot, Verdict, blocks_for, byte_at, record_rule, two_at,
+    Counts, RECORD_RULES, Refusal, blocks_for, byte_at, first, record_rule, refuse, two_at,
     where_same,
 };
+use headers::{bad_check, bad_header, bad_length};
 use sums::count_scattered;
 
 // Rules 1 to 4.
-fn rule_blocks(bytes: &[u8]) -> Ruling
+fn rule_blocks(bytes: &[u8]) -> Result<(), Refusal>
     ensures { result ≡ ruling (block_rules bytes.now) }
 {
-    if headers::bad_length(bytes) {
-        return Ruling::Broken {
+    if bad_length(bytes) {
+        return Err(Refusal {
             number: 1,
             place: 0,
-        };
+        });
     }
-    let check = blocks::first_broken(bytes, 2);
-    if let Spot::At(place) = check {
-        return Ruling::Broken { number: 2, place };
-    }
-    let header = blocks::first_broken(bytes, 3);
-    if let Spot::At(place) = header {
-        return Ruling::Broken { number: 3, place };
-    }
-    let block = blocks::first_broken(bytes, 4);
-    if let Spot::At(place) = block {
-        return Ruling::Broken { number: 4, place };
-    }
-    Ruling::Clean
+    let n = bytes.len() / 512;
+    refuse(2, first(n, |b| bad_check(bytes, b)))?;
+    refuse(3, first(n, |b| bad_header(bytes, b)))?;
+    refuse(4, first(n, |b| bad_block(bytes, b)))
 }
 
 // Rules 5, 6, 14 and 7, by their numbers.
-fn rule_records(bytes: &[u8]) -> Ruling
+fn rule_records(bytes: &[u8]) -> Result<(), Refusal>
     requires { length bytes.now < 2 ^ 24 }
     ensures { result ≡ ruling (record_rules (edition bytes.now 0) (filed bytes.now)) }
 {
-    let mut i: usize = 0;
-    while i < RECORD_RULES {
+    for i in 0..RECORD_RULES {
         let number = record_rule(i);
-        let spot = records::first_broken(bytes, number as u32);
-        if let Spot::At(place) = spot {
-            return Ruling::Broken { number, place };
-        }
-        i += 1;
+        refuse(number, records::first_broken(bytes, number as u32))?;
     }
-    Ruling::Clean
+    Ok(())
 }
 
 // Rules 1 to 7 and 14, in the paper's order: the blocks whole before the records.
-fn rule_form(bytes: &[u8]) -> Ruling
+fn rule_form(bytes: &[u8]) -> Result<(), Refusal>
     ensures { result ≡ ruling (form_rules bytes.now) }
 {
-    let blocks = rule_blocks(bytes);
-    if let Ruling::Broken { number, place } = blocks {
-        return Ruling::Broken { number, place };
-    }
+    rule_blocks(bytes)?;
     rule_records(bytes)
 }
 
@@ -73,10 +59,8 @@ fn rows_of(bytes: &[u8], kind: u32) -> u32
 {
     let n = bytes.len() / 512;
     let mut rows: u32 = 0;
-    let mut b: usize = 0;
-    while b < n {
+    for b in 0..n {
         rows += where_same(byte_at(bytes, 512 * b), kind, byte_at(bytes, 512 * b + 1));
-        b += 1;
     }
     rows
 }
@@ -102,23 +86,12 @@ pub fn count_rows(bytes: &[u8]) -> Counts
     }
 }
 
-// What is accepted of a return that can be read row by row: one that keeps the rules that add rows up.
-fn judge_sums(bytes: &[u8], counts: Counts) -> Verdict
-    requires { Formed bytes.now counts }
-    ensures { result ≡ verdict_of bytes.now }
-{
-    match balance::rule_sums(bytes, counts) {
-        Ruling::Broken { number, place } => Verdict::Refused { number, place },
-        Ruling::Clean => Verdict::Accepted(counts),
-    }
-}
-
 // Any bytes of any length, read in place: 1 to 7 and 14, then what the rows add up to.
-pub fn judge(bytes: &[u8]) -> Verdict
+pub fn judge(bytes: &[u8]) -> Result<Counts, Refusal>
     ensures { result ≡ verdict_of bytes.now }
 {
-    match rule_form(bytes) {
-        Ruling::Broken { number, place } => Verdict::Refused { number, place },
-        Ruling::Clean => judge_sums(bytes, count_rows(bytes)),
-    }
+    rule_form(bytes)?;
+    let counts = count_rows(bytes);
+    rule_sums(bytes, counts)?;
+    Ok(counts)
 }

@@ -18,7 +18,8 @@ use Rattle.totals.specs.declared.DryMatter.{DryMatter}
 use Rattle.totals.specs.declared.Totals.{Totals}
 use Rattle.matter.specs.declared.Matter.{Matter}
 use Rattle.matter.proofs.Adding.{words_comm, words_assoc, matter_comm, matter_assoc}
-use Rattle.matter.proofs.Sizes.{most_le, most_none, most_plus}
+use Rattle.matter.specs.Laws.{most_none, most_plus}
+use Rattle.matter.proofs.Sizes.{most_le}
 use Rattle.ledger.specs.Ledger.{entered, none, plus, sum_ledgers, Bounded}
 use Rattle.ledger.specs.Several.{AtMost, Addable}
 use Rattle.ledger.specs.declared.Ledger.{Ledger}
@@ -106,7 +107,7 @@ at_most_plus m n a b p q =
       onsite = omega (arith, v (value a.onsite.0 + value b.onsite.0));
       offsite = omega (arith, v (value a.offsite.0 + value b.offsite.0));
       decay = omega (arith, v (value a.decay.0 + value b.decay.0));
-      matter = most_le (most_plus a.matter b.matter p.matter q.matter) (omega arith);
+      matter = most_le (most_plus _ _ a.matter b.matter p.matter q.matter) (omega arith);
     }
 
 -- five hundred returns have room

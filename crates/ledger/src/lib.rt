@@ -9,9 +9,10 @@ ghost use Rattle.ledger.specs.Ledger.{entered, Bounded};
 ghost use Rattle.ledger.specs.Derived.{stocks_of, conversion_of};
 
 use matter::Matter;
+use totals::adding::AddsUp;
 use totals::{Carbon, DryMatter, Totals};
 use units::{
-    Co2, NetCarbon, NetCo2, NetDryMatter, both, carbon_in, co2_of, emission, net_carbon, net_co2,
+    Co2, NetCarbon, NetCo2, NetDryMatter, carbon_in, co2_of, emission, net_carbon, net_co2,
     net_wood,
 };
 
@@ -104,8 +105,8 @@ pub fn work_conversion(g: Ledger) -> Conversion
     let onsite = g.onsite;
     let offsite = g.offsite;
     let decay = g.decay;
-    let r = both(onsite, offsite);
-    let co2 = co2_of(both(r, decay));
+    let r = onsite.plus(offsite);
+    let co2 = co2_of(r.plus(decay));
     Conversion {
         onsite,
         offsite,

@@ -5,30 +5,30 @@ ghost use Rattle.ledger.specs.Ledger.{none, plus};
 ghost use Rattle.ledger.specs.Several.{both_removed, Addable};
 
 use crate::Ledger;
-use matter::several::{add_matter, both_masses, no_matter};
+use matter::Matter;
+use totals::adding::AddsUp;
 use totals::{Carbon, DryMatter};
-use units::{NetCarbon, both};
+use units::NetCarbon;
 use wide::signed::Signed;
-use wide::{Wide, add};
+use wide::{add, of};
 
 // The ledger of no return.
 pub fn no_returns() -> Ledger
     ensures { result ≡ none }
 {
-    let zero = Wide { lo: 0, hi: 0 };
     let o = Signed {
         below: false,
-        size: zero,
+        size: of(0),
     };
     Ledger {
-        e: Carbon(zero),
-        k: DryMatter(zero),
-        l: DryMatter(zero),
+        e: Carbon::nothing(),
+        k: DryMatter::nothing(),
+        l: DryMatter::nothing(),
         o: NetCarbon(o),
-        onsite: Carbon(zero),
-        offsite: Carbon(zero),
-        decay: Carbon(zero),
-        matter: no_matter(),
+        onsite: Carbon::nothing(),
+        offsite: Carbon::nothing(),
+        decay: Carbon::nothing(),
+        matter: Matter::nothing(),
     }
 }
 
@@ -48,13 +48,13 @@ pub fn add_ledgers(a: Ledger, b: Ledger) -> Ledger
     ensures { result ≡ plus a b }
 {
     Ledger {
-        e: both(a.e, b.e),
-        k: both_masses(a.k, b.k),
-        l: both_masses(a.l, b.l),
+        e: a.e.plus(b.e),
+        k: a.k.plus(b.k),
+        l: a.l.plus(b.l),
         o: both_removed(a.o, b.o),
-        onsite: both(a.onsite, b.onsite),
-        offsite: both(a.offsite, b.offsite),
-        decay: both(a.decay, b.decay),
-        matter: add_matter(a.matter, b.matter),
+        onsite: a.onsite.plus(b.onsite),
+        offsite: a.offsite.plus(b.offsite),
+        decay: a.decay.plus(b.decay),
+        matter: a.matter.plus(b.matter),
     }
 }

@@ -1,8 +1,7 @@
 -- Laws of the list of figures, and of what is made of it figure by figure. Assumes nothing.
-use Prim.Native.Nat.{ℕ, zero, suc, ◌+◌, ◌*◌, ◌<◌, ◌≤◌}
+use Prim.Native.Nat.{ℕ, zero, suc, ◌+◌, ◌*◌, ◌<◌}
 use mathlib.Core.Path.{◌≡◌, refl, sym, ap, subst, ◌∙◌}
 use mathlib.Core.List.{List, [], ◌∷◌, ◌++◌, append-nil, append_assoc, flat_map}
-use native.Mathlib.Decide.{dec_lt}
 use native.Mathlib.Omega.{arith}
 use native.Mathlib.Nat.{zero-add}
 use native.Mathlib.Numerals.{add-one}
@@ -56,19 +55,15 @@ one_more zs fs i {d} {e} {g} {at} {next} q h v w =
 pub all_of : (fs : List Figure) (i : ℕ) {d e : List ℕ} {at : ℕ} → i ≡ length fs → WrittenAt (flat_map numbers_in (take i fs)) d e 0 at → WrittenAt (flat_map numbers_in fs) d e 0 at
 all_of fs i {d} {e} {at} q w = subst (λ (x : List Figure). WrittenAt (flat_map numbers_in x) d e 0 at) (ap (λ (k : ℕ). take k fs) q ∙ take-length fs) w
 
--- each of the first values has two words: one more, and all of them
-abbrev pub FirstTwoWords : List Signed → ℕ → Type 0
-FirstTwoWords zs n = (i : ℕ) → i < n → TwoWords (get_or zs i nothing)
+-- each figure has two words, one after the other
+abbrev pub EachTwoWords : List Figure → Type 0
+EachTwoWords [] = Unit {0}
+EachTwoWords (f ∷ fs) = TwoWords f.value × EachTwoWords fs
 
-pub words_more : (zs : List Signed) (n : ℕ) → FirstTwoWords zs n → TwoWords (get_or zs n nothing) → FirstTwoWords zs (n + 1)
-words_more zs n h w i l = by (dec_lt i n)
-  where
-    by : Dec (i < n) → TwoWords (get_or zs i nothing)
-    by (yes k) = h i k
-    by (no k) = let e : n ≡ i = omega arith in subst (λ (j : ℕ). TwoWords (get_or zs j nothing)) e w
-
-pub words_all : (zs : List Signed) (fs : List Figure) (n : ℕ) → zs ≡ values_of fs → length fs ≤ n → FirstTwoWords zs n → AllTwoWords fs
-words_all zs fs n q l h i k = subst TwoWords (ap (λ (x : List Signed). get_or x i nothing) q ∙ value_at fs i k) (h i (omega arith))
+pub all_two_words : (fs : List Figure) → EachTwoWords fs → AllTwoWords fs
+all_two_words [] h i l = absurd (omega arith)
+all_two_words (f ∷ fs) h zero l = h.0
+all_two_words (f ∷ fs) h (suc i) l = all_two_words fs h.1 i (omega arith)
 
 -- in room of as many numbers, they are all there is
 pub full : (f : Figures) {d e : List ℕ} {r : ℕ} → length d ≡ numbers_room → WrittenAt (figure_numbers f) d e 0 r → e ≡ figure_numbers f

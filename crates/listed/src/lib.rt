@@ -3,7 +3,7 @@
 
 ghost use Rattle.std.specs.Prelude.{◌≡◌, cond, ◌+◌, ◌≤◌, length};
 ghost use Rattle.decimal.specs.Digits.{WrittenAt};
-ghost use Rattle.listed.specs.Listed.{listed, values_of, three_in, figure_numbers, numbers_room, TwoWords, AllTwoWords};
+ghost use Rattle.listed.specs.Listed.{listed, values_of, three_in, figure_numbers, numbers_room, AllTwoWords};
 
 use wide::signed::Signed;
 use worksheets::sheets::Figures;
@@ -14,8 +14,9 @@ pub const FIGURES: usize = 38;
 pub const NUMBERS: usize = 3 * FIGURES;
 
 // Each figure's value with its sign, in the list's order. Struct literals and no calls: so it needs no proof by hand.
-fn list(f: Figures) -> [Signed; FIGURES]
-    ensures { result ≡ values_of (listed f) }
+pub fn list(f: Figures) -> [Signed; FIGURES]
+    ensures value { result ≡ values_of (listed f) }
+    ensures two_words { AllTwoWords (listed f) }
 {
     let size = f.stocks.e.0;
     let e = Signed { below: false, size };
@@ -137,7 +138,7 @@ fn sign_of(below: bool) -> u64
 // A figure's sign, upper and lower word at a place; answers the next place.
 fn put_three(z: Signed, room: &mut [u64], at: usize) -> usize
     requires { at + 3 ≤ length room.old }
-    ensures { (WrittenAt (three_in z) room.old room.new at result) × (result ≡ at + 3) × (TwoWords z) }
+    ensures { WrittenAt (three_in z) room.old room.new at result × (result ≡ at + 3) }
 {
     room[at] = sign_of(z.below);
     room[at + 1] = z.size.hi;
@@ -145,18 +146,16 @@ fn put_three(z: Signed, room: &mut [u64], at: usize) -> usize
     at + 3
 }
 
-// Figure after figure, from the front of the room.
+// Figure after figure, from the front of the room: three numbers each, since C has no number as large as a figure.
 pub fn put_numbers(f: Figures, room: &mut [u64]) -> usize
     requires { numbers_room ≤ length room.old }
     ensures written_at { WrittenAt (figure_numbers f) room.old room.new 0 result }
     ensures all_two_words { AllTwoWords (listed f) }
 {
     let values = list(f);
-    let mut i: usize = 0;
     let mut at: usize = 0;
-    while i < FIGURES {
-        at = put_three(values[i], room, at);
-        i += 1;
+    for value in values {
+        at = put_three(value, room, at);
     }
     at
 }

@@ -19,8 +19,7 @@ use borrow.Author.Tests.{lt-ltb, le-ltb, ne_eqb}
 use Rattle.form.specs.First.{or_else, first}
 use Rattle.form.specs.Records.{Filed, RowTest, bad_id, broken_by, test_numbered, test_of}
 use Rattle.form.specs.Steps.{passed_over}
-use Rattle.form.specs.declared.Spot.{Spot}
-use Rattle.form.specs.declared.Spot.TheVariants.{At, Nowhere}
+use Rattle.std.specs.Prelude.{None, Option, Some}
 use Rattle.form.proofs.Search.{first_at, first_none, first_is, first_is_none, first_found, first_rest}
 use Rattle.filing.specs.Lists.{Lists, rows_in, row_of, blocks_of, filed_list, behind, filed_from}
 use Rattle.form.proofs.Tests.{either}
@@ -90,14 +89,14 @@ module _ (p p₁ p₂ : ℕ → Bool) (a m : ℕ) (front : (j : ℕ) → j < a �
   pub first-parts : first p (a + m) ≡ or_else (first p₁ a) (shifted a (first p₂ m))
   first-parts = go (first p₁ a) (first p₂ m) refl refl
     where
-      go : (s t : Spot) → first p₁ a ≡ s → first p₂ m ≡ t → first p (a + m) ≡ or_else s (shifted a t)
-      go (At i) t e₁ e₂ =
+      go : (s t : Option ℕ) → first p₁ a ≡ s → first p₂ m ≡ t → first p (a + m) ≡ or_else s (shifted a t)
+      go (Some i) t e₁ e₂ =
           let h = first_at p₁ e₁ in
           first_is p (a + m) i (omega arith) (front i h.0 ∙ h.1) (λ k l. front k (omega arith) ∙ h.2 k l)
-      go Nowhere (At i) e₁ e₂ =
+      go None (Some i) e₁ e₂ =
           let h = first_at p₂ e₂ in
           first_is p (a + m) (a + i) (omega arith) (back i ∙ h.1) (both i (first_none p₁ e₁) h.2)
-      go Nowhere Nowhere e₁ e₂ = first_is_none p (a + m) (both m (first_none p₁ e₁) (first_none p₂ e₂))
+      go None None e₁ e₂ = first_is_none p (a + m) (both m (first_none p₁ e₁) (first_none p₂ e₂))
 
 first-behind : (n e : ℕ) (f g : Filed) (k : ℕ) → ((j : ℕ) → f.kind j ≡ k) → ((i : ℕ) → k < g.kind i)
     → first_of n e (behind f g) ≡ or_else (first_of n e f) (shifted f.places (first_of n e g))
@@ -106,17 +105,17 @@ first-behind n e f g k kinds above =
     first-parts (test_of n e (behind f g)) (test_of n e f) (test_of n e g) f.places g.places
     (front f g k kinds above n e) (back f g k kinds above n e)
 
-shift_else : (a : ℕ) (s t : Spot) → shifted a (or_else s t) ≡ or_else (shifted a s) (shifted a t)
-shift_else a (At i) t = refl
-shift_else a Nowhere t = refl
+shift_else : (a : ℕ) (s t : Option ℕ) → shifted a (or_else s t) ≡ or_else (shifted a s) (shifted a t)
+shift_else a (Some i) t = refl
+shift_else a None t = refl
 
-shift_shift : (a b : ℕ) (s : Spot) → shifted a (shifted b s) ≡ shifted (a + b) s
-shift_shift a b (At i) = ap (λ (n : ℕ). At n) (sym (add_assoc a b i))
-shift_shift a b Nowhere = refl
+shift_shift : (a b : ℕ) (s : Option ℕ) → shifted a (shifted b s) ≡ shifted (a + b) s
+shift_shift a b (Some i) = ap (λ (n : ℕ). Some n) (sym (add_assoc a b i))
+shift_shift a b None = refl
 
-pub shift_zero : (s : Spot) → shifted 0 s ≡ s
-shift_zero (At i) = ap (λ (n : ℕ). At n) (zero-add i)
-shift_zero Nowhere = refl
+pub shift_zero : (s : Option ℕ) → shifted 0 s ≡ s
+shift_zero (Some i) = ap (λ (n : ℕ). Some n) (zero-add i)
+shift_zero None = refl
 
 -- the lists of a kind and those after it have no lower kind
 pub kinds_from : (k : ℕ) (l : Lists) (j : ℕ) → k ≤ (filed_from k l).kind j
@@ -141,16 +140,16 @@ module _ (n e : ℕ) (l : Lists) (i start : ℕ) (h : i < length l) where
       ∙ ap (or_else (shifted start (first_of n e f))) (shift_shift start f.places (first_of n e g)))
 
 -- the lowest row, tried one after the other
-module _ (p : ℕ → Bool) (m start j : ℕ) (so_far : first p j ≡ Nowhere) where
-  pub row_found : p j ≡ true → j < m → At (start + j) ≡ shifted start (first p m)
+module _ (p : ℕ → Bool) (m start j : ℕ) (so_far : first p j ≡ None) where
+  pub row_found : p j ≡ true → j < m → Some (start + j) ≡ shifted start (first p m)
   row_found b l = ap (shifted start) (sym (first_found p j m so_far b l))
 
-  pub row-clean : m ≤ j → Nowhere ≡ shifted start (first p m)
+  pub row-clean : m ≤ j → None ≡ shifted start (first p m)
   row-clean h = ap (shifted start) (sym (first_rest p j m so_far (λ k g o. absurd (omega arith))))
 
 -- a kind that is passed over
 pub row_spared : (n e kind : ℕ) (r : List ℕ) (start : ℕ) → passed_over n e kind ≡ true
-    → Nowhere ≡ shifted start (first (λ j. test_numbered n e kind (row_of kind r j)) (rows_in kind (length r)))
+    → None ≡ shifted start (first (λ j. test_numbered n e kind (row_of kind r j)) (rows_in kind (length r)))
 row_spared n e kind r start h = ap (shifted start) (sym (first_is_none _ (rows_in kind (length r)) (λ j l. spared_row n e kind (row_of kind r j) h)))
 
 -- the lowest place of a list is that of its lowest row
@@ -167,11 +166,11 @@ module _ (n e kind : ℕ) (r : List ℕ) where
       → first p (rows_in kind (length r)) ≡ first_of n e (filed_list kind r)
   rows-first p same = go (first p (rows_in kind (length r))) refl
     where
-      go : (s : Spot) → first p (rows_in kind (length r)) ≡ s → s ≡ first_of n e (filed_list kind r)
-      go (At i) q =
+      go : (s : Option ℕ) → first p (rows_in kind (length r)) ≡ s → s ≡ first_of n e (filed_list kind r)
+      go (Some i) q =
           let h = first_at p q in
           sym (first_is (test_of n e (filed_list kind r)) (filed_list kind r).places i (omega (arith, h.0, rows_inside))
           (sym (same i h.0) ∙ h.1) (λ k l. sym (same k (omega (arith, h.0))) ∙ h.2 k l))
-      go Nowhere q =
+      go None q =
           sym (first_rest (test_of n e (filed_list kind r)) (rows_in kind (length r)) (filed_list kind r).places
           (first_is_none (test_of n e (filed_list kind r)) (rows_in kind (length r)) (λ k l. sym (same k l) ∙ first_none p q k l)) (λ k m o. behind-rows k m))

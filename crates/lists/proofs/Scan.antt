@@ -9,8 +9,7 @@ use native.Mathlib.Omega.{arith}
 use lib.ListN.{length, get_or, take, drop, drop_of_length-le}
 use Rattle.form.specs.First.{or_else, first}
 use Rattle.form.specs.Layout.{kinds}
-use Rattle.form.specs.declared.Spot.{Spot}
-use Rattle.form.specs.declared.Spot.TheVariants.{At, Nowhere}
+use Rattle.std.specs.Prelude.{None, Option, Some}
 use Rattle.filing.specs.Lists.{cut, total, rows_in, blocks_of, filed_list, filed_from, filed_lists}
 use Rattle.filing.proofs.Cut.{cut-length, part_at, cut-long, total_none, total-next, total-part}
 use Rattle.lists.specs.Rules.{Good, shifted, first_of}
@@ -61,11 +60,11 @@ module _ {n e : ℕ} {lengths area : List ℕ} {from start k m : ℕ} (g : Good 
       (rw (← part_is area k g s.at h em, part-long area k g s.at h em) at
       (first-kinds n e (cut lengths area) k start (omega (arith, cut-length lengths area))))
 
-  module _ {r : Spot} (er : r ≡ shifted start (first_of n e (filed_list (k + 1) (take (from + m - from) (drop from area))))) where
-    pub scan_found : {i : ℕ} → r ≡ At i → At i ≡ first_of n e (filed_lists (cut lengths area))
+  module _ {r : (Option ℕ)} (er : r ≡ shifted start (first_of n e (filed_list (k + 1) (take (from + m - from) (drop from area))))) where
+    pub scan_found : {i : ℕ} → r ≡ Some i → Some i ≡ first_of n e (filed_lists (cut lengths area))
     scan_found e' = sym (next ∙ rw (← er, e'))
 
-    pub scan_more : {p : ℕ} → r ≡ Nowhere → p ≡ 12 * blocks_of (k + 1) m → Scanning n e lengths area (from + m) (start + p) (k + 1)
+    pub scan_more : {p : ℕ} → r ≡ None → p ≡ 12 * blocks_of (k + 1) m → Scanning n e lengths area (from + m) (start + p) (k + 1)
     scan_more e' ep =
         let few : rows_in (k + 1) m ≤ 32 = rw (add-one k, em) (g.few k h) in
         record {
@@ -76,7 +75,7 @@ module _ {n e : ℕ} {lengths area : List ℕ} {from start k m : ℕ} (g : Good 
         }
 
 pub scan_all : {n e : ℕ} {lengths area : List ℕ} {from start k : ℕ} → Good lengths (length area) → Scanning n e lengths area from start k → kinds ≤ k
-    → Nowhere ≡ first_of n e (filed_lists (cut lengths area))
+    → None ≡ first_of n e (filed_lists (cut lengths area))
 unfolding filed_from first
 scan_all {n} {e} {lengths} {area} {from} {start} {k} g s h =
     let none : drop k (cut lengths area) ≡ [] = drop_of_length-le (cut lengths area) {i = k} (omega (arith, cut-length lengths area, g.each)) in

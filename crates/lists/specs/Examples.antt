@@ -6,8 +6,7 @@ use Rattle.form.specs.Layout.{kinds, above_limit}
 use Rattle.form.specs.Edition.{last_kind}
 use Rattle.form.specs.Records.{counted_difference, bad_id, broken_by, rows_below}
 use Rattle.form.specs.Sums.{sum_of, harvest_part, cleared_part, area_in, uneven, uneven_below, lowest_uneven, soil_uneven}
-use Rattle.form.specs.declared.Ruling.{Ruling}
-use Rattle.form.specs.declared.Ruling.TheVariants.{Clean, Broken}
+use Rattle.form.specs.Refusals.{Clean, Refused, Ruling}
 use Rattle.filing.specs.Lists.{cut, total, filed_list, behind, filed_from}
 use Rattle.lists.specs.Rules.{bad_list, bad_lengths, not_allowed, list_rules}
 
@@ -41,37 +40,37 @@ unfolding computed
 day-clean = refl
 
 -- a length short by one: a number would be dropped
-short : ruling (list_rules 1 (15 ∷ 5 ∷ 4 ∷ 6 ∷ 0 ∷ 0 ∷ 0 ∷ 0 ∷ []) day_area) ≡ Broken 10 0
+short : ruling (list_rules 1 (15 ∷ 5 ∷ 4 ∷ 6 ∷ 0 ∷ 0 ∷ 0 ∷ 0 ∷ []) day_area) ≡ Refused 10 0
 unfolding computed
 short = refl
 
 -- three lengths
-three : ruling (list_rules 1 (15 ∷ 5 ∷ 11 ∷ []) day_area) ≡ Broken 10 0
+three : ruling (list_rules 1 (15 ∷ 5 ∷ 11 ∷ []) day_area) ≡ Refused 10 0
 unfolding computed
 three = refl
 
 -- 33 harvest rows
-many : ruling (list_rules 1 (0 ∷ 0 ∷ 165 ∷ 6 ∷ 0 ∷ 0 ∷ 0 ∷ 0 ∷ []) (replicate 165 0 ++ parameters_day)) ≡ Broken 10 3
+many : ruling (list_rules 1 (0 ∷ 0 ∷ 165 ∷ 6 ∷ 0 ∷ 0 ∷ 0 ∷ 0 ∷ []) (replicate 165 0 ++ parameters_day)) ≡ Refused 10 3
 unfolding computed
 many = refl
 
 -- no parameter row
-bare : ruling (list_rules 1 (0 ∷ 0 ∷ 0 ∷ 0 ∷ 0 ∷ 0 ∷ 0 ∷ 0 ∷ []) []) ≡ Broken 10 4
+bare : ruling (list_rules 1 (0 ∷ 0 ∷ 0 ∷ 0 ∷ 0 ∷ 0 ∷ 0 ∷ 0 ∷ []) []) ≡ Refused 10 4
 unfolding computed
 bare = refl
 
 -- a second stock row with the id of the first, behind a block of one conversion row
-repeated : ruling (list_rules 1 (15 ∷ 10 ∷ 0 ∷ 6 ∷ 0 ∷ 0 ∷ 0 ∷ 0 ∷ []) (conversion_day ++ (stock_day ++ (stock_day ++ parameters_day)))) ≡ Broken 5 13
+repeated : ruling (list_rules 1 (15 ∷ 10 ∷ 0 ∷ 6 ∷ 0 ∷ 0 ∷ 0 ∷ 0 ∷ []) (conversion_day ++ (stock_day ++ (stock_day ++ parameters_day)))) ≡ Refused 5 13
 unfolding computed
 repeated = refl
 
 -- a unit code of 256, wider than its byte
-wide : ruling (list_rules 1 (0 ∷ 5 ∷ 0 ∷ 6 ∷ 0 ∷ 0 ∷ 0 ∷ 0 ∷ []) (1 ∷ 256 ∷ 0 ∷ 0 ∷ 0 ∷ parameters_day)) ≡ Broken 6 0
+wide : ruling (list_rules 1 (0 ∷ 5 ∷ 0 ∷ 6 ∷ 0 ∷ 0 ∷ 0 ∷ 0 ∷ []) (1 ∷ 256 ∷ 0 ∷ 0 ∷ 0 ∷ parameters_day)) ≡ Refused 6 0
 unfolding computed
 wide = refl
 
 -- the day without its harvest: what is cleared is above what is used
-uncovered : ruling (list_rules 1 (15 ∷ 5 ∷ 0 ∷ 6 ∷ 0 ∷ 0 ∷ 0 ∷ 0 ∷ []) (conversion_day ++ (stock_day ++ parameters_day))) ≡ Broken 12 0
+uncovered : ruling (list_rules 1 (15 ∷ 5 ∷ 0 ∷ 6 ∷ 0 ∷ 0 ∷ 0 ∷ 0 ∷ []) (conversion_day ++ (stock_day ++ parameters_day))) ≡ Refused 12 0
 unfolding computed
 uncovered = refl
 
@@ -83,7 +82,7 @@ second : ruling (list_rules 2 (0 ∷ 0 ∷ 0 ∷ 6 ∷ 7 ∷ 0 ∷ 0 ∷ 0 ∷ [
 unfolding computed
 second = refl
 
-second_only : ruling (list_rules 1 (0 ∷ 0 ∷ 0 ∷ 6 ∷ 7 ∷ 0 ∷ 0 ∷ 0 ∷ []) abandoned_day) ≡ Broken 10 5
+second_only : ruling (list_rules 1 (0 ∷ 0 ∷ 0 ∷ 6 ∷ 7 ∷ 0 ∷ 0 ∷ 0 ∷ []) abandoned_day) ≡ Refused 10 5
 unfolding computed
 second_only = refl
 
@@ -91,7 +90,7 @@ third : ruling (list_rules 3 (0 ∷ 0 ∷ 0 ∷ 6 ∷ 7 ∷ 0 ∷ 0 ∷ 0 ∷ []
 unfolding computed
 third = refl
 
-no_fourth : ruling (list_rules 4 (0 ∷ 0 ∷ 0 ∷ 6 ∷ 7 ∷ 0 ∷ 0 ∷ 0 ∷ []) abandoned_day) ≡ Broken 10 0
+no_fourth : ruling (list_rules 4 (0 ∷ 0 ∷ 0 ∷ 6 ∷ 7 ∷ 0 ∷ 0 ∷ 0 ∷ []) abandoned_day) ≡ Refused 10 0
 unfolding computed
 no_fourth = refl
 
@@ -114,26 +113,26 @@ trees-second : stocks 2 500 10 (stock_row 1 0 ++ stock_row 2 1) ≡ Clean
 unfolding stocks spending computed
 trees-second = refl
 
-trees-third : stocks 3 500 10 (stock_row 1 0 ++ stock_row 2 1) ≡ Broken 14 13
+trees-third : stocks 3 500 10 (stock_row 1 0 ++ stock_row 2 1) ≡ Refused 14 13
 unfolding stocks spending computed
 trees-third = refl
 
 -- "code 2 or above stays 6"
-code_2 : stocks 3 500 5 (stock_row 1 2) ≡ Broken 6 12
+code_2 : stocks 3 500 5 (stock_row 1 2) ≡ Refused 6 12
 unfolding stocks spending computed
 code_2 = refl
 
 -- 6 is tried over all rows first, though the scattered trees stand at the lower place; and 14 before 7
-six-before : stocks 3 500 10 (stock_row 1 1 ++ stock_row 2 2) ≡ Broken 6 13
+six-before : stocks 3 500 10 (stock_row 1 1 ++ stock_row 2 2) ≡ Refused 6 13
 unfolding stocks spending computed
 six-before = refl
 
-before_seven : stocks 3 501 5 (stock_row 1 1) ≡ Broken 14 12
+before_seven : stocks 3 501 5 (stock_row 1 1) ≡ Refused 14 12
 unfolding stocks spending computed
 before_seven = refl
 
 -- which edition 2 lets pass, so that 7 is given
-seven_second : stocks 2 501 5 (stock_row 1 1) ≡ Broken 7 0
+seven_second : stocks 2 501 5 (stock_row 1 1) ≡ Refused 7 0
 unfolding stocks spending computed
 seven_second = refl
 
@@ -145,7 +144,7 @@ savanna : ruling (list_rules 2 (0 ∷ 0 ∷ 0 ∷ 6 ∷ 0 ∷ 14 ∷ 0 ∷ 0 ∷
 unfolding computed
 savanna = refl
 
-savanna_only : ruling (list_rules 1 (0 ∷ 0 ∷ 0 ∷ 6 ∷ 0 ∷ 14 ∷ 0 ∷ 0 ∷ []) savanna_day) ≡ Broken 10 6
+savanna_only : ruling (list_rules 1 (0 ∷ 0 ∷ 0 ∷ 6 ∷ 0 ∷ 14 ∷ 0 ∷ 0 ∷ []) savanna_day) ≡ Refused 10 6
 unfolding computed
 savanna_only = refl
 
@@ -162,31 +161,31 @@ changed : soils 18 (soil_row 1 3 9 10 ++ soil_row 2 3 6 5) ≡ Clean
 unfolding soils computed
 changed = refl
 
-changed_only : ruling (list_rules 1 (0 ∷ 0 ∷ 0 ∷ 6 ∷ 0 ∷ 0 ∷ 18 ∷ 0 ∷ []) (parameters_day ++ (soil_row 1 3 9 10 ++ soil_row 2 3 6 5))) ≡ Broken 10 7
+changed_only : ruling (list_rules 1 (0 ∷ 0 ∷ 0 ∷ 6 ∷ 0 ∷ 0 ∷ 18 ∷ 0 ∷ []) (parameters_day ++ (soil_row 1 3 9 10 ++ soil_row 2 3 6 5))) ≡ Refused 10 7
 unfolding computed
 changed_only = refl
 
 -- a type that is not the first in the return, with a lower one in balance; its first row is the place, though it does not differ by itself
-later_type : soils 36 (soil_row 1 3 9 10 ++ (soil_row 2 8 4 4 ++ (soil_row 3 3 6 5 ++ soil_row 4 8 2 3))) ≡ Broken 13 13
+later_type : soils 36 (soil_row 1 3 9 10 ++ (soil_row 2 8 4 4 ++ (soil_row 3 3 6 5 ++ soil_row 4 8 2 3))) ≡ Refused 13 13
 unfolding soils computed
 later_type = refl
 
 -- two types out of balance: the lower one, later in the return
-lower-later : soils 27 (soil_row 1 8 4 5 ++ (soil_row 2 3 1 1 ++ soil_row 3 3 1 2)) ≡ Broken 13 13
+lower-later : soils 27 (soil_row 1 8 4 5 ++ (soil_row 2 3 1 1 ++ soil_row 3 3 1 2)) ≡ Refused 13 13
 unfolding soils computed
 lower-later = refl
 
 -- no wood either: 12 comes first
-wood-before : ruling (list_rules 2 (15 ∷ 0 ∷ 0 ∷ 6 ∷ 0 ∷ 0 ∷ 9 ∷ 0 ∷ []) (conversion_day ++ (parameters_day ++ soil_row 1 3 9 10))) ≡ Broken 12 0
+wood-before : ruling (list_rules 2 (15 ∷ 0 ∷ 0 ∷ 6 ∷ 0 ∷ 0 ∷ 9 ∷ 0 ∷ []) (conversion_day ++ (parameters_day ++ soil_row 1 3 9 10))) ≡ Refused 12 0
 unfolding computed
 wood-before = refl
 
 -- a soil type of 65,536, wider than its two bytes, and the highest there is
-wide_type : soils 9 (soil_row 1 65536 5 5) ≡ Broken 6 12
+wide_type : soils 9 (soil_row 1 65536 5 5) ≡ Refused 6 12
 unfolding soils computed
 wide_type = refl
 
-highest_type : soils 18 (soil_row 1 0 5 5 ++ soil_row 2 65535 5 6) ≡ Broken 13 13
+highest_type : soils 18 (soil_row 1 0 5 5 ++ soil_row 2 65535 5 6) ≡ Refused 13 13
 unfolding soils computed
 highest_type = refl
 
@@ -202,6 +201,6 @@ crop-third : ruling (list_rules 3 (0 ∷ 0 ∷ 0 ∷ 6 ∷ 0 ∷ 0 ∷ 0 ∷ 12 
 unfolding computed
 crop-third = refl
 
-crop_only : ruling (list_rules 1 (0 ∷ 0 ∷ 0 ∷ 6 ∷ 0 ∷ 0 ∷ 0 ∷ 12 ∷ []) crop_day) ≡ Broken 10 8
+crop_only : ruling (list_rules 1 (0 ∷ 0 ∷ 0 ∷ 6 ∷ 0 ∷ 0 ∷ 0 ∷ 12 ∷ []) crop_day) ≡ Refused 10 8
 unfolding computed
 crop_only = refl

@@ -1,13 +1,11 @@
 -- "Writing: 10, then 5 to 9": the rules of the row lists alone, 10 by kind, and those of filed records where the records would stand: 5, 6, 14 and 7, then those that add rows up.
-use Rattle.std.specs.Prelude.{ℕ, zero, suc, ◌+◌, ◌-◌, ◌%◌, ◌≤◌, ◌<◌, ◌≡◌, Bool, not, ◌&&◌, ◌||◌, List, [], ◌∷◌, length, get_or, ltb, eqb}
+use Rattle.std.specs.Prelude.{ℕ, zero, suc, ◌+◌, ◌-◌, ◌%◌, ◌≤◌, ◌<◌, ◌≡◌, Bool, not, ◌&&◌, ◌||◌, List, [], ◌∷◌, length, get_or, ltb, eqb, None, Option, Some}
 use Rattle.form.specs.Layout.{kinds, parameters_kind, numbers_of}
 use Rattle.form.specs.Edition.{last_kind, known}
 use Rattle.form.specs.Ruling.{Rule, rule}
 use Rattle.form.specs.First.{first}
 use Rattle.form.specs.Records.{Filed, test_of}
 use Rattle.form.specs.Sums.{filed_rules}
-use Rattle.form.specs.declared.Spot.{Spot}
-use Rattle.form.specs.declared.Spot.TheVariants.{At, Nowhere}
 use Rattle.filing.specs.Lists.{cut, total, rows_in, blocks_of, filed_lists}
 
 -- 10: "a row list is no whole number of rows, has more than 32, or the parameters aren't exactly one row", by how many numbers it has
@@ -53,10 +51,10 @@ blocks_from k [] = 0
 blocks_from k (n ∷ ns) = blocks_of k n + blocks_from (suc k) ns
 
 -- the lowest place that breaks the rule with a number
-abbrev pub first_of : ℕ → ℕ → Filed → Spot
+abbrev pub first_of : ℕ → ℕ → Filed → Option ℕ
 first_of n edition f = first (test_of n edition f) f.places
 
 -- a spot among places that begin at n
-abbrev pub shifted : ℕ → Spot → Spot
-shifted n (At i) = At (n + i)
-shifted n Nowhere = Nowhere
+abbrev pub shifted : ℕ → Option ℕ → Option ℕ
+shifted n (Some i) = Some (n + i)
+shifted n None = None

@@ -11,7 +11,7 @@ ghost use Rattle.lists.specs.Rules.{bad_list, bad_lengths, not_allowed, bad_at, 
 
 use form::layout::{field, numbers};
 use form::{
-    KINDS, PARAMETERS, RECORD_RULES, Ruling, Spot, blocks_for, last_kind, record_rule, spares,
+    KINDS, PARAMETERS, RECORD_RULES, Refusal, blocks_for, last_kind, record_rule, refuse, spares,
 };
 
 // How many rows of a kind some numbers are.
@@ -43,10 +43,8 @@ pub fn sum(lengths: &[u32]) -> usize
     ensures { (result ≡ total lengths.now) × (result < 2 ^ 56) }
 {
     let mut all: usize = 0;
-    let mut i: usize = 0;
-    while i < lengths.len() {
+    for i in 0..lengths.len() {
         all += length_at(lengths, i);
-        i += 1;
     }
     all
 }
@@ -68,21 +66,19 @@ fn not_allowed(edition: u32, kind: usize, n: usize) -> bool
 }
 
 // Rule 10, of lists of these lengths in an area of m numbers, for a return of this edition.
-pub fn first_bad_list(edition: u32, lengths: &[u32], m: usize) -> Spot
+pub fn first_bad_list(edition: u32, lengths: &[u32], m: usize) -> Option<u32>
     ensures { result ≡ first (bad_at edition lengths.now m) (suc kinds) }
 {
     if !(0 < last_kind(edition)) | bad_lengths(lengths, m) {
-        return Spot::At(0);
+        return Some(0);
     }
-    let mut k: usize = 0;
-    while k < KINDS {
+    for k in 0..KINDS {
         let n = length_at(lengths, k);
         if not_allowed(edition, k + 1, n) | bad_list(k + 1, n) {
-            return Spot::At(k as u32 + 1);
+            return Some(k as u32 + 1);
         }
-        k += 1;
     }
-    Spot::Nowhere
+    None
 }
 
 // The row against the one before it, of a kind that has ids.
@@ -101,19 +97,17 @@ fn bad_id(kind: usize, rows: &[u32], j: usize) -> bool
 }
 
 // The lowest row whose id is not above the one before it.
-fn first_bad_id(kind: usize, rows: &[u32], start: usize) -> Spot
+fn first_bad_id(kind: usize, rows: &[u32], start: usize) -> Option<u32>
     requires { (0 < kind) × (kind ≤ kinds) × (rows_in kind (length rows.now) ≤ 32) × (start < 2 ^ 24) }
     ensures { result ≡ shifted start (first (bad_id (filed_list kind rows.now)) (rows_in kind (length rows.now))) }
 {
     let n = count(kind, rows.len());
-    let mut j: usize = 0;
-    while j < n {
+    for j in 0..n {
         if bad_id(kind, rows, j) {
-            return Spot::At((start + j) as u32);
+            return Some((start + j) as u32);
         }
-        j += 1;
     }
-    Spot::Nowhere
+    None
 }
 
 // No early way out, so that the compiler makes straight code of the fields.
@@ -124,33 +118,29 @@ fn above_fields(kind: usize, rows: &[u32], j: usize) -> bool
     let n = numbers(kind);
     let from = n * j;
     let mut above = false;
-    let mut i: usize = 0;
-    while i < n {
+    for i in 0..n {
         let f = field(kind, i);
         above = above | (f.limit < rows[from + i]);
-        i += 1;
     }
     above
 }
 
 // The lowest row with a field above its limit, its list's first record standing at `start`.
-fn first_above_in(kind: usize, rows: &[u32], start: usize) -> Spot
+fn first_above_in(kind: usize, rows: &[u32], start: usize) -> Option<u32>
     requires { (0 < kind) × (kind ≤ kinds) × (rows_in kind (length rows.now) ≤ 32) × (start < 2 ^ 24) }
     ensures { result ≡ shifted start (first (λ j. above_limit (layout kind) (row_of kind rows.now j)) (rows_in kind (length rows.now))) }
 {
     let n = count(kind, rows.len());
-    let mut j: usize = 0;
-    while j < n {
+    for j in 0..n {
         if above_fields(kind, rows, j) {
-            return Spot::At((start + j) as u32);
+            return Some((start + j) as u32);
         }
-        j += 1;
     }
-    Spot::Nowhere
+    None
 }
 
 // The kind by its number, so that the compiler makes a loop of each kind's limits. A new kind is a new line.
-fn first_above(kind: usize, rows: &[u32], start: usize) -> Spot
+fn first_above(kind: usize, rows: &[u32], start: usize) -> Option<u32>
     requires { (0 < kind) × (kind ≤ kinds) × (rows_in kind (length rows.now) ≤ 32) × (start < 2 ^ 24) }
     ensures { result ≡ shifted start (first (λ j. above_limit (layout kind) (row_of kind rows.now j)) (rows_in kind (length rows.now))) }
 {
@@ -215,26 +205,24 @@ fn row_breaks(number: u32, edition: u32, kind: usize, rows: &[u32], j: usize) ->
 }
 
 // The lowest row that breaks it; a kind whose rows can't is passed over.
-fn first_row_in(number: u32, edition: u32, kind: usize, rows: &[u32], start: usize) -> Spot
+fn first_row_in(number: u32, edition: u32, kind: usize, rows: &[u32], start: usize) -> Option<u32>
     requires { (number ≡ 6 → ⊥) × (0 < kind) × (kind ≤ kinds) × (rows_in kind (length rows.now) ≤ 32) × (start < 2 ^ 24) }
     ensures { result ≡ shifted start (first (λ j. test_numbered number edition kind (row_of kind rows.now j)) (rows_in kind (length rows.now))) }
 {
     if spares(number, edition, kind as u32) {
-        return Spot::Nowhere;
+        return None;
     }
     let n = count(kind, rows.len());
-    let mut j: usize = 0;
-    while j < n {
+    for j in 0..n {
         if row_breaks(number, edition, kind, rows, j) {
-            return Spot::At((start + j) as u32);
+            return Some((start + j) as u32);
         }
-        j += 1;
     }
-    Spot::Nowhere
+    None
 }
 
 // The lowest place where a list breaks a rule, its first record standing at `start`.
-fn first_in(number: u32, edition: u32, kind: usize, rows: &[u32], start: usize) -> Spot
+fn first_in(number: u32, edition: u32, kind: usize, rows: &[u32], start: usize) -> Option<u32>
     requires { (0 < kind) × (kind ≤ kinds) × (rows_in kind (length rows.now) ≤ 32) × (start < 2 ^ 24) }
     ensures { result ≡ shifted start (first_of number edition (filed_list kind rows.now)) }
 {
@@ -254,41 +242,34 @@ pub fn blocks_of(kind: usize, n: usize) -> usize
 }
 
 // The lowest place where the lists break a rule, kind by kind.
-fn first_broken(number: u32, edition: u32, lengths: &[u32], area: &[u32]) -> Spot
+fn first_broken(number: u32, edition: u32, lengths: &[u32], area: &[u32]) -> Option<u32>
     requires { Good lengths.now (length area.now) }
     ensures { result ≡ first_of number edition (filed_lists (cut lengths.now area.now)) }
 {
     let mut from: usize = 0;
     let mut start: usize = 0;
-    let mut k: usize = 0;
-    while k < KINDS {
+    for k in 0..KINDS {
         let n = length_at(lengths, k);
         let end = from + n;
-        if let Spot::At(place) = first_in(number, edition, k + 1, &area[from..end], start) {
-            return Spot::At(place);
+        if let Some(place) = first_in(number, edition, k + 1, &area[from..end], start) {
+            return Some(place);
         }
         start += 12 * blocks_of(k + 1, n);
         from = end;
-        k += 1;
     }
-    Spot::Nowhere
+    None
 }
 
 // Rules 5, 6, 14 and 7, by their numbers, of lists that 10 has found good.
-pub fn rule_records(edition: u32, lengths: &[u32], area: &[u32]) -> Ruling
+pub fn rule_records(edition: u32, lengths: &[u32], area: &[u32]) -> Result<(), Refusal>
     requires { Good lengths.now (length area.now) }
     ensures { result ≡ ruling (record_rules edition (filed_lists (cut lengths.now area.now))) }
 {
-    let mut i: usize = 0;
-    while i < RECORD_RULES {
+    for i in 0..RECORD_RULES {
         let number = record_rule(i);
-        let spot = first_broken(number as u32, edition, lengths, area);
-        if let Spot::At(place) = spot {
-            return Ruling::Broken { number, place };
-        }
-        i += 1;
+        refuse(number, first_broken(number as u32, edition, lengths, area))?;
     }
-    Ruling::Clean
+    Ok(())
 }
 
 // How many blocks the lists take, of all kinds or of the first.
@@ -297,10 +278,8 @@ pub fn blocks_in(lengths: &[u32]) -> usize
     ensures { (result ≡ blocks_from 1 lengths.now) × (result ≤ 60) }
 {
     let mut n: usize = 0;
-    let mut k: usize = 0;
-    while k < lengths.len() {
+    for k in 0..lengths.len() {
         n += blocks_of(k + 1, length_at(lengths, k));
-        k += 1;
     }
     n
 }

@@ -1,16 +1,16 @@
 -- How large the five masses are. Assumes nothing.
 --     row_most, rows-most   at most 10^16 of a row, and 3.2 x 10^17 of a return, which is one word
---     most_le, most_plus, most_none    a larger bound, a sum, none
---     turn, all             a loop over the rows: one row more, past the last; room, which fits
-use Prim.Native.Nat.{ℕ, ◌+◌, ◌*◌, ◌^◌, ◌≤◌}
-use mathlib.Core.Path.{◌≡◌, refl, sym, ap, ap₂, subst, ◌∙◌}
+--     most_le               a larger bound
+--     matter_added          what the rows add up to
+use Prim.Native.Nat.{ℕ, ◌+◌, ◌*◌, ◌^◌, ◌<◌, ◌≤◌}
+use mathlib.Core.Path.{◌≡◌, refl, ap}
 use mathlib.Core.Bool.{false}
-use mathlib.Core.List.{List}
+use mathlib.Core.List.{List, []}
 use native.Mathlib.Numerals.{bound}
 use native.Mathlib.Omega.{arith}
 use lib.Dec.{lit<, lit≤}
-use lib.ListN.{take}
-use Rattle.form.specs.Layout.{field, conversion, row_at, above_limit}
+use lib.ListN.{length, take, get_or}
+use Rattle.form.specs.Layout.{field, conversion, above_limit}
 use Rattle.form.specs.Records.{before, after}
 use Rattle.form.specs.Sums.{sum_of}
 use Rattle.form.specs.Verdict.{rows, Formed}
@@ -18,15 +18,16 @@ use Rattle.form.specs.declared.Counts.{Counts}
 use Rattle.form.proofs.EachKind.{one_kind}
 use Rattle.form.proofs.Periods.{counted_le}
 use Rattle.standing.proofs.Accepted.{limit_of}
-use Rattle.standing.proofs.Rows.{Stands}
 use Rattle.wide.specs.Numbers.{value, words_of}
 use Rattle.wide.proofs.Laws.{value_words}
 use Rattle.totals.specs.Masses.{dry_matter}
-use Rattle.totals.specs.declared.DryMatter.{DryMatter}
-use Rattle.totals.proofs.Accepted.{small, next, whole}
+use Rattle.totals.specs.Laws.{amounts}
+use Rattle.totals.specs.RowSums.{added_up}
+use Rattle.totals.proofs.Accepted.{small}
+use Rattle.totals.proofs.RowSums.{comes_to}
 use Rattle.totals.proofs.Limits.{period, onsites, offsites}
-use Rattle.totals.proofs.Sums.{sum_le}
-use Rattle.matter.specs.Matter.{lost_biomass, left_by, oxidised_onsite_part, charcoal_onsite_part, oxidised_offsite_part, charcoal_offsite_part, unburned_part, burned_of, row_matter, matter_of, no_matter, plus_matter, MatterMost}
+use Rattle.totals.proofs.Sums.{sum-next}
+use Rattle.matter.specs.Matter.{lost_biomass, left_by, oxidised_onsite_part, charcoal_onsite_part, oxidised_offsite_part, charcoal_offsite_part, unburned_part, row_matter, matter_of, no_matter, plus_matter, MatterMost}
 use Rattle.matter.specs.declared.Matter.{Matter}
 
 -- an area by a density, and biomass by two fractions
@@ -72,66 +73,38 @@ module _ (r : List ℕ) (h : above_limit conversion r ≡ false) where
     unburned = omega (arith, unburned-below, (value_words (unburned_part r)).number);
   }
 
--- a larger bound, none, and a sum
+-- a larger bound
 pub most_le : {a b : ℕ} {m : Matter} → MatterMost a m → a ≤ b → MatterMost b m
 most_le p l = record { onsite = (omega (arith, p.onsite.0), omega (arith, p.onsite.1)); offsite = (omega (arith, p.offsite.0), omega (arith, p.offsite.1)); unburned = omega (arith, p.unburned) }
 
-pub most_none : MatterMost 0 no_matter
-most_none = let z = (value_words 0).number in record { onsite = (omega arith, omega arith); offsite = (omega arith, omega arith); unburned = omega arith }
-
-both_most : {a b : ℕ} (x y : DryMatter) → value x.0 ≤ a → value y.0 ≤ b → value (words_of (value x.0 + value y.0)) ≤ a + b
-both_most x y hx hy = omega (arith, (value_words (value x.0 + value y.0)).number)
-
-pub most_plus : {a b : ℕ} (x y : Matter) → MatterMost a x → MatterMost b y → MatterMost (a + b) (plus_matter x y)
-unfolding plus_matter
-most_plus x y p q = record {
-  onsite = (both_most x.onsite.oxidised y.onsite.oxidised p.onsite.0 q.onsite.0, both_most x.onsite.charcoal y.onsite.charcoal p.onsite.1 q.onsite.1);
-  offsite = (both_most x.offsite.oxidised y.offsite.oxidised p.offsite.0 q.offsite.0, both_most x.offsite.charcoal y.offsite.charcoal p.offsite.1 q.offsite.1);
-  unburned = both_most x.unburned y.unburned p.unburned q.unburned;
-}
-
--- one row more
-pub turn : {s : List ℕ} {i at : ℕ} {t p u : Matter} → Stands s 1 i at → p ≡ row_matter (row_at conversion s at)
-    → t ≡ matter_of (take i (rows 1 s)) → u ≡ plus_matter t p → u ≡ matter_of (take (i + 1) (rows 1 s))
-unfolding plus_matter row_matter matter_of
-turn {s} {i} {at} w p t u = u ∙ ap₂ plus_matter t p ∙ (λ j. record {
+-- what the rows add up to
+one_row : (rs : List (List ℕ)) (i : ℕ) → i < length rs → plus_matter (matter_of (take i rs)) (row_matter (get_or rs i [])) ≡ matter_of (take (i + 1) rs)
+unfolding plus_matter matter_of row_matter
+one_row rs i l = λ j. record {
   onsite = record { oxidised = more oxidised_onsite_part j; charcoal = more charcoal_onsite_part j };
   offsite = record { oxidised = more oxidised_offsite_part j; charcoal = more charcoal_offsite_part j };
   unburned = more unburned_part j;
-})
+}
   where
-    more : (f : List ℕ → ℕ) → dry_matter (value (words_of (sum_of f (take i (rows 1 s)))) + value (words_of (f (row_at conversion s at)))) ≡ dry_matter (sum_of f (take (i + 1) (rows 1 s)))
-    more f = ap dry_matter (next f w (value_words _).number (value_words _).number)
+    more : (f : List ℕ → ℕ) → dry_matter (value (words_of (sum_of f (take i rs))) + value (words_of (f (get_or rs i [])))) ≡ dry_matter (sum_of f (take (i + 1) rs))
+    more f = ap dry_matter (omega (arith, amounts (sum_of f (take i rs)), amounts (f (get_or rs i [])), sum-next f rs i l))
+
+none_yet : no_matter ≡ matter_of []
+unfolding matter_of sum_of
+none_yet = refl
+
+pub matter_added : (rs : List (List ℕ)) → added_up no_matter plus_matter row_matter rs ≡ matter_of rs
+matter_added rs = comes_to plus_matter row_matter matter_of rs none_yet (one_row rs)
 
 module _ (s : List ℕ) (c : Counts) (acc : Formed s c) where
-  -- 32 rows, the first i of them
-  first_most : (i : ℕ) (f : List ℕ → ℕ) → ((r : List ℕ) → above_limit conversion r ≡ false → f r ≤ 10 ^ 16) → value (words_of (sum_of f (take i (rows 1 s)))) ≤ 32 * 10 ^ 16
-  first_most i f h = omega (arith, small s c acc 1 f (10 ^ 16) (lit≤ tt) one_kind h, sum_le f (rows 1 s) i, (value_words (sum_of f (take i (rows 1 s)))).number)
+  -- 32 rows
+  all_most : (f : List ℕ → ℕ) → ((r : List ℕ) → above_limit conversion r ≡ false → f r ≤ 10 ^ 16) → value (words_of (sum_of f (rows 1 s))) ≤ 32 * 10 ^ 16
+  all_most f h = omega (arith, small s c acc 1 f (10 ^ 16) (lit≤ tt) one_kind h, amounts (sum_of f (rows 1 s)))
 
-  pub first-rows_most : (i : ℕ) → MatterMost (32 * 10 ^ 16) (matter_of (take i (rows 1 s)))
-  unfolding matter_of
-  first-rows_most i = record {
-    onsite = (first_most i oxidised_onsite_part oxidised_onsite-below, first_most i charcoal_onsite_part charcoal_onsite-below);
-    offsite = (first_most i oxidised_offsite_part oxidised_offsite-below, first_most i charcoal_offsite_part charcoal_offsite-below);
-    unburned = first_most i unburned_part unburned-below;
-  }
-
-  -- so there is room for one more
-  pub room : {t p : Matter} (i : ℕ) (r : List ℕ) → above_limit conversion r ≡ false → t ≡ matter_of (take i (rows 1 s)) → p ≡ row_matter r → MatterMost (2 ^ 80) t × MatterMost (2 ^ 80) p
-  room i r h e q = (subst (MatterMost (2 ^ 80)) (sym e) (most_le (first-rows_most i) (lit≤ tt)), subst (MatterMost (2 ^ 80)) (sym q) (most_le (row_most r h) (lit≤ tt)))
-
-  -- past the last row
-  pub all : {t : Matter} (i : ℕ) → c.conversion ≤ i → t ≡ matter_of (take i (rows 1 s)) → t ≡ matter_of (rows 1 s)
-  unfolding matter_of
-  all i l e = e ∙ (λ j. record {
-    onsite = burned_of (to oxidised_onsite_part j) (to charcoal_onsite_part j);
-    offsite = burned_of (to oxidised_offsite_part j) (to charcoal_offsite_part j);
-    unburned = dry_matter (to unburned_part j);
-  })
-    where
-      to : (f : List ℕ → ℕ) → sum_of f (take i (rows 1 s)) ≡ sum_of f (rows 1 s)
-      to f = whole s c acc f 1 i (lit≤ tt) one_kind l
-
-  -- all rows
   pub return_most : MatterMost (32 * 10 ^ 16) (matter_of (rows 1 s))
-  return_most = subst (MatterMost (32 * 10 ^ 16)) (all c.conversion (omega arith) refl) (first-rows_most c.conversion)
+  unfolding matter_of
+  return_most = record {
+    onsite = (all_most oxidised_onsite_part oxidised_onsite-below, all_most charcoal_onsite_part charcoal_onsite-below);
+    offsite = (all_most oxidised_offsite_part oxidised_offsite-below, all_most charcoal_offsite_part charcoal_offsite-below);
+    unburned = all_most unburned_part unburned-below;
+  }

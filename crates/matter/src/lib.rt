@@ -10,10 +10,9 @@ ghost use Rattle.form.specs.Verdict.{rows, Formed};
 ghost use Rattle.totals.specs.Masses.{dry_matter};
 ghost use Rattle.matter.specs.Matter.{left_by, burned_of, row_matter, matter_of};
 
-use crate::several::{add_matter, no_matter};
-use form::{Counts, four_at, row_start, two_at};
+use form::{Counts, four_at, two_at};
+use totals::adding::sum_rows;
 use totals::{DryMatter, DryMatterPart, lost, share_of};
-use wide::of;
 
 // What burning made of dry matter.
 #[derive(Clone, Copy)]
@@ -43,8 +42,7 @@ fn mass_of(biomass: DryMatterPart, fraction: u32, share: u32) -> DryMatter
     requires { (biomass.0 ≤ 10 ^ 10) × (fraction ≤ 1000) × (share ≤ 1000) }
     ensures { result ≡ dry_matter (biomass.0 * fraction * share) }
 {
-    let part = share_of(share_of(biomass, fraction), share);
-    DryMatter(of(part.0))
+    share_of(share_of(biomass, fraction), share).into()
 }
 
 // What becomes of a fraction that is burned.
@@ -84,12 +82,5 @@ pub fn work_matter(bytes: &[u8], c: Counts) -> Matter
     requires { Formed bytes.now c }
     ensures { result ≡ matter_of (rows 1 bytes.now) }
 {
-    let n = c.conversion as usize;
-    let mut t = no_matter();
-    let mut i: usize = 0;
-    while i < n {
-        t = add_matter(t, matter_at(bytes, row_start(0, i)));
-        i += 1;
-    }
-    t
+    sum_rows(bytes, c, 1, |at| matter_at(bytes, at))
 }

@@ -1,54 +1,74 @@
 // The five masses of two rows or returns, added up one by one.
-ghost use Rattle.std.specs.Prelude.{◌≡◌, ◌+◌, ◌^◌, ◌<◌};
-ghost use Rattle.wide.specs.Numbers.{value};
-ghost use Rattle.matter.specs.Matter.{no_matter, both_masses, plus_burned, plus_matter, BurnedMost, MatterMost};
+ghost use Rattle.std.specs.Prelude.{◌^◌};
+ghost use Rattle.matter.specs.Matter.{burned_of, no_matter, plus_burned, plus_matter, BurnedMost, MatterMost};
+ghost use Rattle.matter.specs.Laws.{burned_none, burned_both, burned_fit, most_none, most_plus, matter_fit};
 
 use crate::{Burned, Matter};
 use totals::DryMatter;
-use wide::{Wide, add};
+use totals::adding::AddsUp;
 
-// Of no row and no return.
-pub fn no_matter() -> Matter
-    ensures { result ≡ no_matter }
-{
-    let zero = Wide { lo: 0, hi: 0 };
-    let none = Burned {
-        oxidised: DryMatter(zero),
-        charcoal: DryMatter(zero),
-    };
-    Matter {
-        onsite: none,
-        offsite: none,
-        unburned: DryMatter(zero),
+impl AddsUp for Burned {
+    ghost none = { burned_of 0 0 };
+
+    ghost both = { plus_burned };
+
+    ghost Most = { BurnedMost };
+
+    ghost Fit = { λ a b. BurnedMost (2 ^ 80) a × BurnedMost (2 ^ 80) b };
+
+    ghost row_most = { 10 ^ 16 };
+
+    ghost most_none = { burned_none };
+
+    ghost most_both = { burned_both };
+
+    ghost fit = { burned_fit };
+
+    fn nothing() -> Burned {
+        Burned {
+            oxidised: DryMatter::nothing(),
+            charcoal: DryMatter::nothing(),
+        }
+    }
+
+    fn plus(self, other: Burned) -> Burned {
+        Burned {
+            oxidised: self.oxidised.plus(other.oxidised),
+            charcoal: self.charcoal.plus(other.charcoal),
+        }
     }
 }
 
-pub fn both_masses(a: DryMatter, b: DryMatter) -> DryMatter
-    requires { value a.0 + value b.0 < 2 ^ 120 }
-    ensures { result ≡ both_masses a b }
-{
-    DryMatter(add(a.0, b.0))
-}
+impl AddsUp for Matter {
+    ghost none = { no_matter };
 
-fn add_burned(a: Burned, b: Burned) -> Burned
-    requires { BurnedMost (2 ^ 80) a × BurnedMost (2 ^ 80) b }
-    ensures { result ≡ plus_burned a b }
-{
-    Burned {
-        oxidised: both_masses(a.oxidised, b.oxidised),
-        charcoal: both_masses(a.charcoal, b.charcoal),
+    ghost both = { plus_matter };
+
+    ghost Most = { MatterMost };
+
+    ghost Fit = { λ a b. MatterMost (2 ^ 80) a × MatterMost (2 ^ 80) b };
+
+    ghost row_most = { 10 ^ 16 };
+
+    ghost most_none = { most_none };
+
+    ghost most_both = { most_plus };
+
+    ghost fit = { matter_fit };
+
+    fn nothing() -> Matter {
+        Matter {
+            onsite: Burned::nothing(),
+            offsite: Burned::nothing(),
+            unburned: DryMatter::nothing(),
+        }
     }
-}
 
-pub fn add_matter(a: Matter, b: Matter) -> Matter
-    requires { MatterMost (2 ^ 80) a × MatterMost (2 ^ 80) b }
-    ensures { result ≡ plus_matter a b }
-{
-    let onsite = add_burned(a.onsite, b.onsite);
-    let offsite = add_burned(a.offsite, b.offsite);
-    Matter {
-        onsite,
-        offsite,
-        unburned: both_masses(a.unburned, b.unburned),
+    fn plus(self, other: Matter) -> Matter {
+        Matter {
+            onsite: self.onsite.plus(other.onsite),
+            offsite: self.offsite.plus(other.offsite),
+            unburned: self.unburned.plus(other.unburned),
+        }
     }
 }

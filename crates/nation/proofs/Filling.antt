@@ -1,10 +1,8 @@
 -- What is taken for the next return of an input whose bytes are known. Assumes nothing.
---     is_whole, is_going      what a test by `!` says
 --     head_ends     the input ended within the first six bytes
 --     head_filled   as many as these six say, as far as there are any
 use Prim.Native.Nat.{ℕ, ◌+◌, ◌-◌, ◌<◌, ◌≤◌}
-use mathlib.Core.Path.{◌≡◌, refl, sym, ap, ◌∙◌}
-use mathlib.Core.Bool.{Bool, true, false, not}
+use mathlib.Core.Path.{◌≡◌, sym, ap, ◌∙◌}
 use mathlib.Core.List.{List, [], ◌++◌, append_assoc, append-nil}
 use native.Mathlib.Decide.{dec_lt}
 use native.Mathlib.Omega.{arith}
@@ -18,14 +16,6 @@ use Rattle.console.specs.Input.{TakesAll}
 use Rattle.cutting.specs.Cutting.{wanted_of}
 use Rattle.cutting.proofs.Reading.{few_wanted, wanted-head}
 use Rattle.nation.specs.Turns.{TakesWanted}
-
-pub is_whole : (b : Bool) → not b ≡ false → b ≡ true
-is_whole true e = refl
-is_whole false e = sym e
-
-pub is_going : (b : Bool) → not b ≡ true → b ≡ false
-is_going true e = sym e
-is_going false e = refl
 
 -- what stands in front is the first n of it, where there is no more of it or it is n
 cut_at : (x u : List ℕ) (n : ℕ) → length x ≤ n → (length x < n → u ≡ []) → (take n (x ++ u) ≡ x) × (drop n (x ++ u) ≡ u)

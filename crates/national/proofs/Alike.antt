@@ -1,6 +1,7 @@
 -- The turns of a program that reads a return at a time come to what the file in memory comes to. Assumes nothing.
 --     turns_alike     turn by turn, whatever was taken before
 --     same_passed     of a whole file; same_text, its text
+use Rattle.std.specs.Prelude.{Result, Ok, Err}
 use Prim.Native.Nat.{ℕ, zero, suc, ◌+◌, ◌<◌, ◌≤◌}
 use mathlib.Core.Path.{◌≡◌, refl, sym, ap, ap₂, ◌∙◌}
 use mathlib.Core.List.{List, [], ◌∷◌, ◌++◌, append-nil, append_assoc, flat_map}
@@ -11,8 +12,6 @@ use lib.Seq.{take-take}
 use Rattle.form.specs.Verdict.{verdict_of}
 use Rattle.cutting.specs.Cutting.{most_returns, next_of, end_of, next_after, Cut, stopped_by, behind, cut_by, cut_from, wanted_of}
 use Rattle.cutting.specs.declared.Stop.{Stop}
-use Rattle.cutting.specs.declared.Next.{Next}
-use Rattle.cutting.specs.declared.Next.TheVariants.{Return, Stopped}
 use Rattle.cutting.proofs.Reading.{as_read, wanted_is}
 use Rattle.gathered.specs.Gathered.{tally_of, count_of, step_of}
 use Rattle.gathered.specs.declared.Tally.{Tally}
@@ -42,12 +41,12 @@ one_first done r c =
     ∙ sym (text_append (refusal_by (suc (length done)) v) (refusals_from (suc (suc (length done))) c.returns)) in
     λ i. record { tally = tally_of (append_assoc done (r ∷ []) c.returns i); lines = lines i; stop = c.stop }
 
-turn_by : (m : ℕ) (done : List (List ℕ)) (s : List ℕ) (x : Next) → next_of s ≡ x → ((u : List ℕ) → turns_from (suc m) (tally_of (done ++ (u ∷ []))) (drop (wanted_of s) s) ≡ pass_of (done ++ (u ∷ [])) (cut_from m (drop (wanted_of s) s)))
+turn_by : (m : ℕ) (done : List (List ℕ)) (s : List ℕ) (x : Result ℕ Stop) → next_of s ≡ x → ((u : List ℕ) → turns_from (suc m) (tally_of (done ++ (u ∷ []))) (drop (wanted_of s) s) ≡ pass_of (done ++ (u ∷ [])) (cut_from m (drop (wanted_of s) s)))
     → passed_by (tally_of done) (take (wanted_of s) s) x (λ t. turns_from (suc m) t (drop (wanted_of s) s)) ≡ pass_of done (cut_by s x (λ n. cut_from m (drop n s)))
-turn_by m done s (Return n) e h =
+turn_by m done s (Ok n) e h =
     let w = wanted_is s n e in
     let r = take n s in
-    ap (λ (y : List ℕ). passed_by (tally_of done) y (Return n) (λ t. turns_from (suc m) t (drop (wanted_of s) s))) (ap (λ (j : ℕ). take j s) w)
+    ap (λ (y : List ℕ). passed_by (tally_of done) y (Ok n) (λ t. turns_from (suc m) t (drop (wanted_of s) s))) (ap (λ (j : ℕ). take j s) w)
     ∙ ap (λ (y : List ℕ). over y (turns_from (suc m) (step_of (tally_of done) y) (drop (wanted_of s) s))) (take-take n n s (omega arith))
     ∙ ap (λ (t : Tally). over r (turns_from (suc m) t (drop (wanted_of s) s))) (sym (tally-last done r))
     ∙ ap (over r) (h r)
@@ -56,20 +55,20 @@ turn_by m done s (Return n) e h =
   where
     over : List ℕ → Passed → Passed
     over r p = record { tally = p.tally; lines = line_for (tally_of done) r ++ p.lines; stop = p.stop }
-turn_by m done s (Stopped w) e h = none_more done w
+turn_by m done s (Err w) e h = none_more done w
 
 pub turns_alike : (m : ℕ) (done : List (List ℕ)) (s : List ℕ) → length done + m ≡ most_returns → turns_from (suc m) (tally_of done) s ≡ pass_of done (cut_from m s)
 unfolding turns_from cut_from
 turns_alike zero done s h =
     let k = count_of (tally_of done) in
     let o : most_returns ≤ k = omega (arith, counted done) in
-    let e : next_after k s ≡ Stopped (end_of s) = rw (le-ltb k most_returns o) in
-    ap (λ (x : Next). passed_by (tally_of done) (take (wanted_of s) s) x (λ u. turns_from 0 u (drop (wanted_of s) s))) (as_read s k ∙ e) ∙ none_more done (end_of s)
+    let e : next_after k s ≡ Err (end_of s) = rw (le-ltb k most_returns o) in
+    ap (λ (x : Result ℕ Stop). passed_by (tally_of done) (take (wanted_of s) s) x (λ u. turns_from 0 u (drop (wanted_of s) s))) (as_read s k ∙ e) ∙ none_more done (end_of s)
 turns_alike (suc m) done s h =
     let k = count_of (tally_of done) in
     let o : k < most_returns = omega (arith, counted done) in
     let e : next_after k s ≡ next_of s = rw (lt-ltb k most_returns o) in
-    ap (λ (x : Next). passed_by (tally_of done) (take (wanted_of s) s) x (λ u. turns_from (suc m) u (drop (wanted_of s) s))) (as_read s k ∙ e)
+    ap (λ (x : Result ℕ Stop). passed_by (tally_of done) (take (wanted_of s) s) x (λ u. turns_from (suc m) u (drop (wanted_of s) s))) (as_read s k ∙ e)
     ∙ turn_by m done s (next_of s) refl (λ u. turns_alike m (done ++ (u ∷ [])) (drop (wanted_of s) s) (omega (arith, length-append done (u ∷ []))))
 
 pub same_passed : (s : List ℕ) → let n = nation_of s in passed s ≡ record { tally = n.tally; lines = refusals_text n.refusals; stop = n.stop }

@@ -11,8 +11,8 @@ use lib.Dec.{lit≤}
 use lib.ListN.{length}
 use Rattle.form.specs.Verdict.{verdict_of}
 use Rattle.form.specs.declared.Counts.{Counts}
-use Rattle.form.specs.declared.Verdict.{Verdict}
-use Rattle.form.specs.declared.Verdict.TheVariants.{Accepted, Refused}
+use Rattle.form.specs.Refusals.{Verdict}
+use Rattle.std.specs.Prelude.{Ok, Err}
 use Rattle.ledger.specs.Derived.{stocks_of, conversion_of}
 use Rattle.worksheets.specs.Sheets.{by_kind, figures_of}
 use Rattle.cutting.specs.Cutting.{most_returns, Cut, Piece, Pieces, end_to_end}
@@ -35,8 +35,8 @@ whole-stop xs p l = ap (λ (c : Cut). c.stop) (whole_file most_returns xs p l)
 -- the accepted ones among pieces are pieces
 kept_by : (r : List ℕ) (rs : List (List ℕ)) (v : Verdict) → Piece r → Pieces rs → Pieces (if_accepted v (r ∷ rs) rs)
 unfolding Pieces
-kept_by r rs (Accepted c) p q = (p, q)
-kept_by r rs (Refused n i) p q = q
+kept_by r rs (Ok c) p q = (p, q)
+kept_by r rs (Err refusal) p q = q
 
 accepted_pieces : (rs : List (List ℕ)) → Pieces rs → Pieces (accepted_of rs)
 unfolding Pieces accepted_of
@@ -55,7 +55,7 @@ accepted_alone rs p l =
     ∙ ap (λ (t : Tally). record { accepted = t.accepted; refused = 0; ledger = t.ledger }) (sym (ap tally_of (cut_pieces rs p l)))
 
 -- one return by itself
-pub one_return-figures : (r : List ℕ) {c : Counts} → Piece r → verdict_of r ≡ Accepted c
+pub one_return-figures : (r : List ℕ) {c : Counts} → Piece r → verdict_of r ≡ Ok c
     → let t = (nation_of r).tally in let f = figures_of (by_kind r) in (stocks_of t.ledger ≡ f.stocks) × (conversion_of t.ledger ≡ f.conversion) × (t.ledger.matter ≡ f.matter)
 unfolding end_to_end Pieces
 one_return-figures r p e =

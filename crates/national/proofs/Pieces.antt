@@ -1,20 +1,18 @@
 -- The parts of the lines, one after the other, and how long the lines are. Assumes nothing.
 --     as_listed, listed-length     a refusal's line; by_refused, the text of its verdict
 --     as_stop, stop-length         a stop's line; as_blocks
-use Prim.Native.Nat.{ℕ, ◌+◌, ◌≤◌}
-use mathlib.Core.Path.{◌≡◌, refl, sym, ap, subst, ◌∙◌}
+use Prim.Native.Nat.{ℕ, ◌+◌}
+use mathlib.Core.Path.{◌≡◌, refl, sym, ap, ◌∙◌}
 use mathlib.Core.List.{List, [], ◌∷◌, ◌++◌, append-nil, append_assoc, flat_map}
 use native.Mathlib.Nat.{add-zero}
 use native.Mathlib.Omega.{arith}
 use lib.IntN.{ℤ, pos}
-use lib.ListN.{length, length-append, take}
-use lib.Seq.{take-length}
+use lib.ListN.{length, length-append}
 use Rattle.decimal.specs.Digits.{decimal, WrittenAt}
 use Rattle.phrases.specs.Ascii.{codes}
 use Rattle.phrases.specs.Lines.{ended_by, refused_line}
 use Rattle.phrases.proofs.LineTexts.{as_text}
-use Rattle.form.specs.declared.Verdict.{Verdict}
-use Rattle.form.specs.declared.Verdict.TheVariants.{Refused}
+use Rattle.form.specs.Refusals.{Refused, Verdict}
 use Rattle.cutting.specs.declared.Stop.TheVariants.{Blocks}
 use Rattle.national.specs.Lines.{Refusal, refusal_line, stop_line, stop_text}
 use Rattle.national.specs.Nation.{refusal_by, refusals_text}
@@ -42,9 +40,9 @@ one_refusal r = sym (append-nil (refusal_line r))
 pub by_refused : (i : ℕ) {v : Verdict} {n p : ℕ} → v ≡ Refused n p → refusal_line (record { position = i; number = n; place = p }) ≡ refusals_text (refusal_by i v)
 by_refused i e = one_refusal _ ∙ sym (ap (λ (x : Verdict). refusals_text (refusal_by i x)) e)
 
-pub as_stop : (i : ℕ) (why : List ℕ) (z : ℤ) {d e : List ℕ} {j k : ℕ} → z ≡ pos i → WrittenAt ((codes "stopped " ++ ended_by 32 z) ++ take (length why) why) d e j k
+pub as_stop : (i : ℕ) (why : List ℕ) (z : ℤ) {d e : List ℕ} {j k : ℕ} → z ≡ pos i → WrittenAt ((codes "stopped " ++ ended_by 32 z) ++ why) d e j k
     → WrittenAt (stop_line i why) d e j k
-as_stop i why z e w = as_text (ap (λ (x : List ℕ). (codes "stopped " ++ ended_by 32 z) ++ x) (take-length why) ∙ spaced (codes "stopped ") why i z e) w
+as_stop i why z e w = as_text (spaced (codes "stopped ") why i z e) w
 
 pub stop-length : (i : ℕ) (why : List ℕ) → length (stop_line i why) ≡ 9 + length (decimal i) + length why
 stop-length i why = simp length-append (omega arith)

@@ -3,6 +3,7 @@
 --     lines-last                the refusals of returns, with one return more
 --     Underway, setting_out, further, arrived     the turns of the run: what was done so far
 --     few_taken, has_room, whole-text             its end
+use Rattle.std.specs.Prelude.{Ok, Err}
 use Prim.Native.Nat.{ℕ, suc, ◌+◌, ◌-◌, ◌*◌, ◌<◌, ◌≤◌}
 use mathlib.Core.Path.{◌≡◌, refl, sym, ap, ap₂, subst, ◌∙◌}
 use mathlib.Core.List.{List, [], ◌∷◌, ◌++◌, append-nil, append_assoc, flat_map}
@@ -17,24 +18,22 @@ use Rattle.phrases.specs.Lines.{WrittenIn}
 use Rattle.phrases.proofs.LineTexts.{as_text}
 use Rattle.phrases.proofs.Room.{refused-length}
 use Rattle.form.specs.Verdict.{verdict_of}
-use Rattle.form.specs.declared.Verdict.{Verdict}
-use Rattle.form.specs.declared.Verdict.TheVariants.{Accepted, Refused}
+use Rattle.form.specs.Refusals.{Verdict}
+use Rattle.std.specs.Prelude.{Ok, Err}
 use Rattle.form.proofs.EachKind.{few_kinds}
 use Rattle.form.proofs.Meaning.{small}
 use Rattle.cutting.specs.Cutting.{most_returns, next_of, next_after, Cut, cut_file}
-use Rattle.cutting.specs.declared.Next.{Next}
-use Rattle.cutting.specs.declared.Next.TheVariants.{Return, Stopped}
 use Rattle.cutting.specs.declared.Stop.{Stop}
 use Rattle.cutting.proofs.Going.{Going, at_start, one_more, at_stop, return-after, size_of, few_cut}
 use Rattle.ledger.specs.Ledger.{Bounded}
-use Rattle.gathered.specs.Gathered.{accepted_of, refused_of, tally_of, count_of, step_of, Roomy}
+use Rattle.gathered.specs.Gathered.{tally_of, count_of, step_of, Roomy}
 use Rattle.gathered.specs.declared.Tally.{Tally}
 use Rattle.gathered.proofs.Tallies.{tally-last, counted}
 use Rattle.gathered.proofs.Sizes.{tally-roomy, tally-bounded}
 use Rattle.national.specs.Lines.{Refusal, refusal_line}
 use Rattle.national.specs.Nation.{refusal_by, refusals_from, refusals_text, end_text, printed_nation}
-use Rattle.national.specs.Steps.{line_room, size_in, stop_in, line_for, Ends}
-use Rattle.national.proofs.Pieces.{by_refused, listed-length, written_none}
+use Rattle.national.specs.Steps.{line_room, line_for, Ends}
+use Rattle.national.proofs.Pieces.{by_refused, listed-length}
 
 -- the line of one return more, as the code has its position and its verdict
 pub line_is : (t : Tally) (s : List ℕ) {i : ℕ} {v : Verdict} → i ≡ count_of t → v ≡ verdict_of s → refusals_text (refusal_by (i + 1) v) ≡ line_for t s
@@ -42,24 +41,24 @@ line_is t s e q = ap₂ (λ (j : ℕ) (x : Verdict). refusals_text (refusal_by j
 
 short_by : (i : ℕ) (s : List ℕ) (v : Verdict) → verdict_of s ≡ v → i ≤ 500 → length (refusals_text (refusal_by i v)) ≤ line_room
 unfolding flat_map
-short_by i s (Accepted c) e h = omega arith
-short_by i s (Refused n p) e h =
-    let w = small s n p e in
+short_by i s (Ok c) e h = omega arith
+short_by i s (Err r) e h =
+    let w = small s r.number r.place e in
     omega (
       arith,
-      ap length (by_refused i {v = Refused n p} refl),
-      listed-length i n p,
-      refused-length n p,
+      ap length (by_refused i {v = Err r} refl),
+      listed-length i r.number r.place,
+      refused-length r.number r.place,
       decimal-length 2 i (omega arith),
-      decimal-length 1 n (omega (arith, w.0)),
-      decimal-length 2 p (omega (arith, w.1, few_kinds)),
+      decimal-length 1 r.number (omega (arith, w.0)),
+      decimal-length 2 r.place (omega (arith, w.1, few_kinds)),
     )
 
 pub line-short : (t : Tally) (s : List ℕ) → count_of t < 500 → length (line_for t s) ≤ line_room
 line-short t s h = short_by (suc (count_of t)) s (verdict_of s) refl h
 
 -- the part of a file from a place on
-pub rest_is : (s : List ℕ) (from : ℕ) → take (length s - from) (drop from s) ≡ drop from s
+rest_is : (s : List ℕ) (from : ℕ) → take (length s - from) (drop from s) ≡ drop from s
 rest_is s from = take_all (length s - from) (drop from s) (omega (arith, length-drop from s))
 
 -- the refusals' lines of returns with one return more
@@ -83,36 +82,25 @@ lines-last done t s e =
     ∙ sym (text_append (refusals_from 1 done) (refusal_by (1 + length done) (verdict_of s)))
     ∙ ap refusals_text (sym (refusals-last 1 done s))
 
--- these were taken, and their lines are written; so many bytes come next
-pub record Underway (s before : List ℕ) (t : Tally) (at from size : ℕ) (out : List ℕ) : Type 0 where
+-- these were taken, and their lines are written
+pub record Underway (s before : List ℕ) (t : Tally) (at from : ℕ) (out : List ℕ) : Type 0 where
   pub done : List (List ℕ)
   pub going : Going s done from
   pub tally : t ≡ tally_of done
   pub lines : WrittenAt (refusals_text (refusals_from 1 done)) before out 0 at
   pub short : at ≤ line_room * length done
-  pub next : size ≡ size_in (next_after (count_of t) (drop from s))
 
-pub setting_out : (s before : List ℕ) {t : Tally} {at size : ℕ} → t ≡ tally_of [] → at ≡ 0 → size ≡ size_in (next_after 0 (drop 0 s)) → Underway s before t at 0 size before
-unfolding refusals_from flat_map tally_of accepted_of refused_of
-setting_out s before e z n = record {
+pub setting_out : (s before : List ℕ) {t : Tally} {at : ℕ} → t ≡ tally_of [] → at ≡ 0 → Underway s before t at 0 before
+unfolding refusals_from flat_map
+setting_out s before e z = record {
   done = [];
   going = at_start s;
   tally = e;
   lines = record { room = refl; place = z };
   short = omega arith;
-  next = n ∙ ap (λ (t : Tally). size_in (next_after (count_of t) s)) (sym e);
 }
 
--- what a size says of what comes next
-returned : (x : Next) (n : ℕ) → n ≡ size_in x → (n ≡ 0 → ⊥) → x ≡ Return n
-returned (Return m) n e z = ap Return (sym e)
-returned (Stopped w) n e z = absurd (z e)
-
-stopped : (s : List ℕ) (k : ℕ) (x : Next) → next_after k s ≡ x → 0 ≡ size_in x → x ≡ Stopped (stop_in x)
-stopped s k (Return n) e z = absurd (omega (arith, (size_of s n (return-after s k n e).1).some))
-stopped s k (Stopped w) e z = refl
-
-module _ (s before : List ℕ) (t : Tally) (at from size : ℕ) (out : List ℕ) (u : Underway s before t at from size out) where
+module _ (s before : List ℕ) (t : Tally) (at from : ℕ) (out : List ℕ) (u : Underway s before t at from out) where
   count_is : count_of t ≡ length u.done
   count_is = ap count_of u.tally ∙ counted u.done
 
@@ -125,38 +113,42 @@ module _ (s before : List ℕ) (t : Tally) (at from size : ℕ) (out : List ℕ)
   pub same_room : length out ≡ length before
   same_room = ap length u.lines.room ∙ length-sets before 0 (refusals_text (refusals_from 1 u.done))
 
-  module _ (some : size ≡ 0 → ⊥) where
-    ahead : (count_of t < most_returns) × (next_of (drop from s) ≡ Return size)
-    ahead = return-after (drop from s) (count_of t) size (returned (next_after (count_of t) (drop from s)) size u.next some)
+  -- what comes next, as the code asks for it
+  asked : (k : ℕ) → k ≡ count_of t → next_after (count_of t) (drop from s) ≡ next_after k (take (length s - from) (drop from s))
+  asked k i = ap₂ next_after (sym i) (sym (rest_is s from))
 
-    pub fits : (from + size ≤ length s) × (at + line_room ≤ line_room * 500)
-    fits = (omega (arith, (size_of (drop from s) size ahead.1).there, length-drop from s, inside), omega (arith, u.short, ahead.0, count_is))
+  -- a return comes next
+  module _ (k size : ℕ) (i : k ≡ count_of t) (e : Ok size ≡ next_after k (take (length s - from) (drop from s))) where
+    ahead : (count_of t < most_returns) × (next_of (drop from s) ≡ Ok size)
+    ahead = return-after (drop from s) (count_of t) size (asked k i ∙ sym e)
+
+    pub fits : (512 ≤ size) × (from + size ≤ length s) × (at + line_room ≤ line_room * 500)
+    fits =
+        let z = size_of (drop from s) size ahead.1 in
+        (z.some, omega (arith, z.there, length-drop from s, inside), omega (arith, u.short, ahead.0, count_is))
 
     pub roomy : Roomy t
     roomy = subst Roomy (sym u.tally) (tally-roomy u.done (omega (arith, ahead.0, count_is)))
 
-    pub further : (end : ℕ) {t' : Tally} {at' size' k : ℕ} {out' : List ℕ} → end ≡ from + size → t' ≡ step_of t (take (end - from) (drop from s))
-        → WrittenIn line_room (line_for t (take (end - from) (drop from s))) out out' at at' → k ≡ count_of t' → size' ≡ size_in (next_after k (drop end s))
-        → Underway s before t' at' end size' out'
-    further end {t'} {at'} {size'} {k} {out'} e q w i n =
+    pub further : (end : ℕ) {t' : Tally} {at' : ℕ} {out' : List ℕ} → end ≡ from + size → t' ≡ step_of t (take (end - from) (drop from s))
+        → WrittenIn line_room (line_for t (take (end - from) (drop from s))) out out' at at' → Underway s before t' at' end out'
+    further end {t'} {at'} {out'} q0 q w =
         let m : end - from ≡ size = omega arith in
         let r = take (end - from) (drop from s) in
         let g = one_more s u.done from u.going size (omega (arith, ahead.0, count_is)) ahead.1 in
         let same : take size (drop from s) ≡ r = ap (λ (j : ℕ). take j (drop from s)) (sym m) in
         record {
           done = u.done ++ (r ∷ []);
-          going = subst (λ (x : List ℕ). Going s (u.done ++ (x ∷ [])) end) same (subst (Going s (u.done ++ (take size (drop from s) ∷ []))) (sym e) g);
+          going = subst (λ (x : List ℕ). Going s (u.done ++ (x ∷ [])) end) same (subst (Going s (u.done ++ (take size (drop from s) ∷ []))) (sym q0) g);
           tally = q ∙ ap (λ (x : Tally). step_of x r) u.tally ∙ sym (tally-last u.done r);
           lines = as_text (lines-last u.done t r u.tally) (written-more u.lines w.0);
           short = omega (arith, u.short, w.1, length-append u.done (r ∷ []));
-          next = n ∙ ap (λ (j : ℕ). size_in (next_after j (drop end s))) i;
         }
 
-  pub arrived : size ≡ 0 → {w : Stop} {k : ℕ} → k ≡ count_of t → w ≡ stop_in (next_after k (drop from s)) → Ends s before out t w at
-  arrived z {w} {k} i e =
-      let x = next_after (count_of t) (drop from s) in
-      let h : x ≡ Stopped w = stopped (drop from s) (count_of t) x refl (sym z ∙ u.next) ∙ ap (λ (j : ℕ). Stopped (stop_in (next_after j (drop from s)))) (sym i) ∙ ap Stopped (sym e) in
-      let c = at_stop s u.done from u.going w (ap (λ (j : ℕ). next_after j (drop from s)) (sym count_is) ∙ h) in
+  -- none does
+  pub arrived : (k : ℕ) (w : Stop) → k ≡ count_of t → Err w ≡ next_after k (take (length s - from) (drop from s)) → Ends s before out t w at
+  arrived k w i e =
+      let c = at_stop s u.done from u.going w (ap (λ (j : ℕ). next_after j (drop from s)) (sym count_is) ∙ asked k i ∙ sym e) in
       record {
         tally = u.tally ∙ ap (λ (y : Cut). tally_of y.returns) (sym c);
         stop = ap (λ (y : Cut). y.stop) (sym c);

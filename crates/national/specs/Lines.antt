@@ -1,6 +1,6 @@
 -- §10: the lines that `nation` prints, each "ended by a line feed". Assumes nothing.
-use Rattle.std.specs.Prelude.{ℕ, suc, ◌≤◌, ℤ, pos}
-use mathlib.Core.List.{List, [], ◌∷◌, ◌++◌, flat_map}
+use Rattle.std.specs.Prelude.{ℕ, suc, ◌≤◌, ℤ, pos, Ok}
+use mathlib.Core.List.{List, [], ◌∷◌, ◌++◌, map, flat_map}
 use Rattle.wide.specs.Numbers.{value}
 use Rattle.wide.specs.Signs.{amount}
 use Rattle.wide.specs.declared.Wide.{Wide}
@@ -8,8 +8,7 @@ use Rattle.wide.specs.declared.signed.Signed.{Signed}
 use Rattle.decimal.specs.Digits.{decimal}
 use Rattle.phrases.specs.Ascii.{codes}
 use Rattle.phrases.specs.Lines.{line, refused_line}
-use Rattle.form.specs.declared.Verdict.{Verdict}
-use Rattle.form.specs.declared.Verdict.TheVariants.{Accepted, Refused}
+use Rattle.form.specs.Refusals.{Refused, Verdict}
 use Rattle.ledger.specs.Derived.{stocks_of, conversion_of}
 use Rattle.ledger.specs.declared.Stocks.{Stocks}
 use Rattle.ledger.specs.declared.Conversion.{Conversion}
@@ -71,6 +70,9 @@ totals_by accepted refused s c =
     ∷ exact (codes "decay") c.decay.0
     ∷ exact (codes "co2") c.co2.0
     ∷ []
+
+abbrev pub numbers_in : List Total → List ℤ
+numbers_in xs = map (λ (x : Total). x.number) xs
 
 -- "rounded once from them": worksheets 5-1 and 5-2 of the sum of the ledgers
 abbrev pub totals_in : Tally → List Total

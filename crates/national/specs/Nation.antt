@@ -1,9 +1,8 @@
 -- §10: the whole answer of a file of returns, and its text. Assumes nothing.
-use Rattle.std.specs.Prelude.{ℕ, suc}
+use Rattle.std.specs.Prelude.{ℕ, suc, Ok, Err}
 use mathlib.Core.List.{List, [], ◌∷◌, ◌++◌, flat_map}
 use Rattle.form.specs.Verdict.{verdict_of}
-use Rattle.form.specs.declared.Verdict.{Verdict}
-use Rattle.form.specs.declared.Verdict.TheVariants.{Accepted, Refused}
+use Rattle.form.specs.Refusals.{Verdict}
 use Rattle.cutting.specs.Cutting.{Cut, cut_file}
 use Rattle.cutting.specs.declared.Stop.{Stop}
 use Rattle.gathered.specs.Gathered.{tally_of, count_of}
@@ -12,8 +11,8 @@ use Rattle.national.specs.Lines.{Refusal, refusal_line, stop_text, totals_text}
 
 -- the refusals among returns, the first of them at a position: each by the verdict of its own bytes
 abbrev pub refusal_by : ℕ → Verdict → List Refusal
-refusal_by i (Accepted c) = []
-refusal_by i (Refused n p) = record { position = i; number = n; place = p } ∷ []
+refusal_by i (Ok c) = []
+refusal_by i (Err r) = record { position = i; number = r.number; place = r.place } ∷ []
 
 unfoldable pub refusals_from : ℕ → List (List ℕ) → List Refusal
 refusals_from i [] = []

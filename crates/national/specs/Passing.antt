@@ -1,10 +1,8 @@
 -- The turns of a program that reads a return at a time, one after the other (`settle`), and what they come to. Assumes nothing.
-use Rattle.std.specs.Prelude.{ℕ, zero, suc, List, [], ◌++◌, take, drop}
+use Rattle.std.specs.Prelude.{ℕ, zero, suc, List, [], ◌++◌, take, drop, Result, Ok, Err}
 use Rattle.cutting.specs.Cutting.{most_returns, next_after, wanted_of}
 use Rattle.cutting.specs.declared.Stop.{Stop}
 use Rattle.cutting.specs.declared.Stop.TheVariants.{Whole}
-use Rattle.cutting.specs.declared.Next.{Next}
-use Rattle.cutting.specs.declared.Next.TheVariants.{Return, Stopped}
 use Rattle.gathered.specs.Gathered.{tally_of, count_of}
 use Rattle.gathered.specs.declared.Tally.{Tally}
 use Rattle.national.specs.Nation.{end_text}
@@ -17,11 +15,11 @@ pub record Passed : Type 0 where
   pub stop : Stop
 
 -- by what comes next in the bytes that were read, and what comes behind it
-abbrev pub passed_by : Tally → List ℕ → Next → (Tally → Passed) → Passed
-passed_by t seen (Return n) more =
-    let p = more (tally_after t seen (Return n)) in
-    record { tally = p.tally; lines = line_after t seen (Return n) ++ p.lines; stop = p.stop }
-passed_by t seen (Stopped w) more = record { tally = t; lines = []; stop = w }
+abbrev pub passed_by : Tally → List ℕ → Result ℕ Stop → (Tally → Passed) → Passed
+passed_by t seen (Ok n) more =
+    let p = more (tally_after t seen (Ok n)) in
+    record { tally = p.tally; lines = line_after t seen (Ok n) ++ p.lines; stop = p.stop }
+passed_by t seen (Err w) more = record { tally = t; lines = []; stop = w }
 
 -- each turn reads the wanted bytes of what is left of the file, and the next one reads on behind them
 unfoldable pub turns_from : ℕ → Tally → List ℕ → Passed

@@ -1,40 +1,41 @@
 // The lines of the national line, written to room that is long enough.
-ghost use Rattle.std.specs.Prelude.{◌≡◌, cond, ◌+◌, ◌≤◌, length};
+ghost use Rattle.std.specs.Prelude.{◌≡◌, ◌+◌, ◌≤◌, length};
 ghost use Rattle.decimal.specs.Digits.{WrittenAt};
-ghost use Rattle.phrases.specs.Lines.{WrittenIn};
+ghost use Rattle.phrases.specs.Lines.{WrittenIn, amounts};
 ghost use Rattle.ledger.specs.Ledger.{Bounded};
 ghost use Rattle.cutting.specs.Cutting.{most_returns};
 ghost use Rattle.cutting.specs.declared.Stop.TheVariants.{Blocks};
 ghost use Rattle.gathered.specs.Gathered.{count_of};
-ghost use Rattle.national.specs.Lines.{refusal_line, stop_line, stop_text, columns_text, totals_text};
+ghost use Rattle.national.specs.Lines.{refusal_line, stop_line, stop_text, numbers_in, totals_by, columns_text, totals_text};
 ghost use Rattle.national.specs.Nation.{refusal_by, refusals_text};
-ghost use Rattle.national.specs.Steps.{stop_room, columns_room, totals_room, total_numbers};
+ghost use Rattle.national.specs.Steps.{stop_room, columns_room, totals_room};
 
 use cutting::Stop;
 use fates::put_matter;
-use form::Verdict;
+use form::{Counts, Refusal};
 use gathered::Tally;
 use ledger::{Conversion, Stocks, work_conversion, work_stocks};
-use phrases::text::{plain, put, put_value};
+use phrases::text::{plain, put, put_value, whole};
 use phrases::{put_lines, put_refused};
+use wide::signed::Signed;
 
 fn put_listed(position: u32, number: u8, place: u32, out: &mut [u8], at: usize) -> usize
     requires { at + length (refusal_line (record { position = position; number = number; place = place })) ≤ length out.old }
     ensures { WrittenAt (refusal_line (record { position = position; number = number; place = place })) out.old out.new at result }
 {
-    let a = put(b"return ", 7, out, at);
+    let a = put(b"return ", out, at);
     let b = put_value(plain(position as u64), 32, out, a);
     put_refused(number, place, out, b)
 }
 
 // The line of a return that is refused, and nothing of one that is accepted.
-pub fn put_refusal(position: u32, v: Verdict, out: &mut [u8], at: usize) -> usize
+pub fn put_refusal(position: u32, v: Result<Counts, Refusal>, out: &mut [u8], at: usize) -> usize
     requires { at + length (refusals_text (refusal_by position v)) ≤ length out.old }
     ensures { WrittenAt (refusals_text (refusal_by position v)) out.old out.new at result }
 {
     match v {
-        Verdict::Accepted(_) => at,
-        Verdict::Refused { number, place } => put_listed(position, number, place, out, at),
+        Ok(_) => at,
+        Err(r) => put_listed(position, r.number, r.place, out, at),
     }
 }
 
@@ -42,9 +43,9 @@ fn put_why(position: u32, why: &[u8], out: &mut [u8], at: usize) -> usize
     requires { at + length (stop_line position why.now) ≤ length out.old }
     ensures { WrittenAt (stop_line position why.now) out.old out.new at result }
 {
-    let a = put(b"stopped ", 8, out, at);
+    let a = put(b"stopped ", out, at);
     let b = put_value(plain(position as u64), 32, out, a);
-    put(why, why.len(), out, b)
+    put(why, out, b)
 }
 
 fn put_blocks(position: u32, blocks: u32, out: &mut [u8], at: usize) -> usize
@@ -68,60 +69,24 @@ pub fn put_stop(position: u32, stop: Stop, out: &mut [u8], at: usize) -> usize
     }
 }
 
-fn sign_of(below: bool) -> u64
-    ensures { result ≡ cond below 1 0 }
+// In the order of the lines.
+fn list_totals(accepted: u32, refused: u32, s: Stocks, c: Conversion) -> [Signed; 13]
+    ensures { amounts result ≡ numbers_in (totals_by accepted refused s c) }
 {
-    if below { 1 } else { 0 }
-}
-
-// Three numbers each, in the order of the lines.
-fn list_totals(accepted: u32, refused: u32, s: Stocks, c: Conversion) -> [u64; 39]
-    ensures { result ≡ total_numbers accepted refused s c }
-{
-    let m = sign_of(s.m.0.below);
-    let p = sign_of(s.p.0.below);
-    let q = sign_of(s.q.0.below);
-    let report = sign_of(s.report.0.below);
     [
-        0,
-        0,
-        accepted as u64,
-        0,
-        0,
-        refused as u64,
-        0,
-        s.e.0.hi,
-        s.e.0.lo,
-        0,
-        s.k.0.hi,
-        s.k.0.lo,
-        0,
-        s.l.0.hi,
-        s.l.0.lo,
-        m,
-        s.m.0.size.hi,
-        s.m.0.size.lo,
-        p,
-        s.p.0.size.hi,
-        s.p.0.size.lo,
-        q,
-        s.q.0.size.hi,
-        s.q.0.size.lo,
-        report,
-        s.report.0.size.hi,
-        s.report.0.size.lo,
-        0,
-        c.onsite.0.hi,
-        c.onsite.0.lo,
-        0,
-        c.offsite.0.hi,
-        c.offsite.0.lo,
-        0,
-        c.decay.0.hi,
-        c.decay.0.lo,
-        0,
-        c.co2.0.hi,
-        c.co2.0.lo,
+        plain(accepted as u64),
+        plain(refused as u64),
+        whole(s.e.0),
+        whole(s.k.0),
+        whole(s.l.0),
+        s.m.0,
+        s.p.0,
+        s.q.0,
+        s.report.0,
+        whole(c.onsite.0),
+        whole(c.offsite.0),
+        whole(c.decay.0),
+        whole(c.co2.0),
     ]
 }
 
@@ -131,10 +96,10 @@ fn put_columns(t: Tally, out: &mut [u8], at: usize) -> usize
     ensures { WrittenIn columns_room (columns_text t) out.old out.new at result }
 {
     let g = t.ledger;
-    let numbers = list_totals(t.accepted, t.refused, work_stocks(g), work_conversion(g));
+    let values = list_totals(t.accepted, t.refused, work_stocks(g), work_conversion(g));
     put_lines(
         b"accepted refused E K L M P Q report onsite offsite decay co2 ",
-        &numbers,
+        &values,
         out,
         at,
     )

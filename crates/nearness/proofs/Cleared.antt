@@ -13,7 +13,7 @@ use Rattle.form.specs.Records.{ten_year_area, ten_year_before, ten_year_after, d
 use Rattle.form.specs.Sums.{sum_of}
 use Rattle.form.specs.Verdict.{rows, verdict_of}
 use Rattle.form.specs.declared.Counts.{Counts}
-use Rattle.form.specs.declared.Verdict.TheVariants.{Accepted}
+use Rattle.std.specs.Prelude.{Ok}
 use Rattle.form.proofs.Periods.{counted_mono}
 use Rattle.totals.specs.Columns.{onsite_part, offsite_part, decay_part}
 use Rattle.doubles.specs.Double.{double}
@@ -87,7 +87,7 @@ pub record AllRaised (rs qs : List (List ℕ)) : Type 0 where
   pub offsite : SumsRaised offsite_double offsite_part rs qs
   pub decay : SumsRaised decay_double decay_part rs qs
 
-module _ (s t : List ℕ) (c d : Counts) (first : verdict_of s ≡ Accepted c) (second : verdict_of t ≡ Accepted d)
+module _ (s t : List ℕ) (c d : Counts) (first : verdict_of s ≡ Ok c) (second : verdict_of t ≡ Ok d)
     (as_many : length (rows 1 s) ≡ length (rows 1 t)) where
   -- the one law of the three subtotals
   one_raised : (x : List ℕ → Float) (v e : List ℕ → ℕ) → ((r : List ℕ) → Within r → Part (x r) (v r) (e r))

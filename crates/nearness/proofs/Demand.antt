@@ -9,19 +9,18 @@ use native.Mathlib.Omega.{arith}
 use lib.ListN.{length}
 use Rattle.form.specs.Verdict.{rows, verdict_of, Formed}
 use Rattle.form.specs.declared.Counts.{Counts}
-use Rattle.form.specs.declared.Verdict.TheVariants.{Accepted}
+use Rattle.std.specs.Prelude.{Ok}
 use Rattle.form.proofs.EachKind.{one_kind}
 use Rattle.standing.proofs.Accepted.{formed, few_rows, rows-length, within}
 use Rattle.totals.specs.Columns.{onsite_total, offsite_total, decay_total}
 use Rattle.nearness.specs.Near.{Near}
 use Rattle.doubles.specs.Subtotals.{subtotals_of, answer_by, answer_of}
-use Rattle.doubles.specs.declared.Answer.TheVariants.{Figures}
 use Rattle.nearness.proofs.Sums.{Each}
 use Rattle.doubles.proofs.Walk.{counted}
 use Rattle.nearness.proofs.Bound.{Within, onsite-near, offsite-near, decay-near}
 
-module _ (s : List ℕ) (c : Counts) (accepted : verdict_of s ≡ Accepted c) where
-  pub answered : answer_of s ≡ Figures (subtotals_of (rows 1 s))
+module _ (s : List ℕ) (c : Counts) (accepted : verdict_of s ≡ Ok c) where
+  pub answered : answer_of s ≡ Ok (subtotals_of (rows 1 s))
   answered = ap (answer_by s) accepted
 
   acc : Formed s c

@@ -12,8 +12,9 @@ use native.Mathlib.Nat.{mul-le-mul_right}
 use native.Mathlib.Numerals.{add-one}
 use native.Mathlib.Omega.{arith}
 use borrow.Author.Tests.{lt-ltb, le-ltb}
+use Rattle.std.specs.Prelude.{Ok, Err}
 use Rattle.numerals.specs.Numerals.{with_digits, unless_large, capped}
-use Rattle.numerals.specs.declared.Numeral.TheVariants.{Units, Large}
+use Rattle.numerals.specs.declared.NumberFault.TheVariants.{Large}
 
 same_digits : (l : List ℕ) (m n : ℕ) → capped m ≡ capped n → capped (with_digits m l) ≡ capped (with_digits n l)
 unfolding with_digits
@@ -58,13 +59,13 @@ capped-times n p h = by (dec_lt n 4294967296)
         let f : capped n * p ≡ 4294967296 * p = ap (λ (m : ℕ). m * p) e in
         omega arith
 
-pub is_large : (n : ℕ) → 4294967295 < n → Large ≡ unless_large n
+pub is_large : (n : ℕ) → 4294967295 < n → Err Large ≡ unless_large n
 unfolding unless_large
-is_large n h = ap (λ (t : Bool). cond t Large (Units n)) (sym (lt-ltb 4294967295 n h))
+is_large n h = ap (λ (t : Bool). cond t (Err Large) (Ok n)) (sym (lt-ltb 4294967295 n h))
 
-pub is_units : (n : ℕ) → n ≤ 4294967295 → Units n ≡ unless_large n
+pub is_units : (n : ℕ) → n ≤ 4294967295 → Ok n ≡ unless_large n
 unfolding unless_large
-is_units n h = ap (λ (t : Bool). cond t Large (Units n)) (sym (le-ltb 4294967295 n h))
+is_units n h = ap (λ (t : Bool). cond t (Err Large) (Ok n)) (sym (le-ltb 4294967295 n h))
 
 pub large_capped : (n : ℕ) → unless_large (capped n) ≡ unless_large n
 large_capped n = by (dec_lt n 4294967296)

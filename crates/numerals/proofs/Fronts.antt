@@ -3,15 +3,18 @@
 --     all_append           digits in front of a text are among its digits; digits after digits are digits
 --     mark_none            a mark is no digit
 --     all_there            digits and nothing else, at least one; only_all: and the other way
+--     digits-taken, digits_few    the digits at the front, as a chain takes them; no more than there are bytes
 --     digits_again, front_and_rest    the digits at the front are digits; with what stands behind them they are the text
-use Prim.Native.Nat.{ℕ, ◌<◌}
+use Prim.Native.Nat.{ℕ, suc, ◌+◌, ◌<◌, ◌≤◌}
 use mathlib.Core.Path.{◌≡◌, refl, sym, ap, subst, ◌∙◌}
 use mathlib.Core.Bool.{Bool, true, false, cond, ◌&&◌, ◌||◌}
 use mathlib.Core.List.{List, [], ◌∷◌, ◌++◌, append-nil}
 use native.Mathlib.Omega.{arith}
-use lib.ListN.{length, drop, drop_of_length-le}
+use lib.ListN.{length, take, drop, drop_of_length-le}
 use lib.Dec.{eqb, ltb}
 use borrow.Author.Tests.{lt-ltb, ltb-true, eq-eqb, eqb-true}
+use native.Mathlib.Numerals.{one-add}
+use Rattle.std.specs.List.{prefix_len}
 use Rattle.numerals.specs.Numerals.{is_digit, is_mark, digits_in, behind_digits, AllDigits, only_digits}
 
 pub both_true : (p q : Bool) → (p && q) ≡ true → (p ≡ true) × (q ≡ true)
@@ -92,3 +95,22 @@ only_all l e =
     let n : length (digits_in l) ≡ length l = eqb-true (length (digits_in l)) (length l) h.1 in
     let none : behind_digits l ≡ [] = drop_of_length-le l {i = length (digits_in l)} (omega arith) in
     (sym (append-nil (digits_in l)) ∙ ap (λ (x : List ℕ). digits_in l ++ x) (sym none) ∙ front_and_rest l, omega arith)
+
+-- the digits at the front, as a chain takes them
+pub digits-taken : (l : List ℕ) → take (prefix_len is_digit l) l ≡ digits_in l
+unfolding digits_in
+digits-taken [] = refl
+digits-taken (b ∷ l) = by (is_digit b) (digits-taken l)
+  where
+    by : (q : Bool) → take (prefix_len is_digit l) l ≡ digits_in l → take (cond q (1 + prefix_len is_digit l) 0) (b ∷ l) ≡ cond q (b ∷ digits_in l) []
+    by true e = rw (one-add (prefix_len is_digit l)) (ap (λ (x : List ℕ). b ∷ x) e)
+    by false e = refl
+
+pub digits_few : (l : List ℕ) → length (digits_in l) ≤ length l
+unfolding digits_in
+digits_few [] = omega arith
+digits_few (b ∷ l) = by (is_digit b) (digits_few l)
+  where
+    by : (q : Bool) → length (digits_in l) ≤ length l → length (cond q (b ∷ digits_in l) []) ≤ suc (length l)
+    by true h = omega arith
+    by false h = omega arith

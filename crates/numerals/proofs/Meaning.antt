@@ -15,13 +15,14 @@ use lib.ListN.{length, drop, get_or, replicate, length-append, drop_of_length-le
 use lib.Seq.{drop-append-add, get_or-append_seam}
 use lib.Dec.{ltb}
 use borrow.Author.Tests.{lt-ltb, ltb-true}
+use Rattle.std.specs.Prelude.{Result, Ok, Err}
 use Rattle.decimal.specs.Digits.{decimal, padded}
 use Rattle.decimal.proofs.DigitLaws.{padded-length}
 use Rattle.numerals.specs.Numerals.{is_mark, digits_in, AllDigits, with_digits, value_of, behind_digits, only_digits, well_ended, is_number, behind_mark}
 use Rattle.numerals.specs.Numerals.{unless_large, units_of, read_parts, read_number}
 use Rattle.numerals.specs.Written.{Number, plain, parted, pointed, printed}
-use Rattle.numerals.specs.declared.Numeral.{Numeral}
-use Rattle.numerals.specs.declared.Numeral.TheVariants.{Units, NoNumber, ManyDecimals, Large}
+use Rattle.numerals.specs.declared.NumberFault.{NumberFault}
+use Rattle.numerals.specs.declared.NumberFault.TheVariants.{NoNumber, ManyDecimals, Large}
 use Rattle.numerals.proofs.Capped.{is_large, is_units}
 use Rattle.numerals.proofs.Shapes.{ended, marked, digits_on, too_many, few_enough, no_number, by_parts}
 use Rattle.numerals.proofs.Fronts.{both_true, zero_digit, digit_first, none_first, all_append, mark_none, all_there}
@@ -47,10 +48,10 @@ module _ (commas : Bool) (d : ℕ) (a : List ℕ) (are : AllDigits a) (some : 0 
       ∙ ap (λ (k : ℕ). unless_large (value_of a * 10 ^ k)) (sub-zero d)
 
   -- the number in units: times ten for each decimal
-  pub says-whole : value_of a * 10 ^ d ≤ 4294967295 → read_number commas d a ≡ Units (value_of a * 10 ^ d)
+  pub says-whole : value_of a * 10 ^ d ≤ 4294967295 → read_number commas d a ≡ Ok (value_of a * 10 ^ d)
   says-whole h = whole-units ∙ sym (is_units _ h)
 
-  pub says_large : 4294967295 < value_of a * 10 ^ d → read_number commas d a ≡ Large
+  pub says_large : 4294967295 < value_of a * 10 ^ d → read_number commas d a ≡ Err Large
   says_large h = whole-units ∙ sym (is_large _ h)
 
   -- a mark, and at least one digit behind it
@@ -69,7 +70,7 @@ module _ (commas : Bool) (d : ℕ) (a : List ℕ) (are : AllDigits a) (some : 0 
         ∙ ap (λ (x : List ℕ). read_parts d a (digits_in x)) rest
         ∙ ap (read_parts d a) behind
 
-    pub says_too_many : d < length b → read_number commas d (a ++ m ∷ b) ≡ ManyDecimals
+    pub says_too_many : d < length b → read_number commas d (a ++ m ∷ b) ≡ Err ManyDecimals
     says_too_many h = marked-parts ∙ sym (too_many d a b h)
 
     module _ (few : length b ≤ d) where
@@ -78,10 +79,10 @@ module _ (commas : Bool) (d : ℕ) (a : List ℕ) (are : AllDigits a) (some : 0 
 
       -- what stands before the mark in units, and what stands behind it, times ten for each decimal that is missing
       pub says-marked : value_of a * 10 ^ d + value_of b * 10 ^ (d - length b) ≤ 4294967295 →
-          read_number commas d (a ++ m ∷ b) ≡ Units (value_of a * 10 ^ d + value_of b * 10 ^ (d - length b))
+          read_number commas d (a ++ m ∷ b) ≡ Ok (value_of a * 10 ^ d + value_of b * 10 ^ (d - length b))
       says-marked h = marked-units ∙ sym (is_units _ h)
 
-      pub says-marked_large : 4294967295 < value_of a * 10 ^ d + value_of b * 10 ^ (d - length b) → read_number commas d (a ++ m ∷ b) ≡ Large
+      pub says-marked_large : 4294967295 < value_of a * 10 ^ d + value_of b * 10 ^ (d - length b) → read_number commas d (a ++ m ∷ b) ≡ Err Large
       says-marked_large h = marked-units ∙ sym (is_large _ h)
 
 -- a field is such a number, or it is none
@@ -96,7 +97,7 @@ module _ (commas : Bool) (l : List ℕ) where
       let whole = ap (λ (x : List ℕ). digits_in l ++ x) (sym e) ∙ front_and_rest l in
       subst (Number commas) whole (parted (digits_in l) m b (digits_again l) some mark.0 all.0 all.1)
 
-  pub nothing_else : (d : ℕ) → (read_number commas d l ≡ NoNumber → ⊥) → Number commas l
+  pub nothing_else : (d : ℕ) → (read_number commas d l ≡ Err NoNumber → ⊥) → Number commas l
   unfolding is_number
   nothing_else d read = by (is_number commas l) refl
     where
@@ -107,8 +108,8 @@ module _ (commas : Bool) (l : List ℕ) where
       by false e = absurd (read (sym (no_number commas d l e)))
 
 -- a field by its digits at the front
-abbrev read_by : Bool → ℕ → List ℕ → List ℕ → Numeral
-read_by commas d a l = cond (ltb 0 (length a) && well_ended commas (drop (length a) l)) (read_parts d a (digits_in (drop (length a + 1) l))) NoNumber
+abbrev read_by : Bool → ℕ → List ℕ → List ℕ → Result ℕ NumberFault
+read_by commas d a l = cond (ltb 0 (length a) && well_ended commas (drop (length a) l)) (read_parts d a (digits_in (drop (length a + 1) l))) (Err NoNumber)
 
 module _ (commas : Bool) (d : ℕ) where
   one_zero : (l : List ℕ) → 0 < length (digits_in l) → read_number commas d (48 ∷ l) ≡ read_number commas d l
@@ -118,8 +119,8 @@ module _ (commas : Bool) (d : ℕ) where
       let ending = well_ended commas (behind_digits l) in
       let some = lt-ltb 0 (suc (length a)) (omega arith) ∙ sym (lt-ltb 0 (length a) h) in
       ap (λ (x : List ℕ). read_by commas d x (48 ∷ l)) (digit_first 48 l zero_digit)
-      ∙ ap (λ (k : ℕ). cond (ltb 0 (suc (length a)) && ending) (read_parts d (48 ∷ a) (digits_in (drop k (48 ∷ l)))) NoNumber) (suc-add (length a) 1)
-      ∙ ap (λ (t : Bool). cond (t && ending) (read_parts d a (digits_in (behind_mark l))) NoNumber) some
+      ∙ ap (λ (k : ℕ). cond (ltb 0 (suc (length a)) && ending) (read_parts d (48 ∷ a) (digits_in (drop k (48 ∷ l)))) (Err NoNumber)) (suc-add (length a) 1)
+      ∙ ap (λ (t : Bool). cond (t && ending) (read_parts d a (digits_in (behind_mark l))) (Err NoNumber)) some
 
   zeros-count : (k : ℕ) (l : List ℕ) → length (digits_in (replicate k 48 ++ l)) ≡ k + length (digits_in l)
   zeros-count zero l = omega arith
@@ -130,7 +131,7 @@ module _ (commas : Bool) (d : ℕ) where
   zeros_in_front (suc k) l h = one_zero (replicate k 48 ++ l) (omega (arith, zeros-count k l)) ∙ zeros_in_front k l h
 
   -- n by its whole part and its last d digits
-  back_parts : (n : ℕ) → n ≤ 4294967295 → read_parts d (decimal (n / 10 ^ d)) (padded d n) ≡ Units n
+  back_parts : (n : ℕ) → n ≤ 4294967295 → read_parts d (decimal (n / 10 ^ d)) (padded d n) ≡ Ok n
   back_parts n h =
       let w = decimal (n / 10 ^ d) in
       let long = padded-length d n in
@@ -140,7 +141,7 @@ module _ (commas : Bool) (d : ℕ) where
       let u : units_of d w (padded d n) ≡ n = ap (λ (k : ℕ). value_of (w ++ padded d n) * 10 ^ k) z ∙ mul-one (value_of (w ++ padded d n)) ∙ v in
       few_enough d w (padded d n) (omega arith) ∙ ap unless_large u ∙ sym (is_units n h)
 
-pub reads_back : (commas : Bool) (d n : ℕ) → n ≤ 4294967295 → read_number commas d (printed d n) ≡ Units n
+pub reads_back : (commas : Bool) (d n : ℕ) → n ≤ 4294967295 → read_number commas d (printed d n) ≡ Ok n
 unfolding pointed padded is_mark
 reads_back commas zero n h =
     ap (read_number commas 0) (append-nil (decimal (n / 1)))

@@ -1,46 +1,29 @@
 -- Whether a field is a number, by its digits at the front and what stands behind them; and its units. Assumes nothing.
---     comma_says, other_says               the answers of `is_mark`, by whether a byte is a comma
 --     no_digits, ended, no_mark, marked    the answers of `is_number`, test by test
---     none_there, some_there               those of `only_digits`
 --     too_many, few_enough, in_units       those of `read_parts`
 --     at_the_end, behind_it                where the decimals start
 --     no_number, by_parts                  the answers of `read_number`
 use Prim.Native.Nat.{ℕ, ◌+◌, ◌-◌, ◌*◌, ◌^◌, ◌<◌, ◌≤◌}
 use mathlib.Core.Path.{◌≡◌, refl, sym, ap, ◌∙◌}
-use mathlib.Core.Bool.{Bool, true, false, cond, ◌&&◌, ◌||◌, and-true}
+use mathlib.Core.Bool.{Bool, true, false, cond, ◌&&◌, and-true}
 use mathlib.Core.List.{List, [], ◌∷◌, ◌++◌}
 use native.Mathlib.Nat.{one-le-pow}
 use native.Mathlib.Omega.{arith}
 use lib.ListN.{length, take, drop, get_or, length-drop, drop_of_length-le}
 use lib.Seq.{take_all}
-use lib.Dec.{ltb, eqb}
-use borrow.Author.Tests.{lt-ltb, le-ltb, ne_eqb}
+use lib.Dec.{ltb}
+use borrow.Author.Tests.{lt-ltb, le-ltb}
+use Rattle.std.specs.Prelude.{Result, Err}
 use Rattle.numerals.specs.Numerals.{is_mark, digits_in, with_digits, value_of, only_digits, well_ended, is_number, behind_mark, capped}
 use Rattle.numerals.specs.Numerals.{unless_large, units_of, read_parts, read_number}
-use Rattle.numerals.specs.declared.Numeral.{Numeral}
-use Rattle.numerals.specs.declared.Numeral.TheVariants.{NoNumber, ManyDecimals}
+use Rattle.numerals.specs.declared.NumberFault.{NumberFault}
+use Rattle.numerals.specs.declared.NumberFault.TheVariants.{NoNumber, ManyDecimals}
 use Rattle.numerals.proofs.Counting.{opened}
 use Rattle.numerals.proofs.Capped.{capped-digits, capped-times, large_capped}
 
 -- a part that goes on to the end, as the code lends it
 pub all_from : (k : ℕ) (l : List ℕ) → take (length l - k) (drop k l) ≡ drop k l
 all_from k l = take_all (length l - k) (drop k l) (omega (arith, length-drop k l))
-
--- a byte as a mark: a comma is one where commas are, any other byte where it is a point
-pub comma_says : (commas : Bool) (b : ℕ) → b ≡ 44 → commas ≡ is_mark commas b
-unfolding is_mark
-comma_says true b e = sym (ap (λ (n : ℕ). eqb n 46 || (true && eqb n 44)) e)
-comma_says false b e = sym (ap (λ (n : ℕ). eqb n 46 || (false && eqb n 44)) e)
-
-pub other_says : (commas : Bool) (b : ℕ) → (b ≡ 44 → ⊥) → eqb b 46 ≡ is_mark commas b
-unfolding is_mark
-other_says commas b e = sym (ap (λ (t : Bool). eqb b 46 || (commas && t)) (ne_eqb b 44 e) ∙ by commas (eqb b 46))
-  where
-    by : (p q : Bool) → (q || (p && false)) ≡ q
-    by true true = refl
-    by true false = refl
-    by false true = refl
-    by false false = refl
 
 module _ (commas : Bool) (l : List ℕ) (w : ℕ) (e : w ≡ length (digits_in l)) where
   pub no_digits : w ≡ 0 → false ≡ is_number commas l
@@ -70,15 +53,6 @@ module _ (commas : Bool) (l : List ℕ) (w : ℕ) (e : w ≡ length (digits_in l
     pub marked : is_mark commas (get_or l w 0) ≡ true → {r : Bool} → r ≡ only_digits (drop (w + 1) l) → r ≡ is_number commas l
     marked m g = g ∙ sym (some_digits z ∙ ap (well_ended commas) (opened l w inside) ∙ ap (λ (t : Bool). t && only_digits (drop (w + 1) l)) m)
 
-module _ (l : List ℕ) (n : ℕ) (e : n ≡ length (digits_in l)) where
-  pub none_there : n ≡ 0 → false ≡ only_digits l
-  none_there z = sym (ap (λ (t : Bool). t && eqb (length (digits_in l)) (length l)) (le-ltb 0 (length (digits_in l)) (omega arith)))
-
-  pub some_there : (n ≡ 0 → ⊥) → eqb n (length l) ≡ only_digits l
-  some_there z =
-      ap (λ (m : ℕ). eqb m (length l)) e
-      ∙ sym (ap (λ (t : Bool). t && eqb (length (digits_in l)) (length l)) (lt-ltb 0 (length (digits_in l)) (omega (arith, z))))
-
 -- digits after digits
 pub digits_on : (n : ℕ) (a b : List ℕ) → with_digits n (a ++ b) ≡ with_digits (with_digits n a) b
 unfolding with_digits
@@ -86,17 +60,17 @@ digits_on n [] b = refl
 digits_on n (x ∷ a) b = digits_on (10 * n + (x - 48)) a b
 
 module _ (d : ℕ) (a b : List ℕ) where
-  pub too_many : d < length b → ManyDecimals ≡ read_parts d a b
+  pub too_many : d < length b → Err ManyDecimals ≡ read_parts d a b
   unfolding read_parts
-  too_many h = sym (ap (λ (t : Bool). cond t ManyDecimals (unless_large (units_of d a b))) (lt-ltb d (length b) h))
+  too_many h = sym (ap (λ (t : Bool). cond t (Err ManyDecimals) (unless_large (units_of d a b))) (lt-ltb d (length b) h))
 
   pub few_enough : length b ≤ d → read_parts d a b ≡ unless_large (units_of d a b)
   unfolding read_parts
-  few_enough h = ap (λ (t : Bool). cond t ManyDecimals (unless_large (units_of d a b))) (le-ltb d (length b) h)
+  few_enough h = ap (λ (t : Bool). cond t (Err ManyDecimals) (unless_large (units_of d a b))) (le-ltb d (length b) h)
 
   -- as it is worked out: the digits before the mark, those behind it, the zeros, each capped
   pub in_units : (v w m u : ℕ) → v ≡ capped (with_digits 0 a) → w ≡ capped (with_digits v b) → m ≡ d - length b → u ≡ capped (w * 10 ^ m)
-      → length b ≤ d → {r : Numeral} → r ≡ unless_large u → r ≡ read_parts d a b
+      → length b ≤ d → {r : Result ℕ NumberFault} → r ≡ unless_large u → r ≡ read_parts d a b
   in_units v w m u p q e f h g =
       let number = value_of (a ++ b) in
       let all : w ≡ capped number =
@@ -117,10 +91,10 @@ module _ (l : List ℕ) (w : ℕ) (e : w ≡ length (digits_in l)) where
   behind_it = ap (λ (n : ℕ). drop (n + 1) l) e
 
 module _ (commas : Bool) (d : ℕ) (l : List ℕ) where
-  pub no_number : is_number commas l ≡ false → NoNumber ≡ read_number commas d l
+  pub no_number : is_number commas l ≡ false → Err NoNumber ≡ read_number commas d l
   unfolding read_number
-  no_number e = sym (ap (λ (t : Bool). cond t (read_parts d (digits_in l) (digits_in (behind_mark l))) NoNumber) e)
+  no_number e = sym (ap (λ (t : Bool). cond t (read_parts d (digits_in l) (digits_in (behind_mark l))) (Err NoNumber)) e)
 
   pub by_parts : is_number commas l ≡ true → read_number commas d l ≡ read_parts d (digits_in l) (digits_in (behind_mark l))
   unfolding read_number
-  by_parts e = ap (λ (t : Bool). cond t (read_parts d (digits_in l) (digits_in (behind_mark l))) NoNumber) e
+  by_parts e = ap (λ (t : Bool). cond t (read_parts d (digits_in l) (digits_in (behind_mark l))) (Err NoNumber)) e

@@ -1,8 +1,8 @@
 -- A decimal number in the bytes of a text field: "Digits, and, if there is a mark, at least one digit on each side of it; leading zeros pass.
 -- No sign, no exponent, no thousands mark, no percent, no empty field." Assumes nothing.
-use Rattle.std.specs.Prelude.{ℕ, ◌+◌, ◌-◌, ◌*◌, ◌^◌, min, ◌≡◌, Bool, true, cond, ◌&&◌, ◌||◌, List, [], ◌∷◌, ◌++◌, length, drop, ltb, leb, eqb}
-use Rattle.numerals.specs.declared.Numeral.{Numeral}
-use Rattle.numerals.specs.declared.Numeral.TheVariants.{Units, NoNumber, ManyDecimals, Large}
+use Rattle.std.specs.Prelude.{ℕ, ◌+◌, ◌-◌, ◌*◌, ◌^◌, min, ◌≡◌, Bool, true, cond, ◌&&◌, ◌||◌, List, [], ◌∷◌, ◌++◌, length, drop, ltb, leb, eqb, Result, Ok, Err}
+use Rattle.numerals.specs.declared.NumberFault.{NumberFault}
+use Rattle.numerals.specs.declared.NumberFault.TheVariants.{NoNumber, ManyDecimals, Large}
 
 -- the digits 0 to 9 are the bytes 48 to 57
 unfoldable pub is_digit : ℕ → Bool
@@ -52,20 +52,20 @@ abbrev pub behind_mark : List ℕ → List ℕ
 behind_mark l = drop (length (digits_in l) + 1) l
 
 -- above 4,294,967,295 a number is too large
-unfoldable pub unless_large : ℕ → Numeral
-unless_large n = cond (ltb 4294967295 n) Large (Units n)
+unfoldable pub unless_large : ℕ → Result ℕ NumberFault
+unless_large n = cond (ltb 4294967295 n) (Err Large) (Ok n)
 
 -- the units of a number, by its digits before the mark and behind it: the number without the mark, times ten for each decimal that is missing
 abbrev pub units_of : ℕ → List ℕ → List ℕ → ℕ
 units_of decimals whole behind = value_of (whole ++ behind) * 10 ^ (decimals - length behind)
 
 -- "more digits behind the mark" than the decimals are too many, whatever they are; else its units
-unfoldable pub read_parts : ℕ → List ℕ → List ℕ → Numeral
-read_parts decimals whole behind = cond (ltb decimals (length behind)) ManyDecimals (unless_large (units_of decimals whole behind))
+unfoldable pub read_parts : ℕ → List ℕ → List ℕ → Result ℕ NumberFault
+read_parts decimals whole behind = cond (ltb decimals (length behind)) (Err ManyDecimals) (unless_large (units_of decimals whole behind))
 
 -- a field: no number, or a number with its digits before the mark and behind it
-unfoldable pub read_number : Bool → ℕ → List ℕ → Numeral
-read_number commas decimals l = cond (is_number commas l) (read_parts decimals (digits_in l) (digits_in (behind_mark l))) NoNumber
+unfoldable pub read_number : Bool → ℕ → List ℕ → Result ℕ NumberFault
+read_number commas decimals l = cond (is_number commas l) (read_parts decimals (digits_in l) (digits_in (behind_mark l))) (Err NoNumber)
 
 -- a sum that goes on beyond what fits: 4,294,967,296 stands for every number that is too large
 abbrev pub capped : ℕ → ℕ

@@ -5,31 +5,26 @@ ghost use Rattle.std.specs.Prelude.{◌≡◌, ◌+◌, ◌-◌, ◌*◌, ◌^�
 ghost use Rattle.numerals.specs.Numerals.{is_digit, is_mark, digits_in, with_digits, only_digits, is_number, behind_mark, capped};
 ghost use Rattle.numerals.specs.Numerals.{unless_large, read_parts, read_number};
 
-// What a field says: a number of units, or why it says none.
-#[derive(Clone, Copy)]
-pub enum Numeral {
-    Units(u32),
+// Why a field says no number of units.
+#[derive(Clone, Copy, PartialEq, Eq, Debug)]
+pub enum NumberFault {
     NoNumber,
     ManyDecimals,
     Large,
 }
 
+#[tactic(auto, unfolding(crate::specs::Numerals::is_digit))]
 fn is_digit(b: u8) -> bool
     ensures { result ≡ is_digit b }
 {
-    if b < 48 {
-        return false;
-    }
-    b <= 57
+    48 <= b && b <= 57
 }
 
+#[tactic(auto, unfolding(crate::specs::Numerals::is_mark))]
 fn is_mark(b: u8, commas: bool) -> bool
     ensures { result ≡ is_mark commas b }
 {
-    if b == 44 {
-        return commas;
-    }
-    b == 46
+    b == 46 || commas && b == 44
 }
 
 // What a digit adds.
@@ -51,14 +46,7 @@ fn cap(n: u64) -> u64
 fn count_digits(text: &[u8]) -> usize
     ensures { (result ≡ length (digits_in text.now)) × (result ≤ length text.now) }
 {
-    let mut k: usize = 0;
-    while k < text.len() {
-        if !is_digit(text[k]) {
-            return k;
-        }
-        k += 1;
-    }
-    k
+    text.iter().take_while(|b| is_digit(**b)).count()
 }
 
 // The number n with the digits at the front behind its own.
@@ -67,14 +55,12 @@ fn add_digits(n: u64, text: &[u8]) -> u64
     ensures { (result ≡ capped (with_digits n (digits_in text.now))) × (result ≤ 4294967296) }
 {
     let mut value = n;
-    let mut k: usize = 0;
-    while k < text.len() {
+    for k in 0..text.len() {
         let b = text[k];
         if !is_digit(b) {
             return value;
         }
         value = cap(10 * value + digit_value(b));
-        k += 1;
     }
     value
 }
@@ -85,32 +71,26 @@ fn fill(n: u64, missing: u32) -> u64
     ensures { (result ≡ capped (n * 10 ^ missing)) × (result ≤ 4294967296) }
 {
     let mut value = n;
-    let mut k: u32 = 0;
-    while k < missing {
+    for k in 0..missing {
         value = cap(value * 10);
-        k += 1;
     }
     value
 }
 
-fn unless_large(n: u64) -> Numeral
+fn unless_large(n: u64) -> Result<u32, NumberFault>
     ensures { result ≡ unless_large n }
 {
     if 4294967295 < n {
-        return Numeral::Large;
+        return Err(NumberFault::Large);
     }
-    let units = n as u32;
-    Numeral::Units(units)
+    Ok(n as u32)
 }
 
 fn only_digits(text: &[u8]) -> bool
     ensures { result ≡ only_digits text.now }
 {
     let n = count_digits(text);
-    if n == 0 {
-        return false;
-    }
-    n == text.len()
+    0 < n && n == text.len()
 }
 
 fn is_number(field: &[u8], commas: bool) -> bool
@@ -142,23 +122,23 @@ fn decimals_start(field: &[u8]) -> usize
 }
 
 // By the digits before the mark and those behind it.
-fn read_parts(whole: &[u8], behind: &[u8], decimals: u32) -> Numeral
+fn read_parts(whole: &[u8], behind: &[u8], decimals: u32) -> Result<u32, NumberFault>
     ensures { result ≡ read_parts decimals (digits_in whole.now) (digits_in behind.now) }
 {
     let given = count_digits(behind);
     if (decimals as usize) < given {
-        return Numeral::ManyDecimals;
+        return Err(NumberFault::ManyDecimals);
     }
     let value = add_digits(add_digits(0, whole), behind);
     unless_large(fill(value, decimals - given as u32))
 }
 
 // The units that a field says, with so many decimals; commas are marks too, or not.
-pub fn read_number(field: &[u8], commas: bool, decimals: u32) -> Numeral
+pub fn read_number(field: &[u8], commas: bool, decimals: u32) -> Result<u32, NumberFault>
     ensures { result ≡ read_number commas decimals field.now }
 {
     if !is_number(field, commas) {
-        return Numeral::NoNumber;
+        return Err(NumberFault::NoNumber);
     }
     let start = decimals_start(field);
     read_parts(field, &field[start..], decimals)

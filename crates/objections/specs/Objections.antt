@@ -1,8 +1,7 @@
 -- Why a text can't be packed: "the lines of the refusal as text, or `packed BYTES` of a good text". Assumes nothing.
-use Rattle.std.specs.Prelude.{ℕ, ◌-◌, cond, List, [], ◌∷◌, ◌++◌, length, get_or, eqb, ltb, pos}
+use Rattle.std.specs.Prelude.{ℕ, ◌-◌, cond, List, [], ◌∷◌, ◌++◌, length, get_or, eqb, pos, ltb, Err}
 use Rattle.form.specs.Ruling.{ruling}
-use Rattle.form.specs.declared.Ruling.{Ruling}
-use Rattle.form.specs.declared.Ruling.TheVariants as R
+use Rattle.form.specs.Refusals.{Clean, Ruling}
 use Rattle.decimal.specs.Digits.{decimal}
 use Rattle.phrases.specs.Ascii.{codes}
 use Rattle.phrases.specs.Lines.{Line, line, number_line, refused_line, lines_text}
@@ -11,6 +10,9 @@ use Rattle.lists.specs.Rules.{list_rules}
 use Rattle.rows.specs.Writing.{written}
 use Rattle.naming.specs.Names.{kind_name, field_name}
 use Rattle.naming.specs.RowLines.{word_line}
+use Rattle.heads.specs.Heads.{fault_number}
+use Rattle.heads.specs.declared.Fault.{Fault}
+use Rattle.heads.specs.declared.Fault.TheVariants as F
 use Rattle.heads.specs.declared.TextFault.{TextFault}
 use Rattle.texts.specs.Texts.{TextRead, rows, faulty, text_read, row_line}
 use Rattle.clashes.specs.Clashes.{clash_lines}
@@ -36,21 +38,27 @@ fault_word n = get_or ([] ∷ fault_words) n []
 
 -- "`refused line N WORD`"
 abbrev pub fault_line : TextFault → List ℕ
-fault_line f = codes "refused line " ++ (decimal f.line ++ 32 ∷ (fault_word f.fault ++ 10 ∷ []))
+fault_line f = codes "refused line " ++ (decimal f.line ++ 32 ∷ (fault_word (fault_number f.fault) ++ 10 ∷ []))
 
 -- "6 `fields` (then `due`, `found`)"
-abbrev pub due_lines : TextFault → List Line
-due_lines f = number_line (codes "due") f.due ∷ number_line (codes "found") f.found ∷ []
+abbrev pub due_lines : ℕ → ℕ → List Line
+due_lines due found = number_line (codes "due") due ∷ number_line (codes "found") found ∷ []
 
 -- 7 to 10 "with `field` (as `explain` counts it) and `field_name`"
-abbrev pub field_lines : TextFault → List Line
-field_lines f = number_line (codes "field") f.field ∷ word_line (codes "field_name") (field_name f.kind f.field) ∷ []
+abbrev pub field_lines : ℕ → ℕ → List Line
+field_lines kind field = number_line (codes "field") field ∷ word_line (codes "field_name") (field_name kind field) ∷ []
 
-abbrev pub told_lines : TextFault → List Line
-told_lines f = cond (eqb f.fault 6) (due_lines f) (cond (ltb 6 f.fault) (field_lines f) [])
+abbrev pub told_lines : Fault → List Line
+told_lines F.Long = []
+told_lines F.Edition = []
+told_lines F.Kind = []
+told_lines F.Order = []
+told_lines F.Rows = []
+told_lines (F.Fields due found) = due_lines due found
+told_lines (F.Cell kind field fault) = field_lines kind field
 
 abbrev pub fault_text : TextFault → List ℕ
-fault_text f = fault_line f ++ lines_text (told_lines f)
+fault_text f = fault_line f ++ lines_text (told_lines f.fault)
 
 -- "(for 10 `edition`, or the kind's name and the rows found)"
 abbrev pub found_lines : List ℕ → ℕ → List Line
@@ -70,8 +78,8 @@ refusal_lines text edition lengths area n p =
     (clash_lines edition (filed_lists (cut lengths area)) n p ++ line_lines text lengths n p)
 
 abbrev pub text_by : List ℕ → ℕ → List ℕ → List ℕ → Ruling → List ℕ
-text_by text edition lengths area R.Clean = line (codes "packed") (pos (length (written edition (cut lengths area))))
-text_by text edition lengths area (R.Broken n p) = refused_line n p ++ lines_text (refusal_lines text edition lengths area n p)
+text_by text edition lengths area Clean = line (codes "packed") (pos (length (written edition (cut lengths area))))
+text_by text edition lengths area (Err r) = refused_line r.number r.place ++ lines_text (refusal_lines text edition lengths area r.number r.place)
 
 abbrev pub why_by : List ℕ → TextRead → List ℕ
 why_by text (rows e lengths area) = text_by text e lengths area (ruling (list_rules e lengths area))

@@ -12,8 +12,8 @@ ghost use Rattle.objections.specs.Objections.{pack_why, why_room};
 use crate::refused::put_rows;
 use crate::told::put_fault;
 use form::KINDS;
-use phrases::{Put, put_short};
-use texts::{AREA_ROOM, Entered, enter};
+use phrases::put_text;
+use texts::{AREA_ROOM, enter};
 
 // Room that is always enough for the lines.
 pub const WHY_ROOM: usize = 400;
@@ -26,30 +26,23 @@ fn write_why(text: &[u8], out: &mut [u8]) -> usize
     let mut lengths = [0u32; KINDS];
     let mut area = [0u32; AREA_ROOM];
     match enter(text, &mut lengths, &mut area) {
-        Entered::Rows { edition, used } => put_rows(
+        Ok(entered) => put_rows(
             text,
-            edition,
+            entered.edition,
             &lengths,
-            &area[0..used],
+            &area[..entered.used],
             out,
             0,
         ),
-        Entered::Fault(fault) => put_fault(fault, out, 0),
+        Err(fault) => put_fault(fault, out, 0),
     }
 }
 
 // Why a text can't be packed, or `packed` and the bytes of its return: the lines at the front of the room, and their length; a room too short for them is left as it was.
-pub fn say_why(text: &[u8], room: &mut [u8]) -> Put
+pub fn say_why(text: &[u8], room: &mut [u8]) -> Option<usize>
     ensures value { result ≡ put_of (pack_why text.now) room.old }
     ensures room_after { room.new ≡ text_after (pack_why text.now) room.old result }
     ensures text_len_bound { length (pack_why text.now) ≤ why_room }
 {
-    // room for any lines is written to as it is, and only shorter room needs the lines elsewhere first
-    if WHY_ROOM <= room.len() {
-        let n = write_why(text, room);
-        return Put::Done(n);
-    }
-    let mut space = [0u8; WHY_ROOM];
-    let n = write_why(text, &mut space);
-    put_short(&space, n, room)
+    put_text::<WHY_ROOM, _>(room, |out| write_why(text, out))
 }

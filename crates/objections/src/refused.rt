@@ -4,7 +4,7 @@ ghost use Rattle.form.specs.Layout.{kinds};
 ghost use Rattle.form.specs.Ruling.{ruling};
 ghost use Rattle.form.specs.Records.{record_rules};
 ghost use Rattle.form.specs.Sums.{filed_rules};
-ghost use Rattle.form.specs.declared.Ruling.TheVariants.{Clean, Broken};
+ghost use Rattle.form.specs.Refusals.{Clean, Refused};
 ghost use Rattle.filing.specs.Lists.{cut, filed_lists};
 ghost use Rattle.lists.specs.Rules.{Good, blocks_from, list_rules};
 ghost use Rattle.phrases.specs.Ascii.{codes};
@@ -13,7 +13,6 @@ ghost use Rattle.objections.specs.Objections.{found_lines, list_lines, line_line
 
 use balance::unwritten::rule_lists;
 use clashes::{find_row, put_clash};
-use form::{Ruling, Spot};
 use lists::{blocks_in, count, first_bad_list, length_at, rule_records};
 use naming::put_kind_name;
 use phrases::text::{put, put_byte};
@@ -27,7 +26,7 @@ fn put_found(lengths: &[u32], kind: u32, out: &mut [u8], at: usize) -> usize
 {
     let k = kind as usize;
     let rows = count(k, length_at(lengths, k - 1));
-    let a = put(b"kind_name ", 10, out, at);
+    let a = put(b"kind_name ", out, at);
     let b = put_kind_name(kind, out, a);
     let c = put_byte(10, out, b);
     put_one(b"rows ", rows as u64, out, c)
@@ -87,9 +86,9 @@ fn put_refusal(
     at: usize,
 ) -> usize
     requires good { Good lengths.now (length area.now) }
-    requires area_value { ruling (filed_rules edition (filed_lists (cut lengths.now area.now))) ≡ Broken number place }
+    requires area_value { ruling (filed_rules edition (filed_lists (cut lengths.now area.now))) ≡ Refused number place }
     requires at_in_bounds { at + 310 ≤ length out.old }
-    ensures { WrittenIn 310 (text_by text.now edition lengths.now area.now (Broken number place)) out.old out.new at result }
+    ensures { WrittenIn 310 (text_by text.now edition lengths.now area.now (Refused number place)) out.old out.new at result }
 {
     let a = put_refused(number, place, out, at);
     let b = put_clash(edition, lengths, area, number, place, out, a);
@@ -121,10 +120,8 @@ fn put_each(
     ensures { WrittenIn 310 (text_by text.now edition lengths.now area.now (ruling (filed_rules edition (filed_lists (cut lengths.now area.now))))) out.old out.new at result }
 {
     match rule_lists(lengths, area) {
-        Ruling::Broken { number, place } => put_refusal(
-            text, edition, lengths, area, number, place, out, at,
-        ),
-        Ruling::Clean => put_packed(lengths, area, out, at),
+        Err(r) => put_refusal(text, edition, lengths, area, r.number, r.place, out, at),
+        Ok(()) => put_packed(lengths, area, out, at),
     }
 }
 
@@ -142,10 +139,8 @@ fn put_whole(
     ensures { WrittenIn 310 (text_by text.now edition lengths.now area.now (ruling (filed_rules edition (filed_lists (cut lengths.now area.now))))) out.old out.new at result }
 {
     match rule_records(edition, lengths, area) {
-        Ruling::Broken { number, place } => put_refusal(
-            text, edition, lengths, area, number, place, out, at,
-        ),
-        Ruling::Clean => put_each(text, edition, lengths, area, out, at),
+        Err(r) => put_refusal(text, edition, lengths, area, r.number, r.place, out, at),
+        Ok(()) => put_each(text, edition, lengths, area, out, at),
     }
 }
 
@@ -162,7 +157,7 @@ pub fn put_rows(
     ensures { WrittenIn why_room (text_by text.now edition lengths.now area.now (ruling (list_rules edition lengths.now area.now))) out.old out.new at result }
 {
     match first_bad_list(edition, lengths, area.len()) {
-        Spot::At(place) => put_bad_list(edition, lengths, place, out, at),
-        Spot::Nowhere => put_whole(text, edition, lengths, area, out, at),
+        Some(place) => put_bad_list(edition, lengths, place, out, at),
+        None => put_whole(text, edition, lengths, area, out, at),
     }
 }

@@ -8,7 +8,7 @@ ghost use Rattle.objections.specs.Objections.{why_room};
 use console::{complain, put_sized, take};
 use form::LONGEST;
 use objections::{WHY_ROOM, say_why};
-use packing::{Packing, pack};
+use packing::pack;
 
 // One byte more than the longest text, so that a longer input is refused for its length.
 const TEXT_ROOM: usize = 131073;
@@ -26,7 +26,7 @@ fn hand_out(rt: &HostRuntime, text: &[u8], room: &mut [u8], size: &mut [u32])
     requires { (longest ≤ length room.old) × (1 ≤ length size.old) }
 {
     match pack(text, room, size) {
-        Packing::Packed => {
+        Ok(()) => {
             put_sized(
                 rt,
                 room,
@@ -34,7 +34,7 @@ fn hand_out(rt: &HostRuntime, text: &[u8], room: &mut [u8], size: &mut [u32])
                 b"pack: standard output did not take the whole return\n",
             );
         }
-        _ => {
+        Err(_) => {
             let mut why = [0u8; WHY_ROOM];
             refuse(rt, text, &mut why);
         }
@@ -43,11 +43,9 @@ fn hand_out(rt: &HostRuntime, text: &[u8], room: &mut [u8], size: &mut [u32])
 
 fn main(rt: HostRuntime) {
     let mut text = [0u8; TEXT_ROOM];
-    let taken = take(&rt, &mut text, b"pack: the input could not be read\n");
-    if !taken.whole {
+    let Ok(n) = take(&rt, &mut text, b"pack: the input could not be read\n") else {
         return;
-    }
-    let n = taken.count;
+    };
     let mut room = [0u8; LONGEST];
     let mut size = [0u32; 1];
     hand_out(&rt, &text[..n], &mut room, &mut size);

@@ -1,22 +1,21 @@
 -- A text packed: "every text of every length gets its return or one refusal", first the text's own fault, "then writing's own", and "last 9000". Assumes nothing.
-use Rattle.std.specs.Prelude.{ℕ, List}
-use Rattle.form.specs.declared.Ruling.{Ruling}
-use Rattle.form.specs.declared.Ruling.TheVariants as R
+use Rattle.form.specs.Refusals.{Clean, Ruling}
+use Rattle.std.specs.Prelude.{ℕ, List, Result, Ok, Err}
 use Rattle.handed.specs.Rows.{write_call, blocks_written, size_written}
 use Rattle.texts.specs.Texts.{TextRead, rows, faulty, text_read}
-use Rattle.packing.specs.declared.Packing.{Packing}
-use Rattle.packing.specs.declared.Packing.TheVariants.{Packed, Faulty, Refused}
+use Rattle.packing.specs.declared.NotPacked.{NotPacked}
+use Rattle.packing.specs.declared.NotPacked.TheVariants.{Faulty, Refused}
 
-abbrev pub of_ruling : Ruling → Packing
-of_ruling R.Clean = Packed
-of_ruling (R.Broken n p) = Refused n p
+abbrev pub of_ruling : Ruling → Result (Unit {0}) NotPacked
+of_ruling Clean = Ok tt
+of_ruling (Err r) = Err (Refused r)
 
 -- what the rows of a text are answered, into these rooms: what writing answers
-abbrev pub packed_by : TextRead → List ℕ → List ℕ → Packing
+abbrev pub packed_by : TextRead → List ℕ → List ℕ → Result (Unit {0}) NotPacked
 packed_by (rows e lengths area) room size = of_ruling (write_call e area lengths room size)
-packed_by (faulty f) room size = Faulty f
+packed_by (faulty f) room size = Err (Faulty f)
 
-abbrev pub pack_call : List ℕ → List ℕ → List ℕ → Packing
+abbrev pub pack_call : List ℕ → List ℕ → List ℕ → Result (Unit {0}) NotPacked
 pack_call text room size = packed_by (text_read text) room size
 
 -- the rooms afterwards: "exactly the blocks at the front" and their number of bytes, or both as they were

@@ -1,6 +1,6 @@
 -- How long lines of numbers are, each number being of 64 bits. Assumes nothing.
 --     filled-short     names and, for each space, at most twenty digits and a line feed
---     plain-short, plain-written   what `put_lines` asks and does with plain numbers
+--     plain-short, plain-written   what `put_lines` asks and does with them
 use Prim.Native.Nat.{ℕ, ◌+◌, ◌*◌, ◌^◌, ◌<◌, ◌≤◌}
 use mathlib.Core.Path.{◌≡◌, refl, ap}
 use mathlib.Core.Bool.{Bool, true, false, cond}
@@ -11,10 +11,9 @@ use lib.ListN.{length, length-append, get_or, drop}
 use lib.IntN.{pos}
 use Rattle.decimal.specs.Digits.{marked, WrittenAt}
 use Rattle.decimal.proofs.DigitLaws.{decimal-length}
-use Rattle.phrases.specs.Lines.{spaces, filled_in, unsigned, WrittenIn}
-use Rattle.phrases.specs.Threes.{of_threes, plain_threes}
+use Rattle.wide.specs.declared.signed.Signed.{Signed}
+use Rattle.phrases.specs.Lines.{spaces, filled_in, amounts, unsigned, WrittenIn}
 use Rattle.phrases.proofs.LineTexts.{as_text}
-use Rattle.phrases.proofs.ThreeLaws.{plain_values}
 
 abbrev pub AllSmall : List ℕ → Type 0
 AllSmall [] = Unit {0}
@@ -48,13 +47,13 @@ filled-short (b ∷ names) vs h = by (eqb b 32) (filled-short names vs h) (fille
     by false x y = omega (arith, x)
 
 -- what `put_lines` asks where the numbers are plain, and what it has then written
-module _ (names ns : List ℕ) (h : AllSmall ns) where
-  same : filled_in names (of_threes (plain_threes ns)) ≡ filled_in names (unsigned ns)
-  same = ap (filled_in names) (plain_values ns)
+module _ (names : List ℕ) (values : List Signed) (ns : List ℕ) (q : amounts values ≡ unsigned ns) (h : AllSmall ns) where
+  same : filled_in names (amounts values) ≡ filled_in names (unsigned ns)
+  same = ap (filled_in names) q
 
-  pub plain-short : length (filled_in names (of_threes (plain_threes ns))) ≤ length names + 21 * spaces names
+  pub plain-short : length (filled_in names (amounts values)) ≤ length names + 21 * spaces names
   plain-short = omega (arith, filled-short names ns h, ap length same)
 
-  pub plain-written : {d e : List ℕ} {i j : ℕ} (n : ℕ) → length names + 21 * spaces names ≤ n → WrittenAt (filled_in names (of_threes (plain_threes ns))) d e i j
+  pub plain-written : {d e : List ℕ} {i j : ℕ} (n : ℕ) → length names + 21 * spaces names ≤ n → WrittenAt (filled_in names (amounts values)) d e i j
       → WrittenIn n (filled_in names (unsigned ns)) d e i j
   plain-written n l w = (as_text same w, omega (arith, w.place, plain-short))

@@ -16,7 +16,6 @@ use lib.ListN.{length, drop, get_or, length-append}
 use lib.Seq.{drop-cons, drop-drop, drop-length, get_or-drop, length-sets}
 use Rattle.decimal.specs.Digits.{marked, WrittenAt}
 use Rattle.decimal.proofs.DigitLaws.{written-more}
-use Rattle.wide.specs.Numbers.{value}
 use Rattle.phrases.specs.Lines.{Line, ended, line, lines_text, spaces, filled_in}
 
 pub spaces_append : (s t : List ℕ) → spaces (s ++ t) ≡ spaces s + spaces t

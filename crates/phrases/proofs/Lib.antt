@@ -2,5 +2,5 @@ pub mod Bounds
 pub mod Filled
 pub mod LineTexts
 pub mod Room
-pub mod ThreeLaws
+pub mod Values
 pub mod WordLaws

@@ -1,9 +1,9 @@
 -- Worked examples: the definitions compute, with literal names and values that are not known. Assumes nothing.
 use Rattle.std.specs.Prelude.{ℕ, ◌≡◌, refl, pos}
-use mathlib.Core.List.{[], ◌∷◌, flat_map}
+use mathlib.Core.List.{[], ◌∷◌}
 use Rattle.phrases.specs.Ascii.{codes}
 use Rattle.phrases.specs.Lines.{number_line, lines_text, filled_in}
-use Rattle.phrases.specs.Words.{spaced_out, up_to_space, start_of, word_at}
+use Rattle.phrases.specs.Words.{up_to_space, start_of, word_at}
 
 -- a name is its bytes
 bytes_are : codes "id N/C" ≡ 105 ∷ 100 ∷ 32 ∷ 78 ∷ 47 ∷ 67 ∷ []

@@ -1,6 +1,6 @@
 -- Lines of text: "name, one space, value in decimal, with `-` only below zero. Every line ends with a line feed." Assumes nothing.
 use Rattle.std.specs.Prelude.{ℕ, ◌+◌, ◌≤◌, cond, List, [], ◌∷◌, ◌++◌, map, get_or, drop, eqb, ℤ, pos}
-use Rattle.wide.specs.Signs.{amount, Canonical}
+use Rattle.wide.specs.Signs.{amount}
 use Rattle.wide.specs.declared.signed.Signed.{Signed}
 use Rattle.decimal.specs.Digits.{decimal, marked, WrittenAt}
 use Rattle.phrases.specs.Ascii.{codes}
@@ -46,6 +46,10 @@ filled_in (b ∷ bs) vs =
     let valued = marked (get_or vs 0 (pos 0)) ++ 10 ∷ filled_in bs (drop 1 vs) in
     let on = filled_in bs vs in
     b ∷ cond (eqb b 32) valued on
+
+-- the integers that some values stand for
+abbrev pub amounts : List Signed → List ℤ
+amounts values = map amount values
 
 -- plain numbers as values
 abbrev pub unsigned : List ℕ → List ℤ

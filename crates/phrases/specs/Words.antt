@@ -1,5 +1,6 @@
 -- Words of a text, each with a space (32) behind it. Assumes nothing.
-use Rattle.std.specs.Prelude.{ℕ, zero, suc, cond, drop, eqb}
+use Rattle.std.specs.Prelude.{ℕ, zero, suc, cond, drop, eqb, map, get_or}
+use Rattle.std.specs.Borrow.{Bor}
 use mathlib.Core.List.{List, [], ◌∷◌, ◌++◌, flat_map}
 
 -- some words as such a text
@@ -20,3 +21,7 @@ start_of (suc i) (b ∷ bs) = suc (start_of (cond (eqb b 32) i (suc i)) bs)
 -- word i; past the last there is none
 abbrev pub word_at : ℕ → List ℕ → List ℕ
 word_at i s = up_to_space (drop (start_of i s) s)
+
+-- word i of a list of them, each lent; past the last there is none
+abbrev pub word_in : ℕ → List (Bor (List ℕ)) → List ℕ
+word_in i words = get_or (map (λ (w : Bor (List ℕ)). w.now) words) i []

@@ -3,39 +3,31 @@
 
 pub mod text;
 
-ghost use Rattle.std.specs.Prelude.{◌≡◌, ◌+◌, ◌*◌, ◌≤◌, length, take, drop};
+ghost use Rattle.std.specs.Prelude.{◌≡◌, ◌+◌, ◌^◌, ◌<◌, ◌≤◌, length};
+ghost use Rattle.std.specs.Fn.{FnOnceTakesAtMut, FnOnceReturnsAtMut};
 ghost use Rattle.decimal.specs.Digits.{WrittenAt};
-ghost use Rattle.phrases.specs.Lines.{WrittenIn, spaces, filled_in, one_filled, two_filled, refused_line};
-ghost use Rattle.phrases.specs.Words.{start_of, up_to_space, word_at};
-ghost use Rattle.phrases.specs.Threes.{of_threes};
-ghost use Rattle.phrases.specs.Room.{put_of, text_after};
+ghost use Rattle.phrases.specs.Lines.{WrittenIn, spaces, amounts, filled_in, one_filled, two_filled, refused_line};
+ghost use Rattle.phrases.specs.Words.{word_in};
+ghost use Rattle.phrases.specs.Room.{put_of, text_after, IsPut, Writes};
 
-use text::{plain, put_byte, put_value, value_at};
+use text::{plain, put_byte, put_value};
+use wide::signed::{Signed, with_sign};
 
-// How a text was put into lent room.
-#[derive(Clone, Copy)]
-pub enum Put {
-    Done(usize),
-    Short,
-}
-
-// Lines: the names, each with a space behind it, and after each space the next value and a line feed. A value is three numbers;
-// there are as many as spaces or more, and a plain number n is 0, 0, n.
-pub fn put_lines(names: &[u8], threes: &[u64], out: &mut [u8], at: usize) -> usize
-    requires { (3 * spaces names.now ≤ length threes.now) × (at + length (filled_in names.now (of_threes threes.now)) ≤ length out.old) }
-    ensures { WrittenAt (filled_in names.now (of_threes threes.now)) out.old out.new at result }
+// Lines: the names, each with a space behind it, and after each space the next value and a line feed. There are as many values as spaces or more.
+pub fn put_lines(names: &[u8], values: &[Signed], out: &mut [u8], at: usize) -> usize
+    requires enough { spaces names.now ≤ length values.now }
+    requires room { at + length (filled_in names.now (amounts values.now)) ≤ length out.old }
+    ensures { WrittenAt (filled_in names.now (amounts values.now)) out.old out.new at result }
 {
-    let mut k: usize = 0;
     let mut j: usize = 0;
     let mut to = at;
-    while k < names.len() {
-        let b = names[k];
+    for &b in names {
         to = put_byte(b, out, to);
         if b == 32 {
-            to = put_value(value_at(threes, j), 10, out, to);
+            let z = values[j];
+            to = put_value(with_sign(z.below, z.size), 10, out, to);
             j += 1;
         }
-        k += 1;
     }
     to
 }
@@ -45,7 +37,7 @@ pub fn put_one(name: &[u8], n: u64, out: &mut [u8], at: usize) -> usize
     requires { (spaces name.now ≤ 1) × (at + (length name.now + 21) ≤ length out.old) }
     ensures { WrittenIn (length name.now + 21) (one_filled name.now n) out.old out.new at result }
 {
-    let values = [0, 0, n];
+    let values = [plain(n)];
     put_lines(name, &values, out, at)
 }
 
@@ -54,7 +46,7 @@ pub fn put_two(names: &[u8], m: u32, n: u32, out: &mut [u8], at: usize) -> usize
     requires { (spaces names.now ≤ 2) × (at + (length names.now + 42) ≤ length out.old) }
     ensures { WrittenIn (length names.now + 42) (two_filled names.now m n) out.old out.new at result }
 {
-    let values = [0, 0, m as u64, 0, 0, n as u64];
+    let values = [plain(m as u64), plain(n as u64)];
     put_lines(names, &values, out, at)
 }
 
@@ -63,65 +55,47 @@ pub fn put_refused(number: u8, place: u32, out: &mut [u8], at: usize) -> usize
     requires { at + length (refused_line number place) ≤ length out.old }
     ensures { WrittenAt (refused_line number place) out.old out.new at result }
 {
-    let a = text::put(b"refused ", 8, out, at);
+    let a = text::put(b"refused ", out, at);
     let b = put_value(plain(number as u64), 32, out, a);
     put_value(plain(place as u64), 10, out, b)
 }
 
-// Where word i starts.
-fn start_of(words: &[u8], i: usize) -> usize
-    ensures { result ≡ start_of i words.now }
+// Word i of some words at a place; past the last there is none.
+pub fn put_word(words: &[&[u8]], i: usize, out: &mut [u8], at: usize) -> usize
+    requires { at + length (word_in i words.now) ≤ length out.old }
+    ensures { WrittenAt (word_in i words.now) out.old out.new at result }
 {
-    let mut k: usize = 0;
-    let mut left = i;
-    while k < words.len() {
-        if left == 0 {
-            return k;
-        }
-        if words[k] == 32 {
-            left -= 1;
-        }
-        k += 1;
+    match words.get(i) {
+        Some(word) => text::put(word, out, at),
+        None => at,
     }
-    k
 }
 
-// What stands from a place on, up to the next space.
-fn put_up_to_space(words: &[u8], from: usize, out: &mut [u8], at: usize) -> usize
-    requires { at + length (up_to_space (drop from words.now)) ≤ length out.old }
-    ensures { WrittenAt (up_to_space (drop from words.now)) out.old out.new at result }
+// A text at the front of the room, and its length; or none, and the room as it was, where it is shorter.
+fn put_short(text: &[u8], room: &mut [u8]) -> Option<usize>
+    ensures value { result ≡ put_of text.now room.old }
+    ensures room_after { room.new ≡ text_after text.now room.old result }
 {
-    let mut k = from;
-    let mut to = at;
-    while k < words.len() {
-        let b = words[k];
-        if b == 32 {
-            return to;
-        }
-        to = put_byte(b, out, to);
-        k += 1;
+    if room.len() < text.len() {
+        return None;
     }
-    to
+    Some(text::put(text, room, 0))
 }
 
-// Word i of some words at a place.
-pub fn put_word(words: &[u8], i: usize, out: &mut [u8], at: usize) -> usize
-    requires { at + length (word_at i words.now) ≤ length out.old }
-    ensures { WrittenAt (word_at i words.now) out.old out.new at result }
+// The text that `write` writes into any room of ROOM bytes or more, at the front of the room, and its length; a room too short for it is left as it was.
+// Room for any text is written to as it is, and only shorter room needs the text elsewhere first.
+pub fn put_text<const ROOM: usize, W: FnOnce(&mut [u8]) -> usize>(
+    room: &mut [u8],
+    write: W,
+) -> Option<usize>
+    requires size { ROOM < 2 ^ 63 }
+    requires writes { (text : _) × Writes ROOM (FnOnceTakesAtMut W.FnOnce write) (FnOnceReturnsAtMut W.FnOnce write) text }
+    ensures { (text : _) → Writes ROOM (FnOnceTakesAtMut W.FnOnce write) (FnOnceReturnsAtMut W.FnOnce write) text → IsPut ROOM text room.old room.new result }
 {
-    let from = start_of(words, i);
-    put_up_to_space(words, from, out, at)
-}
-
-// The first n bytes of a text at the front of the room, or the room as it was where it is shorter.
-pub fn put_short(text: &[u8], n: usize, room: &mut [u8]) -> Put
-    requires { n ≤ length text.now }
-    ensures value { result ≡ put_of (take n text.now) room.old }
-    ensures room_after { room.new ≡ text_after (take n text.now) room.old result }
-{
-    if room.len() < n {
-        return Put::Short;
+    if ROOM <= room.len() {
+        return Some(write(room));
     }
-    text::put(text, n, room, 0);
-    Put::Done(n)
+    let mut space = [0u8; ROOM];
+    let n = write(&mut space);
+    put_short(&space[..n], room)
 }

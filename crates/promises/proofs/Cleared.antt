@@ -1,5 +1,5 @@
 -- A return that clears no less than another has no subtotal that is lower, exactly or as a double (specs/Cleared).
-use Rattle.std.specs.Prelude.{ℕ, ◌≤◌, ◌≡◌, List, length}
+use Rattle.std.specs.Prelude.{ℕ, ◌≤◌, ◌≡◌, List, length, Ok}
 use Rattle.std.proofs.Common.{◌∙◌}
 use Rattle.std.proofs.Math.Path.{ap}
 use Rattle.std.specs.Float.{binary64}
@@ -7,7 +7,6 @@ use Rattle.std.specs.Float.Ieee.{of_bits}
 use Rattle.form.specs.Bytes.{number}
 use Rattle.form.specs.Verdict.{rows, verdict_of}
 use Rattle.form.specs.declared.Counts.{Counts}
-use Rattle.form.specs.declared.Verdict.TheVariants.{Accepted}
 use Rattle.totals.specs.Sums.{totals_of}
 use Rattle.ledger.specs.Ledger.{entered}
 use Rattle.ledger.specs.Derived.{conversion_of}
@@ -23,7 +22,7 @@ use Rattle.promises.specs.Demand1.{figures_say}
 use Rattle.promises.specs.FromC.{c_subtotal_read}
 use Rattle.promises.specs.Cleared.{MoreCleared, ExactNoLower, DoublesNoLower, raised, as_said}
 
-module _ (s t : List ℕ) (c d : Counts) (first : verdict_of s ≡ Accepted c) (second : verdict_of t ≡ Accepted d) (more : MoreCleared s t) where
+module _ (s t : List ℕ) (c d : Counts) (first : verdict_of s ≡ Ok c) (second : verdict_of t ≡ Ok d) (more : MoreCleared s t) where
   sums : AllRaised (rows 1 s) (rows 1 t)
   sums = sums_raised s t c d first second more.as_many (λ i l. raised (more.row_by_row i l))
 

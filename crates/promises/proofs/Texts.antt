@@ -20,7 +20,7 @@ module _ (text room size : List ℕ) where
     said = q;
     called = clean-ruling ((c_write_by_order e area lengths room size).answered_by.0 (sym (same_code (write_call e area lengths room size)) ∙ z));
   }
-  says (faulty f) q z = let k = (fault-known text f q).0 in absurd (omega (arith, k, z))
+  says (faulty f) q z = let k = (fault-known f.fault).0 in absurd (omega (arith, k, z))
 
   pub pack_told : pack_code (pack_call text room size) ≡ 0 → PackedTold text room size
   pack_told z =

@@ -1,6 +1,6 @@
 -- §9. "Our chart readers compare two versions of a return and must not see a smaller bar for a bigger clearing." The first return is s, the second t:
 -- both accepted, of any editions. "Nothing is claimed of P, Q or the report": they are made of the other kinds too, of which nothing is asked.
-use Rattle.std.specs.Prelude.{ℕ, ◌≤◌, ◌<◌, ◌≡◌, refl, List, [], length, get_or, ◌≤ℤ◌}
+use Rattle.std.specs.Prelude.{ℕ, ◌≤◌, ◌<◌, ◌≡◌, refl, List, [], length, get_or, ◌≤ℤ◌, Ok}
 use Rattle.std.proofs.Common.{sym, ◌∙◌, le_refl, arith}
 use Rattle.std.proofs.Math.Path.{ap}
 use Rattle.form.specs.Records.{id_of, area_of, before, after, onsite, onsite_oxidised, onsite_carbon, offsite, offsite_oxidised, offsite_carbon}
@@ -13,7 +13,6 @@ use Rattle.worksheets.specs.Answers.{worked, outcome_of, said, answered}
 use Rattle.worksheets.specs.declared.sheets.Figures.{Figures}
 use Rattle.doubles.specs.Subtotals.{answer_of}
 use Rattle.doubles.specs.declared.Doubles.{Doubles}
-use Rattle.doubles.specs.declared.Answer.TheVariants as doubles
 use Rattle.nearness.specs.NoLower.{NoLower}
 use Rattle.nearness.proofs.Cleared.{RowRaised, onsite_raised, offsite_raised, decay_raised}
 use Rattle.cases.proofs.Single.{lone-answered, grown-answered, none_cleared}
@@ -58,8 +57,8 @@ pub record DoublesNoLower (s t : List ℕ) (d e : Doubles) : Type 0 where
   pub onsite : NoLower d.onsite e.onsite
   pub offsite : NoLower d.offsite e.offsite
   pub decay : NoLower d.decay e.decay
-  pub first-answer : answer_of s ≡ doubles.Figures d
-  pub second-answer : answer_of t ≡ doubles.Figures e
+  pub first-answer : answer_of s ≡ Ok d
+  pub second-answer : answer_of t ≡ Ok e
 
 pub raised : {r q : List ℕ} → RowMoreCleared r q → RowRaised r q
 raised {r} {q} m = record {

@@ -1,6 +1,6 @@
 -- DEMAND 2. "Figures are the 1996 Workbook's columns, kept as exact whole numbers and rounded once, at the final tonne. Good rows written as a return read back as
 -- those rows; an accepted return, read and written again, is the same bytes."
-use Rattle.std.specs.Prelude.{ℕ, suc, ◌+◌, ◌-◌, ◌*◌, ◌^◌, ◌<◌, ◌≤◌, ◌≡◌, refl, cond, List, length, get_or, ltb, eqb, ℤ, pos, neg_ℤ, ◌-ℤ◌, ◌*ℤ◌}
+use Rattle.std.specs.Prelude.{ℕ, suc, ◌+◌, ◌-◌, ◌*◌, ◌^◌, ◌<◌, ◌≤◌, ◌≡◌, refl, cond, List, length, get_or, ltb, eqb, ℤ, pos, neg_ℤ, ◌-ℤ◌, ◌*ℤ◌, Ok}
 use Rattle.std.proofs.Common.{sym, ap, subst, ◌∙◌, arith, lit<}
 use Rattle.form.specs.Ruling.{on_front}
 use Rattle.form.specs.Layout.{kinds}
@@ -9,11 +9,9 @@ use Rattle.form.specs.Records.{unit_code, filed_rows, area_of, before, after, on
 use Rattle.form.proofs.Periods.{thinner_none, plain}
 use Rattle.form.specs.Verdict.{rows, counts_of, count_in, verdict_of}
 use Rattle.form.specs.declared.Counts.{Counts}
-use Rattle.form.specs.declared.Verdict.TheVariants.{Accepted}
 use Rattle.filing.specs.Lists.{cut, rows_in, filed_lists}
 use Rattle.rows.specs.Reading.{read_answer, room_after, lengths_of}
 use Rattle.rows.specs.Writing.{write_answer, bytes_after}
-use Rattle.rows.specs.declared.Written.TheVariants.{Done}
 use Rattle.trips.proofs.Again.{returned, read-accepted, read-edition, read-counts, read-scattered, read-rows, left_behind, write_done, write_same}
 use Rattle.standing.proofs.Accepted.{formed, formed_counts}
 use Rattle.wide.specs.Numbers.{value}
@@ -175,7 +173,7 @@ unfolding thinner_part
 figures-thinner s = (value_words (thinner_pairs s)).number
 
 -- two periods of each of 32 rows
-pub few_thinner : (s : List ℕ) (c : Counts) → verdict_of s ≡ Accepted c → value (figures_of (by_kind s)).thinner.0 ≤ 64
+pub few_thinner : (s : List ℕ) (c : Counts) → verdict_of s ≡ Ok c → value (figures_of (by_kind s)).thinner.0 ≤ 64
 few_thinner s c accepted = omega (arith, (columns-small s c (formed s c accepted)).6, (value_words (thinner_total (rows 1 s))).number)
 
 pub figures_5_3 : (s : List ℕ) → Sheet5-3 (value (figures_of (by_kind s)).conversion.onsite.0) (given (by_kind s)) (figures_of (by_kind s)).gases
@@ -211,16 +209,16 @@ pub figures-scattered : (s : List ℕ) → value (figures_of (by_kind s)).scatte
 unfolding scattered_part
 figures-scattered s = (value_words (scattered_rows s)).number
 
-pub counts-scattered : (s : List ℕ) (c : Counts) → verdict_of s ≡ Accepted c → c.scattered ≡ scattered_rows s
+pub counts-scattered : (s : List ℕ) (c : Counts) → verdict_of s ≡ Ok c → c.scattered ≡ scattered_rows s
 unfolding scattered_part
 counts-scattered s c accepted = ap (λ (x : Counts). x.scattered) (formed_counts s c (formed s c accepted))
 
 -- no more of them than stock rows
-pub few_scattered : (s : List ℕ) (c : Counts) → verdict_of s ≡ Accepted c → c.scattered ≤ c.stock
+pub few_scattered : (s : List ℕ) (c : Counts) → verdict_of s ≡ Ok c → c.scattered ≤ c.stock
 few_scattered s c accepted = scattered_le s c accepted
 
 -- no sum overflows: 32 stocks of at most 2.7 x 10^16 are below 2^60, so either sum is one word
-pub soils_fit : (s : List ℕ) (c : Counts) → verdict_of s ≡ Accepted c → (stocks_now s < 2 ^ 60) × (stocks_then s < 2 ^ 60)
+pub soils_fit : (s : List ℕ) (c : Counts) → verdict_of s ≡ Ok c → (stocks_now s < 2 ^ 60) × (stocks_then s < 2 ^ 60)
 unfolding soil_carbon stock_now stock_then
 soils_fit s c accepted = let w = sums-small s c (formed s c accepted) in (omega (arith, w.0), omega (arith, w.1))
 
@@ -228,13 +226,13 @@ soils_fit s c accepted = let w = sums-small s c (formed s c accepted) in (omega 
 -- Whatever write answers other than a refusal: the bytes that it left at the front of its room, read to any room that is long enough for the rows, are
 -- accepted with the edition that they were written in and the counts of the rows, of scattered trees too, and the rows, kind after kind, stand at the front of that room.
 pub record ReadsBack (edition : ℕ) (lengths rows : List ℕ) (s room : List ℕ) : Type 0 where
-  pub accepted : read_answer s room ≡ Accepted (counts_of s)
+  pub accepted : read_answer s room ≡ Ok (counts_of s)
   pub same_edition : (counts_of s).edition ≡ edition
   pub counts : (k : ℕ) → k < kinds → count_in (counts_of s) (suc k) ≡ rows_in (suc k) (get_or lengths k 0)
   pub scattered : (counts_of s).scattered ≡ scattered_in (filed_rows (filed_lists (cut lengths rows)) 2)
-  pub front : room_after s room (Accepted (counts_of s)) ≡ on_front rows room
+  pub front : room_after s room (Ok (counts_of s)) ≡ on_front rows room
 
-pub written_reads_back : (edition : ℕ) (lengths rows bytes : List ℕ) (n : ℕ) → write_answer edition lengths rows bytes ≡ Done n
+pub written_reads_back : (edition : ℕ) (lengths rows bytes : List ℕ) (n : ℕ) → write_answer edition lengths rows bytes ≡ Ok n
     → (room : List ℕ) → length rows ≤ length room → ReadsBack edition lengths rows (returned edition lengths rows bytes n) room
 written_reads_back edition lengths rows bytes n done room long = record {
   accepted = read-accepted edition lengths rows bytes n done room long;
@@ -248,14 +246,14 @@ written_reads_back edition lengths rows bytes n done room long = record {
 -- Whatever read answers other than a refusal: the rows that it left at the front of its room, cut by the counts that it answered and written, in the edition that it
 -- answered, to any room that is long enough, are as many bytes as the return has, and the same.
 pub record WritesBack (s : List ℕ) (edition : ℕ) (lengths rows room : List ℕ) : Type 0 where
-  pub done : write_answer edition lengths rows room ≡ Done (length s)
-  pub front : bytes_after edition lengths rows room (Done (length s)) ≡ on_front s room
+  pub done : write_answer edition lengths rows room ≡ Ok (length s)
+  pub front : bytes_after edition lengths rows room (Ok (length s)) ≡ on_front s room
 
 -- The definitions speak of lists of any numbers, so it is said that these are bytes; of what is lent as `&[u8]` that is known (Lent).
 abbrev pub Bytes : List ℕ → Type 0
 Bytes s = (i : ℕ) → i < length s → byte_at s i < 256
 
-pub read_writes_back : (s : List ℕ) → Bytes s → (room : List ℕ) (c : Counts) → read_answer s room ≡ Accepted c
+pub read_writes_back : (s : List ℕ) → Bytes s → (room : List ℕ) (c : Counts) → read_answer s room ≡ Ok c
     → (bytes : List ℕ) → length s ≤ length bytes → WritesBack s c.edition (lengths_of c) (left_behind s room c) bytes
 read_writes_back s small room c read bytes long = record {
   done = write_done s room c read small bytes long;

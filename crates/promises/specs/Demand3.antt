@@ -1,10 +1,9 @@
 -- DEMAND 3. "For an accepted return with n conversion rows (0 to 32), each carbon subtotal (on site, off site, decayed) also comes as a double: a whole number whose
 -- distance from the exact subtotal, times 2 to the 53rd, is at most (n + 2) times the exact subtotal."
-use Rattle.std.specs.Prelude.{ℕ, ◌≤◌, ◌≡◌, List, Float, length}
+use Rattle.std.specs.Prelude.{ℕ, ◌≤◌, ◌≡◌, List, Float, length, Ok}
 use Rattle.std.proofs.Common.{sym, ap, subst}
 use Rattle.form.specs.Verdict.{rows, row_count, verdict_of}
 use Rattle.form.specs.declared.Counts.{Counts}
-use Rattle.form.specs.declared.Verdict.TheVariants.{Accepted}
 use Rattle.standing.proofs.Accepted.{formed, formed_counts, few_rows, rows-length}
 use Rattle.wide.specs.Numbers.{value, words_of}
 use Rattle.wide.proofs.Laws.{value_words}
@@ -16,7 +15,6 @@ use Rattle.worksheets.specs.Sheets.{by_kind, figures_of}
 use Rattle.nearness.specs.Near.{Near}
 use Rattle.doubles.specs.Subtotals.{subtotals_of, answer_of}
 use Rattle.doubles.specs.declared.Doubles.{Doubles}
-use Rattle.doubles.specs.declared.Answer.TheVariants.{Figures}
 use Rattle.nearness.proofs.Demand.{answered, onsite_demand, offsite_demand, decay_demand}
 
 -- n, the answer and the three distances. Near n x exact: the double x is a whole number v, and |v - exact| x 2^53 is at most (n + 2) x exact.
@@ -25,7 +23,7 @@ pub record Demanded (s : List ℕ) (n : ℕ) (d : Doubles) : Type 0 where
   pub counted : n ≡ row_count 1 s
   pub listed : n ≡ length (rows 1 s)
   pub few : n ≤ 32
-  pub answer : answer_of s ≡ Figures d
+  pub answer : answer_of s ≡ Ok d
   pub onsite : Near n d.onsite (value (figures_of (by_kind s)).conversion.onsite.0)
   pub offsite : Near n d.offsite (value (figures_of (by_kind s)).conversion.offsite.0)
   pub decay : Near n d.decay (value (figures_of (by_kind s)).conversion.decay.0)
@@ -33,7 +31,7 @@ pub record Demanded (s : List ℕ) (n : ℕ) (d : Doubles) : Type 0 where
 as_said : {n : ℕ} {x : Float} (exact : ℕ) → Near n x exact → Near n x (value (words_of exact))
 as_said {n} {x} exact h = subst (Near n x) (sym (value_words exact).number) h
 
-pub demand_3 : (s : List ℕ) (c : Counts) → verdict_of s ≡ Accepted c → Demanded s c.conversion (subtotals_of (rows 1 s))
+pub demand_3 : (s : List ℕ) (c : Counts) → verdict_of s ≡ Ok c → Demanded s c.conversion (subtotals_of (rows 1 s))
 unfolding conversion_of entered totals_of
 demand_3 s c accepted =
     let acc = formed s c accepted in

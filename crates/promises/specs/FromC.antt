@@ -1,7 +1,7 @@
 -- What success leaves in lent memory, from C, and demands 2 and 3 of that memory: the call gets back 0, and the answer stands "at the front; later elements
 -- keep their values".
 -- What a refusal leaves is in Demand1; the heaviest row from C is in Heaviest, the lookup's entry in Table52.
-use Rattle.std.specs.Prelude.{ℕ, suc, ◌≤◌, ◌<◌, ◌≡◌, refl, List, [], ◌∷◌, ◌++◌, get_or, take}
+use Rattle.std.specs.Prelude.{ℕ, suc, ◌≤◌, ◌<◌, ◌≡◌, refl, List, [], ◌∷◌, ◌++◌, get_or, take, Ok}
 use Rattle.std.proofs.Common.{sym, ◌∙◌, le-ltb}
 use Rattle.std.proofs.Math.Path.{ap}
 use Rattle.std.specs.Float.{binary64}
@@ -14,14 +14,12 @@ use Rattle.form.specs.Records.{filed_rows}
 use Rattle.form.specs.Sums.{scattered_in}
 use Rattle.form.specs.Verdict.{rules, rows, counts_of, count_list, verdict_of}
 use Rattle.form.specs.declared.Counts.{Counts}
-use Rattle.form.specs.declared.Ruling.TheVariants.{Clean}
-use Rattle.form.specs.declared.Verdict.TheVariants.{Accepted}
+use Rattle.form.specs.Refusals.{Clean}
 use Rattle.form.proofs.Order.{kept-before, one_kept, long_enough}
 use Rattle.standing.proofs.Accepted.{formed, formed_counts, accepted-ruling}
 use Rattle.filing.specs.Lists.{cut, total, rows_in, filed_lists}
 use Rattle.rows.specs.Reading.{area_to, lengths_from}
 use Rattle.rows.specs.Writing.{write_rules, write_answer, bytes_after}
-use Rattle.rows.specs.declared.Written.TheVariants.{Done}
 use Rattle.rows.proofs.Return.{done_by}
 use Rattle.totals.specs.Codes.{by_code, wrong_code}
 use Rattle.worksheets.specs.Sheets.{by_kind, figures_of}
@@ -39,7 +37,7 @@ use Rattle.steps.proofs.Doubles.{subtotal_fits, bits_back, by_code-holds}
 use Rattle.promises.specs.Demand3.{demand_3}
 
 -- ---- of an accepted return, in rooms that are long enough
-module _ (s : List ℕ) (c : Counts) (accepted : verdict_of s ≡ Accepted c) where
+module _ (s : List ℕ) (c : Counts) (accepted : verdict_of s ≡ Ok c) where
   counts_are : c ≡ counts_of s
   counts_are = formed_counts s c (formed s c accepted)
 
@@ -116,7 +114,7 @@ pub record WritesBackC (s : List ℕ) (edition : ℕ) (rows lengths room size : 
 
 -- from what the write in Rattle answers
 pub written_from : (s : List ℕ) (edition : ℕ) (rows lengths room size : List ℕ)
-    → write_answer edition lengths rows room ≡ Done (length s) → bytes_after edition lengths rows room (Done (length s)) ≡ on_front s room → 1 ≤ length size
+    → write_answer edition lengths rows room ≡ Ok (length s) → bytes_after edition lengths rows room (Ok (length s)) ≡ on_front s room → 1 ≤ length size
     → WritesBackC s edition rows lengths room size
 unfolding write_answer
 written_from s edition rows lengths room size done front h =

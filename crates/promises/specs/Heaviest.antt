@@ -1,20 +1,18 @@
 -- §7. "For an accepted return and one of the three subtotals it names the row with the largest exact part, the lower id on a tie, 'none' where the subtotal is zero."
 -- Its refusals, "those of the sheets, then 11 for a subtotal's code above 2", are in Demand1.
-use Rattle.std.specs.Prelude.{ℕ, ◌≤◌, ◌<◌, ◌≡◌, refl, List, [], ◌∷◌, length, get_or}
+use Rattle.std.specs.Prelude.{ℕ, ◌≤◌, ◌<◌, ◌≡◌, refl, List, [], ◌∷◌, length, get_or, Ok, Some, Err}
 use Rattle.std.proofs.Common.{sym, subst, ◌∙◌, arith}
 use Rattle.std.proofs.Math.Decide.{dec_lt}
 use Rattle.form.specs.Ruling.{too_short, ruling, on_front}
 use Rattle.form.specs.Records.{id_of}
 use Rattle.form.specs.Verdict.{rows, verdict_of}
 use Rattle.form.specs.declared.Counts.{Counts}
-use Rattle.form.specs.declared.Ruling.TheVariants.{Clean, Broken}
-use Rattle.form.specs.declared.Verdict.TheVariants.{Accepted}
+use Rattle.form.specs.Refusals.{Clean}
+use Rattle.heaviest.specs.Named.{Named, NoRow, Row}
 use Rattle.form.proofs.Order.{kept-before, long_enough}
 use Rattle.form.specs.Sums.{sum_of}
 use Rattle.totals.specs.Columns.{onsite_part, offsite_part, decay_part, onsite_total, offsite_total, decay_total}
 use Rattle.heaviest.specs.Heaviest.{part_by, heaviest_rules, heaviest_answer}
-use Rattle.heaviest.specs.declared.Named.{Named}
-use Rattle.heaviest.specs.declared.Named.TheVariants.{Row, None, Refused}
 use Rattle.heaviest.proofs.Answers.{part_0, part_1, part_2, named-answer, row_weighs, none_at_zero}
 use Rattle.door.specs.Door.{code_of}
 use Rattle.weighed.specs.Heaviest.{named_numbers, heaviest_call, heaviest_after}
@@ -35,7 +33,7 @@ pub record Heaviest (s : List ℕ) (part_of : List ℕ → ℕ) (id part : ℕ) 
 -- the answer: that row where the subtotal is not zero, 'none' where it is, and no refusal
 pub data Names (s : List ℕ) (part_of : List ℕ → ℕ) (subtotal : ℕ) : Named → Type 0 where
   row : (id part : ℕ) → 0 < subtotal → Heaviest s part_of id part → Names s part_of subtotal (Row id part)
-  none : subtotal ≡ 0 → Names s part_of subtotal None
+  none : subtotal ≡ 0 → Names s part_of subtotal NoRow
 
 -- a part that is not zero is not of a subtotal that is
 over : {part subtotal : ℕ} → 0 < part → (subtotal ≡ 0 → part ≡ 0) → 0 < subtotal
@@ -45,16 +43,16 @@ over {part} {subtotal} h z = go (dec_lt 0 subtotal)
     go (yes l) = l
     go (no n) = let e : subtotal ≡ 0 = omega arith in absurd (omega (arith, z e))
 
-module _ (s : List ℕ) (c : Counts) (accepted : verdict_of s ≡ Accepted c) where
+module _ (s : List ℕ) (c : Counts) (accepted : verdict_of s ≡ Ok c) where
   names_by : (code : ℕ) → code ≤ 2 → (x : Named) → heaviest_answer s code ≡ x → Names s (part_by code) (sum_of (part_by code) (rows 1 s)) x
-  names_by code h (Row id part) e =
-      let w = row_weighs s code accepted h e in
-      let r = w.1.is_row w.0 in
-      row id part (over w.0 w.1.none_at_zero.1)
-      (record { index = r.index; there = r.there; its_id = r.its_id; its_part = r.its_part; largest = w.1.largest; lower_id = w.1.lowest_id })
-  names_by code h None e = none ((none_at_zero s code accepted h).0 e)
-  names_by code h (Refused n p) e =
-      let z : Clean ≡ Broken n p = named_told s code Clean (Broken n p) (sym (named-answer s code accepted h) ∙ e) in
+  names_by code h (Ok (Some w)) e =
+      let v = row_weighs s code accepted h {i = w.id} {p = w.part} e in
+      let r = v.1.is_row v.0 in
+      row w.id w.part (over v.0 v.1.none_at_zero.1)
+      (record { index = r.index; there = r.there; its_id = r.its_id; its_part = r.its_part; largest = v.1.largest; lower_id = v.1.lowest_id })
+  names_by code h NoRow e = none ((none_at_zero s code accepted h).0 e)
+  names_by code h (Err r) e =
+      let z : Clean ≡ Err r = named_told s code Clean (Err r) (sym (named-answer s code accepted h) ∙ e) in
       let q : ◌≡◌ {A = ℕ} 0 1 = cc in
       absurd (omega arith)
 

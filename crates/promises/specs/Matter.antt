@@ -1,14 +1,14 @@
 -- §13: "A compiler asks what became of the biomass the worksheet doesn't burn to gas. The sheet's answer record gains five exact dry-matter totals in 10^-9 kt ..
 -- Each is defined from the rows on its own. Together they equal a million times the sum of area times counted difference, for every accepted return, and the same holds
 -- of each row's five parts. The record is shared with the national line and the explaining tool, which print all five."
-use Rattle.std.specs.Prelude.{ℕ, ◌+◌, ◌-◌, ◌*◌, ◌^◌, ◌<◌, ◌≤◌, ◌≡◌, length, get_or, take, drop}
+use Rattle.std.specs.Prelude.{ℕ, ◌+◌, ◌-◌, ◌*◌, ◌^◌, ◌<◌, ◌≤◌, ◌≡◌, length, get_or, take, drop, Ok}
 use Rattle.std.proofs.Common.{sym, ap, subst, ◌∙◌, arith}
 use mathlib.Core.List.{List, [], ◌++◌, append_assoc, flat_map}
 use Rattle.form.specs.Records.{area_of, before, after, onsite, onsite_oxidised, offsite, offsite_oxidised, counted_difference}
 use Rattle.form.specs.Sums.{sum_of}
 use Rattle.form.specs.Verdict.{rows, verdict_of}
 use Rattle.form.specs.declared.Counts.{Counts}
-use Rattle.form.specs.declared.Verdict.TheVariants.{Accepted}
+use Rattle.explained.specs.Explanation.{Accepted}
 use Rattle.standing.proofs.Accepted.{formed}
 use Rattle.wide.specs.Numbers.{value}
 use Rattle.wide.proofs.Laws.{value_words}
@@ -29,7 +29,6 @@ use Rattle.listed.specs.Listed.{Figure, listed}
 use Rattle.report.specs.Lines.{line_of, text_of, printed}
 use Rattle.report.proofs.InARow.{masses_at, lines_have}
 use Rattle.explained.specs.Explained.{explanation_of, weights_lines, explained_text, explained}
-use Rattle.explained.specs.declared.Explanation.TheVariants as explanation
 use Rattle.explained.proofs.Laws.{accepted-explained}
 use Rattle.cutting.specs.Cutting.{cut_file}
 use Rattle.cutting.proofs.Going.{few_cut}
@@ -65,7 +64,7 @@ figures-matter s = record {
 }
 
 -- of an accepted return nothing is cut off where a fraction is taken from 1,000: neither is above it, nor are the two burned ones together
-pub fractions_within : (s : List ℕ) (c : Counts) → verdict_of s ≡ Accepted c → (i : ℕ) → i < length (rows 1 s)
+pub fractions_within : (s : List ℕ) (c : Counts) → verdict_of s ≡ Ok c → (i : ℕ) → i < length (rows 1 s)
     → let r = get_or (rows 1 s) i [] in (onsite_oxidised r ≤ 1000) × (offsite_oxidised r ≤ 1000) × (onsite r + offsite r ≤ 1000)
 fractions_within s c e i l = let p = row-parted s c (formed s c e) i l in (p.onsite_oxidised, p.offsite_oxidised, p.both)
 
@@ -77,7 +76,7 @@ every_tonne s f e =
     ap (λ (x : Figures). together x.matter) w.figures ∙ return-together s w.counts (formed s w.counts w.accepted)
 
 -- "and the same holds of each row's five parts"
-pub every_tonne_of_a_row : (s : List ℕ) (c : Counts) → verdict_of s ≡ Accepted c → (i : ℕ) → i < length (rows 1 s)
+pub every_tonne_of_a_row : (s : List ℕ) (c : Counts) → verdict_of s ≡ Ok c → (i : ℕ) → i < length (rows 1 s)
     → let r = get_or (rows 1 s) i [] in
     cleared_of r * onsite r * onsite_oxidised r
     + cleared_of r * onsite r * (1000 - onsite_oxidised r)
@@ -127,11 +126,11 @@ two_words s =
     most_le (tally-sized (cut_file s).returns).matter (omega (arith, counted (cut_file s).returns, few_cut s))
 
 -- ---- the explaining tool: of an accepted return the record that the sheets answer
-pub explained-matter : (s : List ℕ) (f : Figures) → outcome_of s ≡ worked f → explanation_of s ≡ explanation.Accepted (heaviest_of s) f.matter
+pub explained-matter : (s : List ℕ) (f : Figures) → outcome_of s ≡ worked f → explanation_of s ≡ Accepted (heaviest_of s) f.matter
 unfolding entered
 explained-matter s f e =
     let w = worked_out s f (sym e) in
-    accepted-explained s w.accepted ∙ ap (λ (x : Figures). explanation.Accepted (heaviest_of s) x.matter) (sym w.figures)
+    accepted-explained s w.accepted ∙ ap (λ (x : Figures). Accepted (heaviest_of s) x.matter) (sym w.figures)
 
 -- ---- "which print all five": what is printed of a return has the five lines in a row, and what is explained of it and the national line end with them, by the same names in the same order
 -- between the lines of some figures before them and some behind

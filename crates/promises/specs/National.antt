@@ -1,13 +1,13 @@
 -- §10: "A program reads a file of returns end to end, up to 500, .. and prints exact national totals of E, K, L, M, P, on-site, off-site and decay carbon, with Q, the report
 -- and co2 rounded once from them." (What §13 adds is in Matter.) The answer is `nation_of` of the bytes of the file, and what is printed `printed_nation` (national/specs): of every file there is one.
-use Rattle.std.specs.Prelude.{ℕ, suc, ◌+◌, ◌*◌, ◌^◌, ◌<◌, ◌≤◌, ◌≡◌, pos, neg_ℤ, ◌*ℤ◌, length}
+use Rattle.std.specs.Prelude.{ℕ, suc, ◌+◌, ◌*◌, ◌^◌, ◌<◌, ◌≤◌, ◌≡◌, pos, neg_ℤ, ◌*ℤ◌, length, Err, Ok}
 use Rattle.std.proofs.Common.{sym, ap, subst, ◌∙◌, arith}
 use mathlib.Core.List.{List, [], ◌∷◌, ◌++◌, map, Perm}
 use Rattle.form.specs.Block.{most_blocks, blocks_said}
 use Rattle.form.specs.Sums.{sum_of}
 use Rattle.form.specs.Verdict.{verdict_of}
 use Rattle.form.specs.declared.Counts.{Counts}
-use Rattle.form.specs.declared.Verdict.TheVariants.{Accepted, Refused}
+use Rattle.form.specs.Refusals.{Refused}
 use Rattle.wide.specs.Numbers.{value}
 use Rattle.wide.specs.Signs.{amount}
 use Rattle.wide.proofs.Laws.{value_words}
@@ -20,7 +20,6 @@ use Rattle.worksheets.specs.Sheets.{by_kind, figures_of}
 use Rattle.cutting.specs.Cutting.{most_returns, next_after, cut_file, Pieces, end_to_end}
 use Rattle.cutting.specs.declared.Stop.{Stop}
 use Rattle.cutting.specs.declared.Stop.TheVariants.{Whole, Blocks, Short, Many}
-use Rattle.cutting.specs.declared.Next.TheVariants.{Stopped}
 use Rattle.cutting.proofs.Files.{whole_file, cut_stopped}
 use Rattle.cutting.proofs.Going.{few_cut}
 use Rattle.cutting.proofs.Laws.{none_said, many-said, ends-inside, inside_header, header_read, one_allowed, none_allowed}
@@ -90,7 +89,7 @@ pub accepted_alone : (rs : List (List ℕ)) → Pieces rs → length rs ≤ most
 accepted_alone = order.accepted_alone
 
 -- one return by itself has the figures of its sheets
-pub one_return-figures : (r : List ℕ) {c : Counts} → Pieces (r ∷ []) → verdict_of r ≡ Accepted c
+pub one_return-figures : (r : List ℕ) {c : Counts} → Pieces (r ∷ []) → verdict_of r ≡ Ok c
     → let g = (nation_of r).tally.ledger in let f = figures_of (by_kind r) in (stocks_of g ≡ f.stocks) × (conversion_of g ≡ f.conversion) × (g.matter ≡ f.matter)
 unfolding Pieces
 one_return-figures r p e = order.one_return-figures r p.0 e
@@ -101,13 +100,13 @@ pub refused_adds_nothing : (r : List ℕ) (rs : List (List ℕ)) (n p : ℕ) →
 refused_adds_nothing r rs n p e = tally-front r rs ∙ ap (λ v. front_by r v (tally_of rs)) e
 
 -- "A return present twice counts twice."
-pub twice_counts_twice : (r : List ℕ) (rs : List (List ℕ)) (c : Counts) → verdict_of r ≡ Accepted c
+pub twice_counts_twice : (r : List ℕ) (rs : List (List ℕ)) (c : Counts) → verdict_of r ≡ Ok c
     → tally_of (r ∷ r ∷ rs) ≡ record { accepted = suc (suc (tally_of rs).accepted); refused = (tally_of rs).refused; ledger = plus (ledger_in r) (plus (ledger_in r) (tally_of rs).ledger) }
 twice_counts_twice r rs c e = twice r rs e
 
 -- ---- "stops the run at that position, and everything before it is printed": returns end to end, and behind them bytes in which no return comes next.
 -- The answer is that of these returns, with the stop at the position behind them: it is printed as one more than there were returns.
-pub stopped_behind : (rs : List (List ℕ)) (t : List ℕ) (w : Stop) → Pieces rs → length rs ≤ most_returns → next_after (length rs) t ≡ Stopped w
+pub stopped_behind : (rs : List (List ℕ)) (t : List ℕ) (w : Stop) → Pieces rs → length rs ≤ most_returns → next_after (length rs) t ≡ Err w
     → nation_of (end_to_end rs ++ t) ≡ nation_by (record { returns = rs; stop = w })
 stopped_behind rs t w p h e = ap nation_by (cut_stopped rs t w p h e)
 
@@ -117,23 +116,23 @@ every-return-counted = counted
 
 module _ (t : List ℕ) (n : ℕ) where
   -- "a 501st return does the same": any byte behind the 500th, whatever it says
-  pub many-stops : most_returns ≤ n → 0 < length t → next_after n t ≡ Stopped Many
+  pub many-stops : most_returns ≤ n → 0 < length t → next_after n t ≡ Err Many
   many-stops h some = sym (none_allowed t n (λ z. omega (arith, z)) h)
 
   module _ (few : n < most_returns) (some : 0 < length t) where
     -- "a file that ends inside a return", its first six bytes included
-    pub head-short : length t < 6 → next_after n t ≡ Stopped Short
+    pub head-short : length t < 6 → next_after n t ≡ Err Short
     head-short h = sym (one_allowed t n few (inside_header t (λ z. omega (arith, z)) h))
 
     -- "a first header that says 0 blocks or more than" the longest return has
-    pub none_stops : 6 ≤ length t → blocks_said t 0 ≡ 0 → next_after n t ≡ Stopped (Blocks (blocks_said t 0))
+    pub none_stops : 6 ≤ length t → blocks_said t 0 ≡ 0 → next_after n t ≡ Err (Blocks (blocks_said t 0))
     none_stops h z = sym (one_allowed t n few (header_read t (λ e. omega (arith, e)) h (none_said (blocks_said t 0) (length t) z)))
 
-    pub long-stops : 6 ≤ length t → most_blocks < blocks_said t 0 → next_after n t ≡ Stopped (Blocks (blocks_said t 0))
+    pub long-stops : 6 ≤ length t → most_blocks < blocks_said t 0 → next_after n t ≡ Err (Blocks (blocks_said t 0))
     long-stops h m = sym (one_allowed t n few (header_read t (λ e. omega (arith, e)) h (many-said (blocks_said t 0) (length t) (λ z. omega (arith, z, m)) m)))
 
     -- and one that says so many blocks as a return may have, where fewer are left
-    pub rest-short : 6 ≤ length t → 1 ≤ blocks_said t 0 → blocks_said t 0 ≤ most_blocks → length t < 512 * blocks_said t 0 → next_after n t ≡ Stopped Short
+    pub rest-short : 6 ≤ length t → 1 ≤ blocks_said t 0 → blocks_said t 0 ≤ most_blocks → length t < 512 * blocks_said t 0 → next_after n t ≡ Err Short
     rest-short h z m s = sym (one_allowed t n few (header_read t (λ e. omega (arith, e)) h (ends-inside (blocks_said t 0) (length t) (λ e. omega (arith, e, z)) m s)))
 
 -- ---- the program reads a return at a time (`settle`), and its turns come to the same text

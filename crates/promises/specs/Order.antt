@@ -1,10 +1,9 @@
 -- "chosen by the paper's fixed order": "Each number is tried over the whole input before the next, and the lowest place is given."
 -- Least rs n p says that n is the first number of the list whose rule is broken anywhere, and p its lowest broken place; AllKept rs, that no rule is broken anywhere.
-use Rattle.std.specs.Prelude.{ℕ, ◌+◌, ◌*◌, ◌<◌, ◌≡◌, ◌↔◌, List, [], ◌∷◌}
+use Rattle.std.specs.Prelude.{ℕ, ◌+◌, ◌*◌, ◌<◌, ◌≡◌, ◌↔◌, List, [], ◌∷◌, Err}
 use Rattle.std.proofs.Common.{ap, arith}
 use Rattle.form.specs.Ruling.{Rule, ruling}
-use Rattle.form.specs.declared.Ruling.{Ruling}
-use Rattle.form.specs.declared.Ruling.TheVariants.{Clean, Broken}
+use Rattle.form.specs.Refusals.{Clean, Refused, Ruling}
 use Rattle.form.proofs.Order.{Least, AllKept, Means, ruling_means, ruling_least, ruling-clean, least_ruling, clean-ruling}
 use Rattle.door.specs.Door.{code_of}
 use Rattle.door.proofs.Codes.{Bounded, code-refused, code-clean}
@@ -27,14 +26,14 @@ pub data Ends (Refused : ℕ → ℕ → Type 0) (Answered : Type 0) : Type 0 wh
 module _ {rs : List Rule} {Refused : ℕ → ℕ → Type 0} {Answered : Type 0} (chosen : ByOrder rs Refused Answered) where
   ends_by : (v : Ruling) → Means rs v → Ends Refused Answered
   ends_by Clean k = answered (chosen.answered_by.1 k)
-  ends_by (Broken n p) l = refused n p ((chosen.refused_by n p).1 l)
+  ends_by (Err r) l = refused r.number r.place ((chosen.refused_by r.number r.place).1 l)
 
   pub always : Ends Refused Answered
   always = ends_by (ruling rs) (ruling_means rs)
 
 -- an answer that is made of a ruling, and is one ruling's alone, is chosen by the order
 pub by_order : {X : Type 0} (g : Ruling → X) → ((u v : Ruling) → g u ≡ g v → u ≡ v) → (rs : List Rule)
-    → ByOrder rs (λ n p. g (ruling rs) ≡ g (Broken n p)) (g (ruling rs) ≡ g Clean)
+    → ByOrder rs (λ n p. g (ruling rs) ≡ g (Refused n p)) (g (ruling rs) ≡ g Clean)
 by_order g one rs = record {
   refused_by = λ n p. (λ e. ruling_least (one _ _ e), λ l. ap g (least_ruling l));
   answered_by = (λ e. ruling-clean (one _ _ e), λ k. ap g (clean-ruling k));

@@ -1,6 +1,6 @@
 -- §14: "Two accepted returns that differ only in kind-8 rows, and in the headers and checks that these force, have the same figures in every other sheet."
 -- Both accepted, of any editions; s is the one, t the other. The figures of crop residues are in Demand2.
-use Rattle.std.specs.Prelude.{ℕ, zero, suc, ◌+◌, ◌*◌, ◌<◌, ◌≤◌, ◌≡◌, refl, List, [], ◌∷◌}
+use Rattle.std.specs.Prelude.{ℕ, zero, suc, ◌+◌, ◌*◌, ◌<◌, ◌≤◌, ◌≡◌, refl, List, [], ◌∷◌, Ok, Err}
 use Rattle.std.proofs.Common.{sym, ap, ◌∙◌, arith, lit≤}
 use Rattle.form.specs.Bytes.{byte_at}
 use Rattle.form.specs.Layout.{kinds}
@@ -8,9 +8,7 @@ use Rattle.form.specs.Block.{blocks, kind_of}
 use Rattle.form.specs.Ruling.{ruling}
 use Rattle.form.specs.Verdict.{rules, rows, verdict_of}
 use Rattle.form.specs.declared.Counts.{Counts}
-use Rattle.form.specs.declared.Ruling.{Ruling}
-use Rattle.form.specs.declared.Ruling.TheVariants.{Clean, Broken}
-use Rattle.form.specs.declared.Verdict.TheVariants.{Accepted}
+use Rattle.form.specs.Refusals.{Clean, Ruling}
 use Rattle.form.proofs.EachKind.{kinds_are, one_kind}
 use Rattle.form.proofs.Order.{kept-before}
 use Rattle.standing.proofs.Accepted.{accepted-ruling}
@@ -20,7 +18,6 @@ use Rattle.worksheets.specs.Answers.{worked, outcome_of}
 use Rattle.worksheets.specs.declared.sheets.Figures.{Figures}
 use Rattle.worksheets.proofs.Accepted.{worked_out}
 use Rattle.doubles.specs.Subtotals.{answer_by, answer_of, subtotals_of}
-use Rattle.doubles.specs.declared.Answer.TheVariants as doubles
 use Rattle.heaviest.specs.Heaviest.{part_by, heaviest_in, named_of, named_by, heaviest_answer}
 use Rattle.steps.proofs.Residues.{but_for_crops, other_sheets}
 use Rattle.cases.specs.Cases.{wheat}
@@ -86,14 +83,14 @@ other_sheets_same s t h f g a b =
       matter = ap (λ (x : Figures). x.matter) e;
     })
 
-module _ (s t : List ℕ) (h : SameRows s t) (c d : Counts) (one : verdict_of s ≡ Accepted c) (other : verdict_of t ≡ Accepted d) where
+module _ (s t : List ℕ) (h : SameRows s t) (c d : Counts) (one : verdict_of s ≡ Ok c) (other : verdict_of t ≡ Ok d) where
   cleared : rows 1 s ≡ rows 1 t
   cleared = h 1 (lit≤ tt) one_kind (λ e. omega arith)
 
   -- the three doubles, bit by bit
   pub doubles_same : answer_of s ≡ answer_of t
   doubles_same =
-      ap (answer_by s) one ∙ ap (λ (r : List (List ℕ)). doubles.Figures (subtotals_of r)) cleared ∙ sym (ap (answer_by t) other)
+      ap (answer_by s) one ∙ ap (λ (r : List (List ℕ)). Ok (subtotals_of r)) cleared ∙ sym (ap (answer_by t) other)
 
   -- the heaviest rows, by the code of a subtotal, which may be refused
   pub heaviest_same : (code : ℕ) → heaviest_answer s code ≡ heaviest_answer t code
@@ -104,7 +101,7 @@ module _ (s t : List ℕ) (h : SameRows s t) (c d : Counts) (one : verdict_of s 
     where
       by_ruling : (u : Ruling) → named_by s code u ≡ named_by t code u
       by_ruling Clean = ap (λ (r : List (List ℕ)). named_of (heaviest_in (part_by code) r)) cleared
-      by_ruling (Broken n p) = refl
+      by_ruling (Err r) = refl
 
 -- ---- and so of the bytes, 02's own sentence: two accepted returns that differ only in crop rows and what these force
 pub record SameButForCrops (s t : List ℕ) : Type 0 where

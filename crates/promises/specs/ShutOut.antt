@@ -1,16 +1,15 @@
 -- What the contracts shut out, in the words of "What a contract has to say". A theorem takes a wrong answer to be right for every input, and finds the input where it is not.
-use Rattle.std.specs.Prelude.{ℕ, ◌*◌, ◌^◌, ◌<◌, ◌≤◌, ◌≡◌, List, [], ℤ, get_or, take, replicate}
+use Rattle.std.specs.Prelude.{ℕ, ◌*◌, ◌^◌, ◌<◌, ◌≤◌, ◌≡◌, List, [], ℤ, get_or, take, replicate, Ok}
 use Rattle.std.proofs.Common.{sym, ap, ◌∙◌, arith}
 use Rattle.std.specs.Float.{binary64}
 use Rattle.std.specs.Float.Ieee.{to_bits}
 use Rattle.form.specs.Verdict.{rows, counts_of, verdict_of}
 use Rattle.form.specs.declared.Counts.{Counts}
-use Rattle.form.specs.declared.Verdict.TheVariants.{Accepted, Refused}
+use Rattle.form.specs.Refusals.{Refused}
 use Rattle.standing.proofs.Accepted.{formed, formed_counts}
 use Rattle.lists.specs.Examples.{day_lengths, day_area}
 use Rattle.rows.specs.Reading.{read_answer, room_after}
 use Rattle.rows.specs.Writing.{write_answer, bytes_after}
-use Rattle.rows.specs.declared.Written.TheVariants.{Done}
 use Rattle.form.specs.Sums.{sum_of}
 use Rattle.totals.specs.Columns.{onsite_part}
 use Rattle.wide.specs.Numbers.{value}
@@ -39,12 +38,12 @@ pub no_fixed_figure : (i : ℕ) → i < figure_count → (x : ℤ) → ((s : Lis
 no_fixed_figure i l x always = each_differs i l (always (nth land_case).bytes _ land-answered ∙ sym (always (nth 1).bytes _ lone-answered))
 
 -- "one that writes nothing": the day written to a room of nines, and its rows read to one
-pub write_writes : ((edition : ℕ) (lengths rows room : List ℕ) (n : ℕ) → write_answer edition lengths rows room ≡ Done n → bytes_after edition lengths rows room (Done n) ≡ room) → ⊥
+pub write_writes : ((edition : ℕ) (lengths rows room : List ℕ) (n : ℕ) → write_answer edition lengths rows room ≡ Ok n → bytes_after edition lengths rows room (Ok n) ≡ room) → ⊥
 write_writes h =
     let e : ◌≡◌ {A = ℕ} 1 9 = ap (λ (s : List ℕ). get_or s 0 0) (sym day-bytes ∙ h 1 day_lengths day_area (replicate 2049 9) 2048 day-written) in
     omega arith
 
-pub read_reads : ((s room : List ℕ) (c : Counts) → read_answer s room ≡ Accepted c → room_after s room (Accepted c) ≡ room) → ⊥
+pub read_reads : ((s room : List ℕ) (c : Counts) → read_answer s room ≡ Ok c → room_after s room (Ok c) ≡ room) → ⊥
 read_reads h =
     let e : ◌≡◌ {A = ℕ} 7 9 = ap (λ (s : List ℕ). get_or s 0 0) (sym day-rows ∙ h day (replicate 32 9) _ day-read) in
     omega arith
@@ -61,7 +60,7 @@ pub zero-double : (n exact : ℕ) → n ≤ 32 → Near n (double 0) exact → e
 zero-double n exact h near = near-zero n exact h near
 
 -- "An invented n or row count breaks demand 2": the counts are the sums of the kinds' counts, and that of scattered trees is of the stock rows with unit code 1
-pub no_invented_count : (s : List ℕ) (c : Counts) → verdict_of s ≡ Accepted c → c ≡ counts_of s
+pub no_invented_count : (s : List ℕ) (c : Counts) → verdict_of s ≡ Ok c → c ≡ counts_of s
 no_invented_count s c e = formed_counts s c (formed s c e)
 
 -- "Doubles near the exact value with other bits break the named order of operations": the factors of one row from the last to the first have other bits

@@ -1,12 +1,9 @@
 -- §6. "A lookup by country and zone, each numbered from 0 in the document's order without totals, answers the three figures with the mark, or says which is not given.
 -- Refusals: country or zone number off the table, in that order." The table itself is table52/specs/Table.
-use Rattle.std.specs.Prelude.{ℕ, ◌+◌, ◌*◌, ◌≤◌, ◌<◌, ◌≡◌, refl, Bool, false, List, ℤ, pos, length, get_or}
+use Rattle.std.specs.Prelude.{ℕ, ◌+◌, ◌*◌, ◌≤◌, ◌<◌, ◌≡◌, refl, Bool, false, List, ℤ, pos, length, get_or, Option, Some, None, Ok, Err}
 use Rattle.std.proofs.Common.{sym, ap, subst, ◌∙◌, lt-ltb, le-ltb}
-use Rattle.entries52.specs.declared.Figure.{Figure}
-use Rattle.entries52.specs.declared.Figure.TheVariants.{Given, NotGiven}
 use Rattle.entries52.specs.declared.Entry.{Entry}
-use Rattle.table52.specs.declared.Lookup.TheVariants.{Found, NoCountry, NoZone}
-use Rattle.table52.specs.declared.lent.Told.TheVariants as told
+use Rattle.table52.specs.declared.OffTable.TheVariants.{Country, Zone}
 use Rattle.entries52.specs.Table.{Printed, none, table, countries, zones}
 use Rattle.entries52.specs.Entries.{entry_of, entry_at}
 use Rattle.table52.specs.Lookup.{looked_up}
@@ -17,22 +14,22 @@ use Rattle.table52.proofs.Rule.{rule-obeyed}
 use Rattle.door.specs.Table.{table_code, table_call, table_after}
 
 -- ---- the answer, for every country's and zone's number
-pub country_off : (country zone : ℕ) → countries ≤ country → looked_up country zone ≡ NoCountry
+pub country_off : (country zone : ℕ) → countries ≤ country → looked_up country zone ≡ Err Country
 country_off = no_country
 
-pub zone_off : (country zone : ℕ) → country < countries → zones ≤ zone → looked_up country zone ≡ NoZone
+pub zone_off : (country zone : ℕ) → country < countries → zones ≤ zone → looked_up country zone ≡ Err Zone
 zone_off = no_zone
 
-pub looked_up_lem : (country zone : ℕ) → country < countries → zone < zones → looked_up country zone ≡ Found (entry_at (zones * country + zone))
+pub looked_up_lem : (country zone : ℕ) → country < countries → zone < zones → looked_up country zone ≡ Ok (entry_at (zones * country + zone))
 looked_up_lem = found
 
 -- ---- the figures are the printed ones: "A blank rate beside two equal areas is zero; every other blank is 'not given' and never zero"
 pub record AsPrinted (p : Printed) (e : Entry) : Type 0 where
   pub area_1980 : e.area1980 ≡ p.area1980
   pub area_1990 : e.area1990 ≡ p.area1990
-  pub rate-given : (r : ℤ) → p.rate ≡ Given r → e.rate ≡ Given r
-  pub rate-zero : (a : ℤ) → p.rate ≡ NotGiven → p.area1980 ≡ Given a → p.area1990 ≡ Given a → e.rate ≡ Given (pos 0)
-  pub rate_blank : p.rate ≡ NotGiven → ((a : ℤ) → p.area1980 ≡ Given a → p.area1990 ≡ Given a → ⊥) → e.rate ≡ NotGiven
+  pub rate-given : (r : ℤ) → p.rate ≡ Some r → e.rate ≡ Some r
+  pub rate-zero : (a : ℤ) → p.rate ≡ None → p.area1980 ≡ Some a → p.area1990 ≡ Some a → e.rate ≡ Some (pos 0)
+  pub rate_blank : p.rate ≡ None → ((a : ℤ) → p.area1980 ≡ Some a → p.area1990 ≡ Some a → ⊥) → e.rate ≡ None
 
 -- what is printed of a country in a zone: the table has six zones of each country, one country after the other
 abbrev pub printed_at : ℕ → ℕ → Printed
@@ -48,7 +45,7 @@ printed_entry p marked = record {
 }
 
 -- whatever entry is answered
-module _ (country zone : ℕ) (e : Entry) (answer : looked_up country zone ≡ Found e) where
+module _ (country zone : ℕ) (e : Entry) (answer : looked_up country zone ≡ Ok e) where
   pub as_printed : AsPrinted (printed_at country zone) e
   as_printed = subst (AsPrinted (printed_at country zone)) (sym (found_entry country zone e answer)) (printed_entry (printed_at country zone) false)
 
@@ -57,9 +54,9 @@ module _ (country zone : ℕ) (e : Entry) (answer : looked_up country zone ≡ F
   none_marked = ap (λ (x : Entry). x.marked) (found_entry country zone e answer)
 
   -- "ten times the rate differs from the fall in area by at most 6 tenths": so does every answer with all three figures
-  pub rates_fit : (a b r : ℤ) → e.area1980 ≡ Given a → e.area1990 ≡ Given b → e.rate ≡ Given r → deviation a b r ≤ 6
+  pub rates_fit : (a b r : ℤ) → e.area1980 ≡ Some a → e.area1990 ≡ Some b → e.rate ≡ Some r → deviation a b r ≤ 6
   rates_fit a b r p q t =
-      rule-obeyed country zone a b r (answer ∙ ap Found (λ i. record { area1980 = p i; area1990 = q i; rate = t i; marked = none_marked i }))
+      rule-obeyed country zone a b r (answer ∙ ap Ok (λ i. record { area1980 = p i; area1990 = q i; rate = t i; marked = none_marked i }))
 
 -- ---- from C: the country, then the zone, last the room; and the entry's numbers at the front of the room
 module _ (country zone : ℕ) (room : List ℤ) where
@@ -77,9 +74,9 @@ module _ (country zone : ℕ) (room : List ℤ) where
   c_looked_up c z r = rw (found country zone c z, le-ltb _ _ r) (refl, refl)
 
   -- "nothing lent has changed"
-  pub c_table_unchanged : (table_call country zone room ≡ told.Done → ⊥) → table_after country zone room ≡ room
+  pub c_table_unchanged : (table_call country zone room ≡ Ok tt → ⊥) → table_after country zone room ≡ room
   c_table_unchanged n = room-kept (looked_up country zone) room n
 
 -- a figure is known from its two numbers there: none that is given is taken for one that is not
-pub told_apart : (f g : Figure) → given_of f ≡ given_of g → number_of f ≡ number_of g → f ≡ g
+pub told_apart : (f g : Option ℤ) → given_of f ≡ given_of g → number_of f ≡ number_of g → f ≡ g
 told_apart = told_one

@@ -15,8 +15,8 @@ use Rattle.form.specs.Block.{blocks, edition, record_at, bad_check, check_said, 
 use Rattle.form.specs.Records.{filed, broken_by, overspent}
 use Rattle.form.specs.Sums.{column_k, column_l, soil_type}
 use Rattle.form.specs.Verdict.{rows, verdict_of}
-use Rattle.form.specs.declared.Ruling.TheVariants.{Broken}
-use Rattle.form.specs.declared.Verdict.TheVariants.{Refused}
+use Rattle.form.specs.Refusals.{Clean, Refused, Ruling}
+use Rattle.std.specs.Prelude.{Err}
 use Rattle.form.proofs.Tests.{and-true, either}
 use Rattle.form.proofs.Tables.{id_number}
 use Rattle.form.proofs.SecondEdition.{first-scattered}
@@ -34,6 +34,11 @@ use Rattle.reasons.specs.Explains.{RowStands, Explains, length_1, check_2, heade
 use Rattle.reasons.proofs.Above.{above_there}
 use Rattle.reasons.proofs.Rows.{id_used, id_parts, id_order, row-stands}
 use Rattle.reasons.proofs.Refused.{at_length, at_check, at_header, at_block, at_id, at_field, at_fractions, at_wood, at_soil, at_trees, last-number, known-kinds}
+
+-- the number that a ruling refuses by
+abbrev number_said : Ruling → ℕ
+number_said Clean = 0
+number_said (Err r) = r.number
 
 module _ (s : List ℕ) {n p : ℕ} (e : verdict_of s ≡ Refused n p) where
   -- what is shown of the reason of each number is so of the refusal's
@@ -88,22 +93,22 @@ module _ (s : List ℕ) {n p : ℕ} (e : verdict_of s ≡ Refused n p) where
       let w = place_told (filed s) (at_soil s e q) in
       soils_13 (row_named s p) (soil_type ((filed s).row p)) (row_of_lem q (omega arith) w.inside w.used_there) w)
 
-  pub reason_told : refusal_of (reason_of s n p) ≡ Broken n p
+  pub reason_told : refusal_of (reason_of s n p) ≡ Refused n p
   reason_told =
-      by_number (λ r. refusal_of r ≡ Broken n p)
-      (λ q. ap₂ Broken (sym q) (omega (arith, (at_length s e q).inside)))
+      by_number (λ r. refusal_of r ≡ Refused n p)
+      (λ q. ap₂ Refused (sym q) (omega (arith, (at_length s e q).inside)))
       told
       told
       told
       told
       told
       told
-      (λ q. ap₂ Broken (sym q) (omega (arith, (at_wood s e q).inside)))
+      (λ q. ap₂ Refused (sym q) (omega (arith, (at_wood s e q).inside)))
       told
       told
     where
-      told : {m : ℕ} → n ≡ m → Broken m p ≡ Broken n p
-      told q = ap (λ (x : ℕ). Broken x p) (sym q)
+      told : {m : ℕ} → n ≡ m → Refused {A = Unit {0}} m p ≡ Refused n p
+      told q = ap (λ (x : ℕ). Refused x p) (sym q)
 
   -- ---- `fourth` is never the first fault of a return
   fourth_only : {b : ℕ} → b < blocks s → ((k : ℕ) → k < b → bad_block s k ≡ false) → Faulty s b Fourth → ⊥
@@ -112,8 +117,8 @@ module _ (s : List ℕ) {n p : ℕ} (e : verdict_of s ≡ Refused n p) where
   pub no_fourth : {b : ℕ} {h : Header} → reason_of s n p ≡ BadBlock b h Fourth → ⊥
   unfolding reason_of
   no_fourth {b} {h} d =
-      let z : Broken n p ≡ Broken 4 b = sym reason_told ∙ ap refusal_of d in
-      let q : n ≡ 4 = cc in
+      let z : Refused n p ≡ Refused 4 b = sym reason_told ∙ ap refusal_of d in
+      let q : n ≡ 4 = ap number_said z in
       let w = at_block s e q in
       let g : block_reason s p ≡ BadBlock b h Fourth = subst (λ (x : ℕ). reason_of s x p ≡ BadBlock b h Fourth) q d in
       let f : fault_of s p ≡ Fourth = cc in

@@ -3,6 +3,7 @@
 --     last-number             a number that is none of 1 to 7, 12 and 14 is 13
 --     known-kinds             behind number 3 every record is of a kind that there is
 --     wood_formed, soil_formed    where 12 or 13 is given, the return can be read row by row
+use Rattle.std.specs.Prelude.{Err}
 use Prim.Native.Nat.{ℕ, ◌*◌, ◌/◌, ◌<◌, ◌≤◌}
 use mathlib.Core.Path.{◌≡◌, refl, sym, ◌∙◌}
 use mathlib.Core.Bool.{false, or-false, false≢true}
@@ -16,9 +17,7 @@ use Rattle.form.specs.Block.{blocks, edition, bad_length, bad_check, bad_header,
 use Rattle.form.specs.Records.{filed, bad_id, broken_by, field_above, scattered_trees, fractions_above}
 use Rattle.form.specs.Sums.{cleared_above, soil_uneven, sum_rules}
 use Rattle.form.specs.Verdict.{block_rules, form_rules, rules, rows, counts_of, Formed, verdict_of}
-use Rattle.form.specs.declared.Ruling.{Ruling}
-use Rattle.form.specs.declared.Ruling.TheVariants.{Clean, Broken}
-use Rattle.form.specs.declared.Verdict.TheVariants.{Refused}
+use Rattle.form.specs.Refusals.{Clean, Refused, Ruling}
 use Rattle.form.proofs.Order.{Kept, Least, this, later, has, BrokenAt, or_rule, ruling_append, ruling_least, least_has}
 use Rattle.form.proofs.Meaning.{refused-ruling, refused, broken_at, given-number}
 use Rattle.form.proofs.EachKind.{last-kinds}
@@ -33,9 +32,9 @@ headers_kept s (later k (later m (this l e h))) d b i = absurd (omega arith)
 headers_kept s (later k (later m (later g t))) d b i = g b i
 
 -- rules are kept where a list behind them is refused by a number that none of them has
-kept_by_number : (rs : List Rule) (u v : Ruling) {n p : ℕ} → ruling rs ≡ u → has n rs ≡ false → or_rule u v ≡ Broken n p → u ≡ Clean
+kept_by_number : (rs : List Rule) (u v : Ruling) {n p : ℕ} → ruling rs ≡ u → has n rs ≡ false → or_rule u v ≡ Refused n p → u ≡ Clean
 kept_by_number rs Clean v r h e = refl
-kept_by_number rs (Broken m i) v r h e = absurd (false≢true (sym h ∙ least_has (ruling_least (r ∙ e))))
+kept_by_number rs (Err refusal) v r h e = absurd (false≢true (sym h ∙ least_has (ruling_least (r ∙ e))))
 
 module _ (s : List ℕ) {n p : ℕ} (e : verdict_of s ≡ Refused n p) where
   pub at_length : n ≡ 1 → BrokenAt (rule 1 1 (λ q. bad_length s)) p

@@ -13,7 +13,7 @@ use Rattle.form.specs.Records.{filed, has_id, unit_code, bad_id, broken_by, fiel
 use Rattle.form.specs.Sums.{column_k, column_l, cleared_above, soil_uneven}
 use Rattle.form.specs.Verdict.{block_rules, rules, rows, verdict_of}
 use Rattle.form.specs.declared.Counts.{Counts}
-use Rattle.form.specs.declared.Verdict.TheVariants.{Accepted}
+use Rattle.std.specs.Prelude.{Ok}
 use Rattle.form.proofs.Tests.{and-true, and_rest, same_of}
 use Rattle.form.proofs.Order.{Kept, rule_of, ruling-clean, kept_of}
 use Rattle.standing.proofs.Accepted.{accepted-ruling, limit_of}
@@ -28,7 +28,7 @@ not_parameters : (k : ℕ) → has_id k ≡ true → k ≡ parameters_kind → �
 not_parameters k h =
     eqb-false k parameters_kind (not-true (eqb k parameters_kind) (and-true (leb k kinds) _ (and-true (ltb 0 k) _ h).1).1)
 
-module _ (s : List ℕ) {c : Counts} (acc : verdict_of s ≡ Accepted c) where
+module _ (s : List ℕ) {c : Counts} (acc : verdict_of s ≡ Ok c) where
   kept : (n : ℕ) → Kept (rule_of n (rules s))
   kept n = kept_of n (ruling-clean (accepted-ruling s c acc))
 

@@ -8,8 +8,7 @@ use Rattle.form.specs.Block.{blocks, kind_of, count_of, block_number, blocks_sai
 use Rattle.form.specs.Records.{filed, unit_code, id_of, onsite, offsite, decay}
 use Rattle.form.specs.Sums.{column_k, column_l, soil_type, sum_now, sum_then}
 use Rattle.form.specs.Verdict.{rows}
-use Rattle.form.specs.declared.Ruling.{Ruling}
-use Rattle.form.specs.declared.Ruling.TheVariants.{Broken}
+use Rattle.form.specs.Refusals.{Refused, Ruling}
 use Rattle.faults.specs.Faults.{fault_of}
 use Rattle.reasons.specs.declared.row_reasons.Above.{Above}
 use Rattle.reasons.specs.declared.Header.{Header}
@@ -20,16 +19,16 @@ use Rattle.reasons.specs.Above.{above_from}
 
 -- "a definition gives this paper's number and values for each of its cases": the number and the place of a reason
 abbrev pub refusal_of : Reason → Ruling
-refusal_of (BadLength n) = Broken 1 0
-refusal_of (BadCheck b x y) = Broken 2 b
-refusal_of (BadHeader b h n e) = Broken 3 b
-refusal_of (BadBlock b h f) = Broken 4 b
-refusal_of (IdBelow w x) = Broken 5 w.place
-refusal_of (FieldAbove w i v l) = Broken 6 w.place
-refusal_of (FractionsAbove w n f d t) = Broken 7 w.place
-refusal_of (ClearedAbove u l) = Broken 12 0
-refusal_of (SoilUneven w t n o) = Broken 13 w.place
-refusal_of (ScatteredTrees w c e) = Broken 14 w.place
+refusal_of (BadLength n) = Refused 1 0
+refusal_of (BadCheck b x y) = Refused 2 b
+refusal_of (BadHeader b h n e) = Refused 3 b
+refusal_of (BadBlock b h f) = Refused 4 b
+refusal_of (IdBelow w x) = Refused 5 w.place
+refusal_of (FieldAbove w i v l) = Refused 6 w.place
+refusal_of (FractionsAbove w n f d t) = Refused 7 w.place
+refusal_of (ClearedAbove u l) = Refused 12 0
+refusal_of (SoilUneven w t n o) = Refused 13 w.place
+refusal_of (ScatteredTrees w c e) = Refused 14 w.place
 
 -- the header of block b, as it stands there
 abbrev pub header_of : List ℕ → ℕ → Header

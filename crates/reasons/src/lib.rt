@@ -6,7 +6,7 @@ mod row_reasons;
 ghost use Rattle.std.specs.Prelude.{◌≡◌, ◌^◌, ◌<◌, length};
 ghost use Rattle.form.specs.Block.{blocks};
 ghost use Rattle.form.specs.Verdict.{counts_of, Formed, verdict_of};
-ghost use Rattle.form.specs.declared.Verdict.TheVariants.{Refused};
+ghost use Rattle.form.specs.Refusals.{Refused};
 ghost use Rattle.reasons.specs.Reasons.{header_of, check_reason, header_reason, block_reason, wood_reason, reason_of};
 
 use crate::row_reasons::{field_above, fractions_above, id_below, scattered_trees, soil_uneven};

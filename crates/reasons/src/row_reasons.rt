@@ -48,8 +48,7 @@ fn first_above(bytes: &[u8], kind: usize, at: usize) -> Above
 {
     let n = numbers(kind);
     let mut k: usize = 0;
-    let mut i: usize = 0;
-    while i < n {
+    for i in 0..n {
         let f = field(kind, i);
         k += f.zeros;
         let value = number_at(bytes, at + k, f.width);
@@ -61,7 +60,6 @@ fn first_above(bytes: &[u8], kind: usize, at: usize) -> Above
             };
         }
         k += f.width;
-        i += 1;
     }
     Above {
         field: n as u32,

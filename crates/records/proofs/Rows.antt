@@ -16,7 +16,7 @@ use Rattle.form.specs.Layout.{layout, row_at}
 use Rattle.form.specs.Block.{kind_of, count_of, edition, record_at}
 use Rattle.form.specs.Records.{filed, has_id, bad_id, test_numbered}
 use Rattle.form.specs.Steps.{passed_over}
-use Rattle.form.specs.declared.Spot.TheVariants.{Nowhere}
+use Rattle.std.specs.Prelude.{None}
 use Rattle.form.proofs.Search.{first_is_none}
 use Rattle.form.proofs.Tests.{on, off, guarded}
 use Rattle.form.proofs.Spared.{spared_row}
@@ -35,7 +35,7 @@ module _ (s : List ℕ) (b : ℕ) where
     pub unused : (r : ℕ) → r < 12 → count_of s b ≤ r → row_test n s (12 * b + r) ≡ false
     unused r l u = broken_at s b r l (edition s 0) (test_numbered n) ∙ sym (off _ (le-ltb r (count_of s b) u))
 
-    pub spared : passed_over n (edition s 0) (kind_of s b) ≡ true → first (λ r. row_test n s (12 * b + r)) 12 ≡ Nowhere
+    pub spared : passed_over n (edition s 0) (kind_of s b) ≡ true → first (λ r. row_test n s (12 * b + r)) 12 ≡ None
     spared h =
         first_is_none _ 12
         (λ r l. broken_at s b r l (edition s 0) (test_numbered n) ∙ rw (spared_row n (edition s 0) (kind_of s b) (row_in s b r) h) (and-false (ltb r (count_of s b))))
@@ -47,7 +47,7 @@ module _ (s : List ℕ) (b : ℕ) where
   pub no_later : (r : ℕ) → 0 < r → r < 12 → count_of s b ≤ r → bad_id (filed s) (12 * b + r) ≡ false
   no_later r z l u = id_later s b r l z ∙ sym (off _ (le-ltb r (count_of s b) u))
 
-  pub no_ids : bad_id (filed s) (12 * b) ≡ false → has_id (kind_of s b) ≡ false → first (λ r. bad_id (filed s) (12 * b + r)) 12 ≡ Nowhere
+  pub no_ids : bad_id (filed s) (12 * b) ≡ false → has_id (kind_of s b) ≡ false → first (λ r. bad_id (filed s) (12 * b + r)) 12 ≡ None
   no_ids z k = first_is_none _ 12 go
     where
       go : (r : ℕ) → r < 12 → bad_id (filed s) (12 * b + r) ≡ false

@@ -9,7 +9,7 @@ ghost use Rattle.form.specs.Records.{filed, has_id, is_scattered, bad_id, oversp
 ghost use Rattle.records.specs.Steps.{row_test, record_test};
 
 use form::layout::{field, numbers};
-use form::{KINDS, PARAMETERS, Spot, byte_at, four_at, number_at, spares, two_at};
+use form::{KINDS, PARAMETERS, byte_at, four_at, number_at, spares, two_at};
 
 // How many of a block's twelve records are used.
 fn used_in(bytes: &[u8], b: usize) -> usize
@@ -28,13 +28,11 @@ fn above_fields(bytes: &[u8], kind: usize, at: usize) -> bool
     let n = numbers(kind);
     let mut above = false;
     let mut k: usize = 0;
-    let mut i: usize = 0;
-    while i < n {
+    for i in 0..n {
         let f = field(kind, i);
         k += f.zeros;
         above = above | (f.limit < number_at(bytes, at + k, f.width));
         k += f.width;
-        i += 1;
     }
     above
 }
@@ -86,23 +84,21 @@ fn breaks(bytes: &[u8], number: u32, kind: u32, at: usize) -> bool
 }
 
 // A rule of one row in a block.
-fn first_row_in(bytes: &[u8], number: u32, b: usize) -> Spot
+fn first_row_in(bytes: &[u8], number: u32, b: usize) -> Option<u32>
     requires { b < blocks bytes.now }
     ensures { result ≡ first (λ r. row_test number bytes.now (12 * b + r)) 12 }
 {
     let kind = byte_at(bytes, 512 * b);
     if spares(number, two_at(bytes, 6), kind) {
-        return Spot::Nowhere;
+        return None;
     }
     let used = used_in(bytes, b);
-    let mut r: usize = 0;
-    while r < used {
+    for r in 0..used {
         if breaks(bytes, number, kind, 512 * b + 8 + 40 * r) {
-            return Spot::At(r as u32);
+            return Some(r as u32);
         }
-        r += 1;
     }
-    Spot::Nowhere
+    None
 }
 
 // Every kind but the parameters.
@@ -128,41 +124,39 @@ fn bad_first_id(bytes: &[u8], b: usize) -> bool
 }
 
 // The later records of a block, each against the one before it: every id is read once.
-fn bad_later_id(bytes: &[u8], b: usize) -> Spot
+fn bad_later_id(bytes: &[u8], b: usize) -> Option<u32>
     requires { (b < blocks bytes.now) × (bad_id (filed bytes.now) (12 * b) ≡ false) }
     ensures { result ≡ first (λ r. bad_id (filed bytes.now) (12 * b + r)) 12 }
 {
     let kind = byte_at(bytes, 512 * b);
     if !has_id(kind) {
-        return Spot::Nowhere;
+        return None;
     }
     let used = used_in(bytes, b);
     let mut last = four_at(bytes, 512 * b + 8);
-    let mut r: usize = 1;
-    while r < used {
+    for r in 1..used {
         let id = four_at(bytes, 512 * b + 8 + 40 * r);
         if id <= last {
-            return Spot::At(r as u32);
+            return Some(r as u32);
         }
         last = id;
-        r += 1;
     }
-    Spot::Nowhere
+    None
 }
 
 // Rule 5 in a block.
-fn first_id_in(bytes: &[u8], b: usize) -> Spot
+fn first_id_in(bytes: &[u8], b: usize) -> Option<u32>
     requires { b < blocks bytes.now }
     ensures { result ≡ first (λ r. bad_id (filed bytes.now) (12 * b + r)) 12 }
 {
     if bad_first_id(bytes, b) {
-        return Spot::At(0);
+        return Some(0);
     }
     bad_later_id(bytes, b)
 }
 
 // A rule of records, by its number, in a block.
-fn first_in(bytes: &[u8], number: u32, b: usize) -> Spot
+fn first_in(bytes: &[u8], number: u32, b: usize) -> Option<u32>
     requires { b < blocks bytes.now }
     ensures { result ≡ first (λ r. record_test number bytes.now (12 * b + r)) 12 }
 {
@@ -181,18 +175,16 @@ fn place(b: usize, r: u32) -> u32
 }
 
 // A rule of records over all blocks.
-pub fn first_broken(bytes: &[u8], number: u32) -> Spot
+pub fn first_broken(bytes: &[u8], number: u32) -> Option<u32>
     requires { length bytes.now < 2 ^ 24 }
     ensures { result ≡ first (record_test number bytes.now) (12 * blocks bytes.now) }
 {
     let n = bytes.len() / 512;
-    let mut b: usize = 0;
-    while b < n {
+    for b in 0..n {
         let spot = first_in(bytes, number, b);
-        if let Spot::At(r) = spot {
-            return Spot::At(place(b, r));
+        if let Some(r) = spot {
+            return Some(place(b, r));
         }
-        b += 1;
     }
-    Spot::Nowhere
+    None
 }

@@ -16,7 +16,7 @@ use Rattle.form.proofs.EachKind.{few_kinds}
 use Rattle.form.proofs.Meaning.{small}
 use Rattle.form.proofs.Tests.{and-true}
 use Rattle.form.specs.Verdict.{verdict_of}
-use Rattle.form.specs.declared.Verdict.TheVariants.{Refused}
+use Rattle.form.specs.Refusals.{Refused}
 use Rattle.wide.specs.Numbers.{value}
 use Rattle.wide.specs.Signs.{amount}
 use Rattle.wide.specs.declared.Wide.{Wide}

@@ -3,9 +3,9 @@ ghost use Rattle.std.specs.Prelude.{◌≤◌, length};
 ghost use Rattle.decimal.specs.Digits.{WrittenAt};
 ghost use Rattle.report.specs.Lines.{lines_of, lines_room, printed};
 
-use listed::{NUMBERS, put_numbers};
+use listed::list;
 use phrases::{put_lines, put_refused};
-use worksheets::sheets::{Answer, Figures};
+use worksheets::sheets::Figures;
 
 // All lines. The names stand in the list's order.
 fn put_figures(f: Figures, out: &mut [u8]) -> usize
@@ -13,14 +13,13 @@ fn put_figures(f: Figures, out: &mut [u8]) -> usize
     ensures written_at { WrittenAt (lines_of f) out.old out.new 0 result }
     ensures f_len_bound { length (lines_of f) ≤ lines_room }
 {
-    let mut numbers = [0u64; NUMBERS];
-    put_numbers(f, &mut numbers);
+    let values = list(f);
     put_lines(
         b"E K L M O P Q report onsite offsite R decay co2 ch4 co n2o nox uptake uptake_co2 thinner \
 savanna_carbon savanna_ch4 savanna_co savanna_n2o savanna_nox soil soil_change scattered \
 oxidised_onsite charcoal_onsite oxidised_offsite charcoal_offsite unburned \
 crop_carbon crop_ch4 crop_co crop_n2o crop_nox ",
-        &numbers,
+        &values,
         out,
         0,
     )
@@ -33,7 +32,7 @@ pub fn write_lines(bytes: &[u8], out: &mut [u8]) -> usize
     ensures bytes_len_bound { length (printed bytes.now) ≤ lines_room }
 {
     match worksheets::figures(bytes) {
-        Answer::Figures(f) => put_figures(f, out),
-        Answer::Refused { number, place } => put_refused(number, place, out, 0),
+        Ok(f) => put_figures(f, out),
+        Err(r) => put_refused(r.number, r.place, out, 0),
     }
 }

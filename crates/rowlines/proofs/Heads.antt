@@ -9,6 +9,7 @@ use native.Mathlib.Omega.{arith}
 use lib.Dec.{eqb, ltb}
 use lib.ListN.{length, get_or}
 use Rattle.cells.specs.Lines.{text_lines}
+use Rattle.heads.specs.declared.Fault.TheVariants as F
 use Rattle.heads.specs.Heads.{is_passed, fault}
 use Rattle.texts.specs.Texts.{rows, faulty, lines_read, longest_text, text_read}
 use Rattle.texts.specs.Steps.{HeadLine, head_line, rows_behind}
@@ -57,12 +58,12 @@ module _ {e : ℕ} {lengths area : List ℕ} where
       h : HeadLine
       h = head_line 0 (text_lines text)
 
-      lines : (b : Bool) → eqb h.number 0 ≡ b → cond b (faulty (fault 0 2)) (rows_behind h) ≡ rows e lengths area
+      lines : (b : Bool) → eqb h.number 0 ≡ b → cond b (faulty (fault 0 F.Edition)) (rows_behind h) ≡ rows e lengths area
           → (eqb h.number 0 ≡ false) × (rows_behind h ≡ rows e lengths area)
       lines true p g = let z : ◌≡◌ {A = ℕ} 0 1 = cc in absurd (omega arith)
       lines false p g = (p, g)
 
-      by : (b : Bool) → ltb longest_text (length text) ≡ b → cond b (faulty (fault 0 1)) (lines_read 0 (text_lines text)) ≡ rows e lengths area
+      by : (b : Bool) → ltb longest_text (length text) ≡ b → cond b (faulty (fault 0 F.Long)) (lines_read 0 (text_lines text)) ≡ rows e lengths area
           → (ltb longest_text (length text) ≡ false) × ((eqb h.number 0 ≡ false) × (rows_behind h ≡ rows e lengths area))
       by true p g = let z : ◌≡◌ {A = ℕ} 0 1 = cc in absurd (omega arith)
       by false p g = (p, lines (eqb h.number 0) refl (sym (by_head 0 (text_lines text)) ∙ g))

@@ -10,12 +10,12 @@ use borrow.Author.Tests.{eqb-true, eqb-false}
 use lib.Dec.{eqb}
 use lib.ListN.{length, get_or, set, length-set, length-append}
 use lib.Seq.{get_or-set_same, get_or-set_other}
+use Rattle.std.specs.Prelude.{Result, Ok, Err}
 use Rattle.form.specs.Layout.{kinds, numbers_of}
 use Rattle.filing.specs.Lists.{total}
 use Rattle.rowtext.proofs.Laws.{first-length}
 use Rattle.heads.specs.Heads.{is_passed}
-use Rattle.texts.specs.declared.Check.{Check}
-use Rattle.texts.specs.declared.Check.TheVariants as C
+use Rattle.heads.specs.declared.TextFault.{TextFault}
 use Rattle.texts.specs.Texts.{Sofar, rows, kind_in, checked, after_line, unless_fault, rows_from}
 use Rattle.texts.proofs.Adding.{total-set}
 use Rattle.texts.proofs.Rows.{row-said}
@@ -62,14 +62,14 @@ module _ {e : ℕ} {lengths area : List ℕ} where
       by (is_passed sep l) (checked sep st (suc n) l) refl q (lists-said edition sep (suc n) st ls k each low)
       (λ a. lists-said edition sep (suc n) (after_line sep st l) ls (kind_in sep l) a (λ j x y. y))
     where
-      by : (p : Bool) (c : Check) → checked sep st (suc n) l ≡ c
+      by : (p : Bool) (c : Result ℕ TextFault) → checked sep st (suc n) l ≡ c
           → cond p (rows_from edition sep (suc n) st ls) (unless_fault c (rows_from edition sep (suc n) (after_line sep st l) ls)) ≡ rows e lengths area
           → (rows_from edition sep (suc n) st ls ≡ rows e lengths area → Listed sep lengths k st.lengths (rows_of sep ls))
           → (length (after_line sep st l).lengths ≡ kinds → rows_from edition sep (suc n) (after_line sep st l) ls ≡ rows e lengths area
           → Listed sep lengths (kind_in sep l) (after_line sep st l).lengths (rows_of sep ls))
           → Listed sep lengths k st.lengths (cond p (rows_of sep ls) (l ∷ rows_of sep ls))
       by true c h g over more = over g
-      by false (C.Row m) h g over more =
+      by false (Ok m) h g over more =
           let kind = kind_in sep l in
           let r = (row-said sep st (suc n) l h).1 in
           let w = more (length-set st.lengths (kind - 1) (get_or st.lengths (kind - 1) 0 + length (said_by sep l)) ∙ each) g in
@@ -83,4 +83,4 @@ module _ {e : ℕ} {lengths area : List ℕ} where
                 let more_numbers = total-set st.lengths (kind - 1) (get_or st.lengths (kind - 1) 0 + length (said_by sep l)) (omega (arith, r.some, r.known, each)) in
                 omega (arith, w.sum, more_numbers, length-append (said_by sep l) (flat sep (rows_of sep ls)));
           }
-      by false (C.Fault f) h g over more = let z : ◌≡◌ {A = ℕ} 0 1 = cc in absurd (omega arith)
+      by false (Err f) h g over more = let z : ◌≡◌ {A = ℕ} 0 1 = cc in absurd (omega arith)

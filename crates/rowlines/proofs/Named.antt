@@ -14,18 +14,18 @@ use Rattle.form.specs.First.{first}
 use Rattle.form.specs.Layout.{kinds, numbers_of}
 use Rattle.form.specs.Ruling.{rule, ruling}
 use Rattle.form.specs.Sums.{filed_rules}
-use Rattle.form.specs.declared.Ruling.TheVariants.{Broken}
-use Rattle.form.specs.declared.Spot.{Spot}
-use Rattle.form.specs.declared.Spot.TheVariants.{At, Nowhere}
+use Rattle.form.specs.Refusals.{Clean, Refused, Ruling}
+use Rattle.std.specs.Prelude.{None, Option, Some}
 use Rattle.form.proofs.Order.{ruled, kept}
 use Rattle.form.proofs.Tests.{left}
+use Rattle.std.specs.Prelude.{Result, Ok, Err}
 use Rattle.filing.specs.Lists.{cut, total, filed_lists}
 use Rattle.filing.specs.Written.{used_from}
 use Rattle.lists.specs.Rules.{bad_at, list_rules}
 use Rattle.cells.specs.Lines.{text_lines}
-use Rattle.heads.specs.Heads.{is_passed, head_of}
+use Rattle.heads.specs.Heads.{is_passed, edition_by, head_of}
+use Rattle.heads.specs.declared.TextFault.{TextFault}
 use Rattle.heads.specs.declared.Head.{Head}
-use Rattle.heads.specs.declared.Head.TheVariants.{Edition}
 use Rattle.texts.specs.Texts.{nothing, rows, kind_in, rows_from, rows_by, text_read, row_line_at, row_line_by, row_line}
 use Rattle.texts.specs.Steps.{HeadLine, head_line, count_in}
 use Rattle.texts.proofs.Told.{Told, text_told}
@@ -63,7 +63,7 @@ module _ (text : List ℕ) (e : ℕ) (lengths area : List ℕ) (q : text_read te
   stands = head_at 0 (text_lines text) counted
 
   read : rows_from e sep h.number nothing h.behind ≡ rows e lengths area
-  read = sym (ap (λ (x : Head). rows_by x h.number h.behind) told.head) ∙ (text_opened text q).1.1
+  read = sym (ap (λ (x : Result Head TextFault). rows_by x h.number h.behind) told.head) ∙ (text_opened text q).1.1
 
   listed : Listed sep lengths 1 nothing.lengths rs
   listed = lists-said e sep h.number nothing h.behind 1 (length-replicate {A = ℕ} kinds 0) (λ j a b. omega arith) read
@@ -88,7 +88,7 @@ module _ (text : List ℕ) (e : ℕ) (lengths area : List ℕ) (q : text_read te
   line_of j =
       sym (left _ (text_opened text q).0 refl)
       ∙ row-line_by_head j 0 (text_lines text)
-      ∙ ap (λ (x : Head). row_line_by x j h.number h.behind) told.head
+      ∙ ap (λ (x : Result Head TextFault). row_line_by x j h.number h.behind) told.head
 
   pub line-says : (p : ℕ) → (filed_lists (cut lengths area)).used p ≡ true
       → LineSays text e ((filed_lists (cut lengths area)).kind p) ((filed_lists (cut lengths area)).row p) (row_line (row_index lengths p) text)
@@ -116,15 +116,19 @@ module _ (text : List ℕ) (e : ℕ) (lengths area : List ℕ) (q : text_read te
       }
 
   -- the separator that the first line says is one alone
-  same_separator : (separator : ℕ) → head_of h.number h.line ≡ Edition e separator → sep ≡ separator
+  same_separator : (separator : ℕ) → head_of h.number h.line ≡ edition_by e separator → sep ≡ separator
   same_separator separator said = one sep separator (sym told.head ∙ said)
     where
-      one : (a b : ℕ) → Edition e a ≡ Edition e b → a ≡ b
-      one a b z = cc
+      told_by : Result Head TextFault → ℕ
+      told_by (Ok x) = x.separator
+      told_by (Err f) = 0
+
+      one : (a b : ℕ) → edition_by e a ≡ edition_by e b → a ≡ b
+      one a b z = ap told_by z
 
   -- the lines between the first that counts and the line of the row have as many rows as there are used places before the row's
   pub rows_before : (p : ℕ) → (filed_lists (cut lengths area)).used p ≡ true
-      → (separator : ℕ) → head_of (head_line 0 (text_lines text)).number (head_line 0 (text_lines text)).line ≡ Edition e separator
+      → (separator : ℕ) → head_of (head_line 0 (text_lines text)).number (head_line 0 (text_lines text)).line ≡ edition_by e separator
       → count_in separator (take (row_line (row_index lengths p) text - suc (head_line 0 (text_lines text)).number) (head_line 0 (text_lines text)).behind)
       ≡ used_from (filed_lists (cut lengths area)) 0 p
   rows_before p u separator said =
@@ -139,27 +143,32 @@ module _ (text : List ℕ) (e : ℕ) (lengths area : List ℕ) (q : text_read te
 
 -- ---- a refusal
 
-same_number : (m n p i : ℕ) → Broken m i ≡ Broken n p → m ≡ n
-same_number m n p i e = cc
+number_said : Ruling → ℕ
+number_said Clean = 0
+number_said (Err r) = r.number
+
+same_number : (m n p i : ℕ) → Refused {A = Unit {0}} m i ≡ Refused n p → m ≡ n
+unfolding number_said
+same_number m n p i e = ap number_said e
 
 -- behind 10 are the rules of filed records
-behind_ten : (e : ℕ) (lengths area : List ℕ) (m p : ℕ) → ruling (list_rules e lengths area) ≡ Broken m p → (m ≡ 10 → ⊥)
-    → ruling (filed_rules e (filed_lists (cut lengths area))) ≡ Broken m p
+behind_ten : (e : ℕ) (lengths area : List ℕ) (m p : ℕ) → ruling (list_rules e lengths area) ≡ Refused m p → (m ≡ 10 → ⊥)
+    → ruling (filed_rules e (filed_lists (cut lengths area))) ≡ Refused m p
 unfolding list_rules
 behind_ten e lengths area m p b n = by (first (bad_at e lengths (length area)) (suc kinds)) refl
   where
-    by : (s : Spot) → first (bad_at e lengths (length area)) (suc kinds) ≡ s → ruling (filed_rules e (filed_lists (cut lengths area))) ≡ Broken m p
-    by (At i) g =
+    by : (s : Option ℕ) → first (bad_at e lengths (length area)) (suc kinds) ≡ s → ruling (filed_rules e (filed_lists (cut lengths area))) ≡ Refused m p
+    by (Some i) g =
         absurd (n (sym (same_number 10 m p i (ruled (rule 10 (suc kinds) (bad_at e lengths (length area))) (filed_rules e (filed_lists (cut lengths area))) g ∙ b))))
-    by Nowhere g = kept (rule 10 (suc kinds) (bad_at e lengths (length area))) (filed_rules e (filed_lists (cut lengths area))) g refl ∙ b
+    by None g = kept (rule 10 (suc kinds) (bad_at e lengths (length area))) (filed_rules e (filed_lists (cut lengths area))) g refl ∙ b
 
 -- but for 10 and 12, a refusal is about a row: one would stand at its place
-pub place-used : (e : ℕ) (lengths area : List ℕ) (m p : ℕ) → ruling (list_rules e lengths area) ≡ Broken m p → (m ≡ 10 → ⊥) → (m ≡ 12 → ⊥)
+pub place-used : (e : ℕ) (lengths area : List ℕ) (m p : ℕ) → ruling (list_rules e lengths area) ≡ Refused m p → (m ≡ 10 → ⊥) → (m ≡ 12 → ⊥)
     → (filed_lists (cut lengths area)).used p ≡ true
 place-used e lengths area m p b ten twelve = used_there e (filed_lists (cut lengths area)) (behind_ten e lengths area m p b ten) twelve
 
 -- and the line that is named says that row
-pub why-line : (text : List ℕ) (e : ℕ) (lengths area : List ℕ) → text_read text ≡ rows e lengths area → (m p : ℕ) → ruling (list_rules e lengths area) ≡ Broken m p
+pub why-line : (text : List ℕ) (e : ℕ) (lengths area : List ℕ) → text_read text ≡ rows e lengths area → (m p : ℕ) → ruling (list_rules e lengths area) ≡ Refused m p
     → (m ≡ 10 → ⊥) → (m ≡ 12 → ⊥)
     → LineSays text e ((filed_lists (cut lengths area)).kind p) ((filed_lists (cut lengths area)).row p) (row_line (row_index lengths p) text)
 why-line text e lengths area q m p b ten twelve = line-says text e lengths area q p (place-used e lengths area m p b ten twelve)

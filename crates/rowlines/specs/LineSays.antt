@@ -2,8 +2,7 @@
 use Rattle.std.specs.Prelude.{ℕ, ◌-◌, ◌≤◌, ◌<◌, ◌≡◌, false, List, [], length, get_or}
 use Rattle.cells.specs.Lines.{text_lines}
 use Rattle.rowtext.specs.Said.{numbers_said}
-use Rattle.heads.specs.Heads.{is_passed, head_of}
-use Rattle.heads.specs.declared.Head.TheVariants.{Edition}
+use Rattle.heads.specs.Heads.{is_passed, edition_by, head_of}
 use Rattle.texts.specs.Texts.{kind_in}
 use Rattle.texts.specs.Steps.{head_line}
 
@@ -16,7 +15,7 @@ pub record LineSays (text : List ℕ) (edition kind : ℕ) (row : List ℕ) (n :
   -- the character that separates the fields of the text
   pub separator : ℕ
   -- it is the one of the first line that counts, which says the edition
-  pub head : head_of (head_line 0 (text_lines text)).number (head_line 0 (text_lines text)).line ≡ Edition edition separator
+  pub head : head_of (head_line 0 (text_lines text)).number (head_line 0 (text_lines text)).line ≡ edition_by edition separator
   -- there is such a first line: the lines are counted from 1, and its number is not 0
   pub head_there : 1 ≤ (head_line 0 (text_lines text)).number
   -- line n stands behind it

@@ -11,13 +11,14 @@ use lib.ListN.{length, get_or, take, drop, drop_of_length-le}
 use lib.Seq.{sets, length-sets, drop-cons}
 use Rattle.form.specs.First.{first}
 use Rattle.form.specs.Layout.{kinds}
-use Rattle.form.specs.Ruling.{rule, ruling}
+use Rattle.form.specs.Ruling.{rule, refuse, ruling}
 use Rattle.form.specs.Records.{Filed, record_rules}
 use Rattle.form.specs.Sums.{sum_rules, filed_rules}
-use Rattle.form.specs.declared.Spot.TheVariants.{At, Nowhere}
-use Rattle.form.specs.declared.Ruling.{Ruling}
-use Rattle.form.specs.declared.Ruling.TheVariants.{Clean, Broken}
-use Rattle.form.proofs.Order.{ruled, kept, ruled_before, kept-before, too_short_lem, long_enough}
+use Rattle.form.specs.Refusals.{Clean, Refused, Ruling}
+use Rattle.rows.specs.Answers.{Written}
+use Rattle.std.specs.Prelude.{Ok, Err, Option}
+use Rattle.form.specs.declared.Refusal.{Refusal}
+use Rattle.form.proofs.Order.{ruled_by, kept_by, ruled_before, kept-before, too_short_lem, long_enough}
 use Rattle.filing.specs.Lists.{Lists, cut, total, blocks_of, filed_list, behind, filed_from, filed_lists}
 use Rattle.filing.specs.Written.{in_turn, block_of, bytes_of, kind_blocks}
 use Rattle.filing.proofs.Stores.{sets_append, sets-front, length_turns}
@@ -27,8 +28,6 @@ use Rattle.filing.proofs.Cut.{cut-length, cut-lengths, total_none}
 use Rattle.lists.proofs.Scan.{in_lengths, part_is, part-long, part-next}
 use Rattle.lists.specs.Rules.{bad_at, list_rules, Good, blocks_from}
 use Rattle.rows.specs.Writing.{written, room_rule, written_by, write_answer, bytes_after, answer_from5, answer_from12, answer_from9}
-use Rattle.rows.specs.declared.Written.{Written}
-use Rattle.rows.specs.declared.Written.TheVariants.{Done, Refused}
 
 pub places_from : (k : ℕ) (l : Lists) → (filed_from k l).places ≡ 12 * blocks_from k (map length l)
 unfolding filed_from behind filed_list blocks_from
@@ -129,25 +128,25 @@ module _ (e n : ℕ) (lengths area : List ℕ) (g : Good lengths (length area)) 
 
 -- ---- the answers, from rule to rule
 
-pub done_by : (e : ℕ) (l : Lists) (u : Ruling) {n : ℕ} → written_by e l u ≡ Done n → (u ≡ Clean) × (length (written e l) ≡ n)
+pub done_by : (e : ℕ) (l : Lists) (u : Ruling) {n : ℕ} → written_by e l u ≡ Ok n → (u ≡ Clean) × (length (written e l) ≡ n)
 done_by e l Clean d = (refl, cc)
-done_by e l (Broken m p) d = let z : ◌≡◌ {A = ℕ} 0 1 = cc in absurd (omega arith)
+done_by e l (Err r) d = let z : ◌≡◌ {A = ℕ} 0 1 = cc in absurd (omega arith)
 
 module _ (e : ℕ) (lengths area room : List ℕ) {n : ℕ} (en : n ≡ length (written e (cut lengths area))) where
   pub no_room : length room < n → Refused 9 0 ≡ answer_from9 e lengths area room
   no_room h = ap (written_by e (cut lengths area)) (sym (too_short_lem (length (written e (cut lengths area))) room (omega (arith, en))))
 
-  pub all_done : n ≤ length room → Done n ≡ answer_from9 e lengths area room
-  all_done h = ap Done en ∙ ap (written_by e (cut lengths area)) (sym (long_enough (length (written e (cut lengths area))) room (omega (arith, en))))
+  pub all_done : n ≤ length room → Ok n ≡ answer_from9 e lengths area room
+  all_done h = ap Ok en ∙ ap (written_by e (cut lengths area)) (sym (long_enough (length (written e (cut lengths area))) room (omega (arith, en))))
 
-  pub on_front : {out : List ℕ} → n ≤ length room → out ≡ sets room 0 (written e (cut lengths area)) → out ≡ bytes_after e lengths area room (Done n)
+  pub on_front : {out : List ℕ} → n ≤ length room → out ≡ sets room 0 (written e (cut lengths area)) → out ≡ bytes_after e lengths area room (Ok n)
   on_front h s = s ∙ sets-front room (written e (cut lengths area)) (omega arith)
 
 module _ (e : ℕ) (lengths area room : List ℕ) where
   f : Filed
   f = filed_lists (cut lengths area)
 
-  pub record_broken : {n p : ℕ} → ruling (record_rules e (filed_lists (cut lengths area))) ≡ Broken n p → Refused n p ≡ answer_from5 e lengths area room
+  pub record_broken : {w : Refusal} → ruling (record_rules e (filed_lists (cut lengths area))) ≡ Err w → Err w ≡ answer_from5 e lengths area room
   unfolding f
   record_broken b = ap (written_by e (cut lengths area)) (sym (ruled_before (filed_rules e f) (room_rule e (cut lengths area) room ∷ []) (ruled_before (record_rules e f) (sum_rules f) b)))
 
@@ -157,7 +156,7 @@ module _ (e : ℕ) (lengths area room : List ℕ) where
       let last = room_rule e (cut lengths area) room ∷ [] in
       q ∙ ap (written_by e (cut lengths area)) (sym (ap ruling (append_assoc (record_rules e f) (sum_rules f) last) ∙ kept-before (record_rules e f) (sum_rules f ++ last) c))
 
-  pub sum-broken : {n p : ℕ} → ruling (sum_rules (filed_lists (cut lengths area))) ≡ Broken n p → Refused n p ≡ answer_from12 e lengths area room
+  pub sum-broken : {w : Refusal} → ruling (sum_rules (filed_lists (cut lengths area))) ≡ Err w → Err w ≡ answer_from12 e lengths area room
   unfolding f
   sum-broken b = ap (written_by e (cut lengths area)) (sym (ruled_before (sum_rules f) (room_rule e (cut lengths area) room ∷ []) b))
 
@@ -165,10 +164,11 @@ module _ (e : ℕ) (lengths area room : List ℕ) where
   unfolding f
   sums_kept c q = q ∙ ap (written_by e (cut lengths area)) (sym (kept-before (sum_rules f) (room_rule e (cut lengths area) room ∷ []) c))
 
-  pub list-broken : {kind : ℕ} → first (bad_at e lengths (length area)) (suc kinds) ≡ At kind → Refused 10 kind ≡ write_answer e lengths area room
-  unfolding write_answer list_rules
-  list-broken b = ap (written_by e (cut lengths area)) (ruled (rule 10 (suc kinds) (bad_at e lengths (length area))) _ b)
+  module _ {x : Option ℕ} {said : Ruling} (place : x ≡ first (bad_at e lengths (length area)) (suc kinds)) (refused : said ≡ refuse 10 x Clean) where
+    pub list-broken : {w : Refusal} → said ≡ Err w → Err w ≡ write_answer e lengths area room
+    unfolding write_answer list_rules
+    list-broken b = ap (written_by e (cut lengths area)) (ruled_by (rule 10 (suc kinds) (bad_at e lengths (length area))) _ place refused b)
 
-  pub lists-kept : {r : Written} → first (bad_at e lengths (length area)) (suc kinds) ≡ Nowhere → r ≡ answer_from5 e lengths area room → r ≡ write_answer e lengths area room
-  unfolding write_answer list_rules
-  lists-kept c q = q ∙ ap (written_by e (cut lengths area)) (kept (rule 10 (suc kinds) (bad_at e lengths (length area))) _ c refl)
+    pub lists-kept : {r : Written} → said ≡ Clean → r ≡ answer_from5 e lengths area room → r ≡ write_answer e lengths area room
+    unfolding write_answer list_rules
+    lists-kept c q = q ∙ ap (written_by e (cut lengths area)) (kept_by (rule 10 (suc kinds) (bad_at e lengths (length area))) _ place refused c)

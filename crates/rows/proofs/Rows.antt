@@ -9,14 +9,15 @@ use lib.ListN.{length}
 use borrow.Author.Tests.{ltb-false}
 use Rattle.form.specs.First.{first}
 use Rattle.form.specs.Layout.{kinds, numbers_of}
-use Rattle.form.specs.Ruling.{rule, ruling}
+use Rattle.form.specs.Ruling.{rule, refuse, ruling}
 use Rattle.form.specs.Verdict.{rules, row_count, verdict_by, verdict_of, Formed}
 use Rattle.form.specs.Standing.{blocks_for, start_block}
 use Rattle.form.specs.declared.Counts.{Counts}
-use Rattle.form.specs.declared.Spot.TheVariants.{At, Nowhere}
-use Rattle.form.specs.declared.Verdict.TheVariants.{Accepted, Refused}
+use Rattle.form.specs.Refusals.{Clean, Ruling}
+use Rattle.form.specs.declared.Refusal.{Refusal}
+use Rattle.std.specs.Prelude.{None, Ok, Err, Option}
 use Rattle.form.proofs.Search.{first_none}
-use Rattle.form.proofs.Order.{ruled, kept, ruled_before, kept-before}
+use Rattle.form.proofs.Order.{ruled_by, kept_by, ruled_before, kept-before}
 use Rattle.form.proofs.Meaning.{refused-ruling}
 use Rattle.standing.proofs.Accepted.{accepted-ruling, formed, formed_counts}
 use Rattle.filing.specs.Written.{in_turn}
@@ -44,23 +45,24 @@ need_none s = refl
 -- ---- the answers, from rule to rule
 
 module _ (s : List ℕ) (room : List ℕ) where
-  pub judged : {n p : ℕ} → verdict_of s ≡ Refused n p → Refused n p ≡ read_answer s room
+  pub judged : {w : Refusal} → verdict_of s ≡ Err w → Err w ≡ read_answer s room
   unfolding read_answer
-  judged {n} {p} e = ap (verdict_by s) (sym (ruled_before (rules s) (rule 9 (suc kinds) (outgrown s (length room)) ∷ []) (refused-ruling s n p e)))
+  judged {w} e = ap (verdict_by s) (sym (ruled_before (rules s) (rule 9 (suc kinds) (outgrown s (length room)) ∷ []) (refused-ruling s w.number w.place e)))
 
-  module _ (c : Counts) (acc : verdict_of s ≡ Accepted c) where
+  module _ (c : Counts) (acc : verdict_of s ≡ Ok c) where
     last : ruling (read_rules s room) ≡ ruling (rule 9 (suc kinds) (outgrown s (length room)) ∷ [])
     last = kept-before (rules s) (rule 9 (suc kinds) (outgrown s (length room)) ∷ []) (accepted-ruling s c acc)
 
-    pub short : {k : ℕ} → first (outgrown s (length room)) (suc kinds) ≡ At k → Refused 9 k ≡ read_answer s room
-    unfolding read_answer
-    short e = ap (verdict_by s) (ruled (rule 9 (suc kinds) (outgrown s (length room))) [] e ∙ sym last)
+    module _ {x : Option ℕ} {said : Ruling} (place : x ≡ first (outgrown s (length room)) (suc kinds)) (refused : said ≡ refuse 9 x Clean) where
+      pub short : {w : Refusal} → said ≡ Err w → Err w ≡ read_answer s room
+      unfolding read_answer
+      short e = ap (verdict_by s) (ruled_by (rule 9 (suc kinds) (outgrown s (length room))) [] place refused e ∙ sym last)
 
-    pub all_read : first (outgrown s (length room)) (suc kinds) ≡ Nowhere → Accepted c ≡ read_answer s room
-    unfolding read_answer ruling
-    all_read e =
-        ap Accepted (formed_counts s c (formed s c acc)) ∙ ap (verdict_by s) (kept (rule 9 (suc kinds) (outgrown s (length room))) [] e refl ∙ sym last)
+      pub all_read : said ≡ Clean → Ok c ≡ read_answer s room
+      unfolding read_answer ruling
+      all_read e =
+          ap Ok (formed_counts s c (formed s c acc)) ∙ ap (verdict_by s) (kept_by (rule 9 (suc kinds) (outgrown s (length room))) [] place refused e ∙ sym last)
 
 -- the room is long enough for all rows
-pub enough : (s : List ℕ) (m : ℕ) → first (outgrown s m) (suc kinds) ≡ Nowhere → length (area_to s kinds) ≤ m
+pub enough : (s : List ℕ) (m : ℕ) → first (outgrown s m) (suc kinds) ≡ None → length (area_to s kinds) ≤ m
 enough s m e = ltb-false m (length (area_to s kinds)) (first_none (outgrown s m) e kinds (omega arith))

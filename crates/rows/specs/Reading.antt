@@ -1,12 +1,11 @@
 -- Reading: the rules of the bytes, then 9. "Success writes exactly the rows at the front; later elements keep their values."
-use Rattle.std.specs.Prelude.{ℕ, zero, suc, ◌*◌, Bool, length, ltb}
+use Rattle.std.specs.Prelude.{ℕ, zero, suc, ◌*◌, Bool, length, ltb, Ok, Err}
 use mathlib.Core.List.{List, [], ◌∷◌, ◌++◌, flatten}
 use Rattle.form.specs.Layout.{kinds, numbers_of}
 use Rattle.form.specs.Ruling.{Rule, rule, ruling, on_front}
 use Rattle.form.specs.Verdict.{rules, rows, count_list, verdict_by}
 use Rattle.form.specs.declared.Counts.{Counts}
-use Rattle.form.specs.declared.Verdict.{Verdict}
-use Rattle.form.specs.declared.Verdict.TheVariants.{Accepted, Refused}
+use Rattle.form.specs.Refusals.{Verdict}
 use Rattle.filing.specs.Lists.{Lists}
 use Rattle.filing.specs.Written.{in_turn}
 
@@ -31,8 +30,8 @@ read_answer s room = verdict_by s (ruling (read_rules s room))
 
 -- what the room holds after an answer
 abbrev pub room_after : List ℕ → List ℕ → Verdict → List ℕ
-room_after s room (Accepted c) = on_front (area_to s kinds) room
-room_after s room (Refused n p) = room
+room_after s room (Ok c) = on_front (area_to s kinds) room
+room_after s room (Err r) = room
 
 -- the rows of a return as lists, one for each kind: of n kinds, from one on
 unfoldable pub lists_from : List ℕ → ℕ → ℕ → Lists

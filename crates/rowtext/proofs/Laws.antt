@@ -5,27 +5,24 @@
 --     says-whole      and the other way: where each field says a row's number, the row is whole, and these are its numbers
 use Prim.Native.Nat.{ℕ, zero, suc, ◌<◌}
 use mathlib.Core.Path.{◌≡◌, refl, sym, ap, subst, ◌∙◌}
-use mathlib.Core.Bool.{false, true≢false}
+use mathlib.Core.Bool.{true, false, true≢false}
 use mathlib.Core.List.{List, [], ◌∷◌}
 use mathlib.Core.Logic.{⊎_elim}
 use native.Mathlib.Nat.{le_of_suc-le-suc, not-suc-le-zero, eq-or-lt_of_le}
 use native.Mathlib.Omega.{arith}
 use lib.ListN.{length, get_or, length-append, get_or-append}
 use lib.Seq.{get_or_at, ext_get_or}
+use Rattle.std.specs.Prelude.{Result, Ok, Err, None, Option, Some}
 use Rattle.form.specs.First.{first}
 use Rattle.form.specs.Layout.{numbers_of}
-use Rattle.form.specs.declared.Spot.{Spot}
-use Rattle.form.specs.declared.Spot.TheVariants.{At, Nowhere}
-use Rattle.form.proofs.Search.{first_none, first_is_none}
-use Rattle.rowtext.specs.Said.{number_in, is_wrong, fault_in, said_at, first_numbers, numbers_said, wrong_at, first_wrong, said_by, row_said}
-use Rattle.rowtext.specs.declared.Said.{Said}
-use Rattle.rowtext.specs.declared.Said.TheVariants.{Number, Wrong}
-use Rattle.rowtext.specs.declared.RowSaid.TheVariants.{Whole, Fault}
+use Rattle.form.proofs.Search.{first_at as first_there, first_none, first_is_none}
+use Rattle.rowtext.specs.Said.{number_in, is_wrong, at_fault, said_at, first_numbers, numbers_said, wrong_at, first_wrong, said_by, row_said}
+use Rattle.rowtext.specs.declared.FieldFault.{FieldFault}
 
 -- what is not at fault is a number
-not_wrong : (s : Said) → is_wrong s ≡ false → s ≡ Number (number_in s)
-not_wrong (Number n) e = refl
-not_wrong (Wrong f) e = absurd (true≢false e)
+not_wrong : (s : Result ℕ FieldFault) → is_wrong s ≡ false → s ≡ Ok (number_in s)
+not_wrong (Ok n) e = refl
+not_wrong (Err f) e = absurd (true≢false e)
 
 module _ (sep kind : ℕ) (line : List ℕ) where
   pub first-length : (n : ℕ) → length (first_numbers sep kind line n) ≡ n
@@ -48,29 +45,33 @@ module _ (sep kind : ℕ) (line : List ℕ) where
       before l e = get_or-append (first_numbers sep kind line n) (number_in (said_at sep kind line n) ∷ []) 0 i (omega (arith, first-length n)) ∙ e
 
   -- a row is whole just where no field is at fault
-  nowhere : (s : Spot) → said_by sep kind line s ≡ Whole → s ≡ Nowhere
-  nowhere Nowhere e = refl
-  nowhere (At i) e = let z : ◌≡◌ {A = ℕ} 0 1 = cc in absurd (omega arith)
+  nowhere : (s : Option ℕ) → first_wrong sep kind line ≡ s → said_by sep kind line s ≡ Ok tt → s ≡ None
+  nowhere None q e = refl
+  nowhere (Some i) q e = absurd (sound (said_at sep kind line i) (first_there (wrong_at sep kind line) q).1 e)
+    where
+      sound : (s : Result ℕ FieldFault) → is_wrong s ≡ true → at_fault i s ≡ Ok tt → ⊥
+      sound (Ok n) w e = true≢false (sym w)
+      sound (Err f) w e = let z : ◌≡◌ {A = ℕ} 0 1 = cc in omega arith
 
-  none_wrong : row_said sep kind line ≡ Whole → first (wrong_at sep kind line) (numbers_of kind) ≡ Nowhere
+  none_wrong : row_said sep kind line ≡ Ok tt → first (wrong_at sep kind line) (numbers_of kind) ≡ None
   unfolding row_said
-  none_wrong e = nowhere (first_wrong sep kind line) e
+  none_wrong e = nowhere (first_wrong sep kind line) refl e
 
-  pub wrong_none : first (wrong_at sep kind line) (numbers_of kind) ≡ Nowhere → row_said sep kind line ≡ Whole
+  pub wrong_none : first (wrong_at sep kind line) (numbers_of kind) ≡ None → row_said sep kind line ≡ Ok tt
   unfolding row_said
   wrong_none e = ap (said_by sep kind line) e
 
-  pub wrong_first : (i : ℕ) → first (wrong_at sep kind line) (numbers_of kind) ≡ At i → row_said sep kind line ≡ Fault (fault_in (said_at sep kind line i)) i
+  pub wrong_first : (i : ℕ) → first (wrong_at sep kind line) (numbers_of kind) ≡ Some i → row_said sep kind line ≡ at_fault i (said_at sep kind line i)
   unfolding row_said
   wrong_first i e = ap (said_by sep kind line) e
 
-  pub whole_says : row_said sep kind line ≡ Whole → (i : ℕ) → i < numbers_of kind → said_at sep kind line i ≡ Number (get_or (numbers_said sep kind line) i 0)
+  pub whole_says : row_said sep kind line ≡ Ok tt → (i : ℕ) → i < numbers_of kind → said_at sep kind line i ≡ Ok (get_or (numbers_said sep kind line) i 0)
   whole_says e i h =
       not_wrong (said_at sep kind line i) (first_none (wrong_at sep kind line) (none_wrong e) i h)
-      ∙ ap Number (sym (first_at (numbers_of kind) i h))
+      ∙ ap Ok (sym (first_at (numbers_of kind) i h))
 
-  pub says-whole : (r : List ℕ) → length r ≡ numbers_of kind → ((i : ℕ) → i < numbers_of kind → said_at sep kind line i ≡ Number (get_or r i 0))
-      → (row_said sep kind line ≡ Whole) × (numbers_said sep kind line ≡ r)
+  pub says-whole : (r : List ℕ) → length r ≡ numbers_of kind → ((i : ℕ) → i < numbers_of kind → said_at sep kind line i ≡ Ok (get_or r i 0))
+      → (row_said sep kind line ≡ Ok tt) × (numbers_said sep kind line ≡ r)
   says-whole r e h = (
     wrong_none (first_is_none (wrong_at sep kind line) (numbers_of kind) (λ i l. ap is_wrong (h i l))),
     ext_get_or 0 (numbers_said sep kind line) r (first-length (numbers_of kind) ∙ sym e) same,

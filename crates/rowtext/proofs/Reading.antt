@@ -1,6 +1,4 @@
 -- A row read field by field, as the loop goes. Assumes nothing.
---     is_land, is_trees, no_unit    what a unit's cell says, by the words that it is compared with
---     by_word, by_number      what a cell says, by whether its field is a stock row's unit
 --     says_by_unit            what a cell says goes by the unit in a stock row alone, and there only behind the unit itself
 --     Reading                 the first i fields are numbers, and stored; reading_none, reading_more, where the loop begins and goes on by one
 --     reading_says            what field i says; reading_wrong, reading_all, where it is at fault, and where all are read
@@ -14,52 +12,24 @@ use borrow.Author.Tests.{eqb-true, eqb-false}
 use lib.Dec.{eqb}
 use lib.ListN.{length, set, length-set}
 use lib.Seq.{sets}
+use Rattle.std.specs.Prelude.{Result, Ok, Err}
 use Rattle.form.specs.First.{first}
 use Rattle.form.specs.Layout.{numbers_of}
-use Rattle.form.specs.declared.Spot.TheVariants.{Nowhere}
+use Rattle.std.specs.Prelude.{None}
 use Rattle.form.proofs.Search.{first-zero, first_more, first_found}
-use Rattle.form.proofs.Tests.{taken, left}
-use Rattle.phrases.specs.Ascii.{codes}
 use Rattle.decimal.proofs.DigitLaws.{sets_append}
 use Rattle.cells.specs.Lines.{part}
-use Rattle.cells.specs.Cells.{cell_at, same_word, FieldAt}
+use Rattle.cells.specs.Cells.{cell_at, FieldAt}
 use Rattle.cells.specs.declared.Field.{Field}
 use Rattle.cells.proofs.FieldLaws.{Begins, first-begins, cell_is, next-begins}
 use Rattle.numerals.specs.Numerals.{read_number}
-use Rattle.numerals.specs.declared.Numeral.{Numeral}
-use Rattle.columns.specs.Columns.{decimals_of, is_unit}
+use Rattle.columns.specs.Columns.{is_unit}
 use Rattle.columns.proofs.ColumnLaws.{by_unit}
-use Rattle.rowtext.specs.Said.{comma_marks, number_said, unit_said, cell_said, number_in, is_wrong, fault_in, unit_in, said_at, first_numbers, wrong_at, row_said}
-use Rattle.rowtext.specs.declared.Said.{Said}
-use Rattle.rowtext.specs.declared.Said.TheVariants.{Number, Wrong}
-use Rattle.rowtext.specs.declared.RowSaid.TheVariants.{Whole, Fault}
+use Rattle.rowtext.specs.Said.{comma_marks, number_said, unit_said, cell_said, number_in, is_wrong, at_fault, unit_in, said_at, first_numbers, wrong_at, row_said}
+use Rattle.rowtext.specs.declared.FieldFault.{FieldFault}
 use Rattle.rowtext.proofs.Laws.{first-length, wrong_none, wrong_first}
 
 -- ---- one cell
-
-module _ (cell : List ℕ) {land : Bool} (e : land ≡ same_word (codes "land") cell) where
-  pub is_land : land ≡ true → Number 0 ≡ unit_said cell
-  unfolding unit_said
-  is_land t = taken _ (sym e ∙ t) refl
-
-  module _ {trees : Bool} (f : trees ≡ same_word (codes "trees") cell) (l : land ≡ false) where
-    pub is_trees : trees ≡ true → Number 1 ≡ unit_said cell
-    unfolding unit_said
-    is_trees t = left _ (sym e ∙ l) (taken _ (sym f ∙ t) refl)
-
-    pub no_unit : trees ≡ false → Wrong 7 ≡ unit_said cell
-    unfolding unit_said
-    no_unit t = left _ (sym e ∙ l) (left _ (sym f ∙ t) refl)
-
-module _ (sep kind unit i : ℕ) (cell : List ℕ) {r : Said} where
-  pub by_word : is_unit kind i ≡ true → r ≡ unit_said cell → r ≡ cell_said sep kind unit i cell
-  unfolding cell_said
-  by_word e q = taken _ e q
-
-  pub by_number : {n : Numeral} {d : ℕ} → is_unit kind i ≡ false → d ≡ decimals_of kind unit i → n ≡ read_number (comma_marks sep) d cell → r ≡ number_said n
-      → r ≡ cell_said sep kind unit i cell
-  unfolding cell_said
-  by_number e p q s = left _ e (s ∙ ap number_said (q ∙ ap (λ (x : ℕ). read_number (comma_marks sep) x cell) p))
 
 pub says_by_unit : (sep kind u v i : ℕ) (cell : List ℕ) → (kind ≡ 2 → 2 ≤ i → u ≡ v) → cell_said sep kind u i cell ≡ cell_said sep kind v i cell
 unfolding cell_said
@@ -73,7 +43,7 @@ pub record Reading (sep kind : ℕ) (line room₀ : List ℕ) (at : ℕ) (room :
   pub same : length room ≡ length room₀
   pub begins : Begins sep line (i + 1) from
   pub units : kind ≡ 2 → 2 ≤ i → unit ≡ unit_in sep line
-  pub none : first (wrong_at sep kind line) i ≡ Nowhere
+  pub none : first (wrong_at sep kind line) i ≡ None
   pub stored : room ≡ sets room₀ at (first_numbers sep kind line i)
 
 -- a unit as it is known before field i, and by that field
@@ -98,32 +68,32 @@ module _ (sep kind : ℕ) (line room₀ : List ℕ) (at : ℕ) where
   }
 
   module _ (room : List ℕ) (from unit i : ℕ) (d : Reading sep kind line room₀ at room from unit i) where
-    pub reading_says : (r : Field) {s : Said} → FieldAt sep line from r → s ≡ cell_said sep kind unit i (part r.from r.to line) → s ≡ said_at sep kind line i
+    pub reading_says : (r : Field) {s : Result ℕ FieldFault} → FieldAt sep line from r → s ≡ cell_said sep kind unit i (part r.from r.to line) → s ≡ said_at sep kind line i
     reading_says r f e =
         e
         ∙ says_by_unit sep kind unit (unit_in sep line) i (part r.from r.to line) d.units
         ∙ ap (cell_said sep kind (unit_in sep line) i) (cell_is sep line (i + 1) from d.begins r f ∙ ap (λ (k : ℕ). cell_at sep k line) (add-one i))
 
-    pub reading_wrong : (fault : ℕ) → i < numbers_of kind → said_at sep kind line i ≡ Wrong fault
-        → (Fault fault i ≡ row_said sep kind line) × (room ≡ sets room₀ at (first_numbers sep kind line i))
-    reading_wrong fault l e = (
-      ap (λ (f : ℕ). Fault f i) (sym (ap fault_in e))
+    pub reading_wrong : (f : FieldFault) → i < numbers_of kind → said_at sep kind line i ≡ Err f
+        → (Err (record { field = i; fault = f }) ≡ row_said sep kind line) × (room ≡ sets room₀ at (first_numbers sep kind line i))
+    reading_wrong f l e = (
+      ap (at_fault i) (sym e)
           ∙ sym (wrong_first sep kind line i (first_found (wrong_at sep kind line) i (numbers_of kind) d.none (ap is_wrong e) l)),
       d.stored,
     )
 
-    pub reading_all : numbers_of kind ≤ i → (Whole ≡ row_said sep kind line) × (room ≡ sets room₀ at (first_numbers sep kind line (numbers_of kind)))
+    pub reading_all : numbers_of kind ≤ i → (Ok tt ≡ row_said sep kind line) × (room ≡ sets room₀ at (first_numbers sep kind line (numbers_of kind)))
     reading_all l =
         let q : i ≡ numbers_of kind = omega (arith, d.within) in (
-          sym (wrong_none sep kind line (subst (λ (n : ℕ). first (wrong_at sep kind line) n ≡ Nowhere) q d.none)),
+          sym (wrong_none sep kind line (subst (λ (n : ℕ). first (wrong_at sep kind line) n ≡ None) q d.none)),
           d.stored ∙ ap (λ (n : ℕ). sets room₀ at (first_numbers sep kind line n)) q,
         )
 
-    module _ (number : ℕ) (e : said_at sep kind line i ≡ Number number) where
+    module _ (number : ℕ) (e : said_at sep kind line i ≡ Ok number) where
       -- the unit's own field says it
       told_here : kind ≡ 2 → i ≡ 1 → number ≡ unit_in sep line
       unfolding cell_said is_unit
-      told_here k o = sym (ap number_in (subst (λ (j : ℕ). said_at sep 2 line j ≡ Number number) o (subst (λ (n : ℕ). said_at sep n line i ≡ Number number) k e)))
+      told_here k o = sym (ap number_in (subst (λ (j : ℕ). said_at sep 2 line j ≡ Ok number) o (subst (λ (n : ℕ). said_at sep n line i ≡ Ok number) k e)))
 
       stored_here : set room (at + i) number ≡ sets room₀ at (first_numbers sep kind line (i + 1))
       unfolding first_numbers

@@ -5,13 +5,13 @@ ghost use Rattle.std.specs.Prelude.{◌≡◌, false, ◌+◌, ◌*◌, ◌^◌,
 ghost use Rattle.form.specs.Layout.{savanna, row_at, above_limit};
 ghost use Rattle.form.specs.Verdict.{rows, Formed};
 ghost use Rattle.totals.specs.Masses.{carbon};
-ghost use Rattle.burning.specs.Released.{row_of, burned_by};
+ghost use Rattle.burning.specs.Released.{row_of};
 ghost use Rattle.savannas.specs.Savannas.{burned_mass, carbon_share, carbon_part, ratios_of, savannas_of};
 
-use burning::{Gases, Released, add_row, nothing, ratios_at, release, work_gases};
-use form::{Counts, first_block, four_at, row_start, two_at};
-use totals::{Carbon, DryMatterPart};
-use wide::{of, times};
+use burning::{Gases, Released, ratios_at, release, work_gases};
+use form::{Counts, four_at, two_at};
+use totals::adding::sum_rows;
+use totals::{Carbon, DryMatterPart, wide_carbon_of};
 
 #[derive(Clone, Copy)]
 pub struct Savannas {
@@ -47,8 +47,7 @@ fn carbon_at(bytes: &[u8], at: usize) -> Carbon
     requires at_value { above_limit savanna (row_at savanna bytes.now at) ≡ false }
     ensures { result ≡ carbon (carbon_part (row_at savanna bytes.now at)) }
 {
-    let burned = burned_at(bytes, at);
-    Carbon(times(of(burned.0), share_at(bytes, at)))
+    wide_carbon_of(burned_at(bytes, at), share_at(bytes, at))
 }
 
 // A row's carbon, and what of it goes off with each gas.
@@ -60,28 +59,12 @@ fn row_at(bytes: &[u8], at: usize) -> Released
     release(carbon_at(bytes, at), ratios_at(bytes, at + 22))
 }
 
-// The sums over the savanna rows.
-fn sum_savannas(bytes: &[u8], c: Counts) -> Released
-    requires { Formed bytes.now c }
-    ensures { result ≡ burned_by carbon_part ratios_of (rows 6 bytes.now) }
-{
-    let first = first_block(c, 6);
-    let n = c.savanna as usize;
-    let mut t = nothing();
-    let mut i: usize = 0;
-    while i < n {
-        t = add_row(t, row_at(bytes, row_start(first, i)));
-        i += 1;
-    }
-    t
-}
-
 // The sheet.
 pub fn work_savannas(bytes: &[u8], c: Counts) -> Savannas
     requires { Formed bytes.now c }
     ensures { result ≡ savannas_of (rows 6 bytes.now) }
 {
-    let t = sum_savannas(bytes, c);
+    let t = sum_rows(bytes, c, 6, |at| row_at(bytes, at));
     let carbon = t.carbon;
     Savannas {
         carbon,

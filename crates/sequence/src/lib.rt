@@ -40,10 +40,8 @@ pub fn blocks_below(bytes: &[u8], kind: u32, b: usize) -> u32
     ensures { result ≡ blocks_below kind bytes.now b }
 {
     let mut n: u32 = 0;
-    let mut a: usize = 0;
-    while a < b {
+    for a in 0..b {
         n += where_same(byte_at(bytes, 512 * a), kind, 1);
-        a += 1;
     }
     n
 }

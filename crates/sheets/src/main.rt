@@ -24,11 +24,9 @@ fn print(rt: &HostRuntime, bytes: &[u8], room: &mut [u8])
 // One byte more than the longest return is taken, so that a longer input is refused for its length.
 fn main(rt: HostRuntime) {
     let mut bytes = [0u8; LONGEST + 1];
-    let taken = take(&rt, &mut bytes, b"sheets: the input could not be read\n");
-    if !taken.whole {
+    let Ok(n) = take(&rt, &mut bytes, b"sheets: the input could not be read\n") else {
         return;
-    }
-    let n = taken.count;
+    };
     let mut room = [0u8; LINES_ROOM];
     print(&rt, &bytes[..n], &mut room);
 }

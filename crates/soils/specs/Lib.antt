@@ -1,1 +1,2 @@
 pub mod Soils
+pub mod Laws

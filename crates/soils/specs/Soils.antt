@@ -1,5 +1,5 @@
 -- Worksheets 5-5 and 5-5A, mineral soils: the numbers of a row, its soil carbon and its stocks, and the sheet.
-use Rattle.std.specs.Prelude.{ℕ, ◌+◌, ◌*◌, ◌^◌, List, ℤ, pos, ◌-ℤ◌, get_or}
+use Rattle.std.specs.Prelude.{ℕ, ◌+◌, ◌*◌, ◌^◌, ◌≤◌, List, ℤ, pos, ◌-ℤ◌, get_or}
 use Rattle.form.specs.Sums.{sum_of, area_now, area_then}
 use Rattle.wide.specs.Signs.{amount, signed_of, nearest_z}
 use Rattle.soils.specs.declared.SoilStocks.{SoilStocks}
@@ -40,6 +40,10 @@ row_stocks r = stocks (stock_now r) (stock_then r)
 
 abbrev pub plus_stocks : SoilStocks → SoilStocks → SoilStocks
 plus_stocks a b = stocks (a.now.0 + b.now.0) (a.then.0 + b.then.0)
+
+-- each is at most n
+abbrev pub StocksMost : ℕ → SoilStocks → Type 0
+StocksMost n t = (t.now.0 ≤ n) × (t.then.0 ≤ n)
 
 unfoldable pub all_stocks : List (List ℕ) → SoilStocks
 all_stocks rows = stocks (sum_of stock_now rows) (sum_of stock_then rows)

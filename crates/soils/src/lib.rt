@@ -5,9 +5,11 @@ ghost use Rattle.std.specs.Prelude.{◌≡◌, false, ◌+◌, ◌*◌, ◌^◌,
 ghost use Rattle.form.specs.Layout.{soil, row_at, above_limit};
 ghost use Rattle.form.specs.Verdict.{rows, Formed};
 ghost use Rattle.wide.specs.Numbers.{value};
-ghost use Rattle.soils.specs.Soils.{soil_carbon, row_stocks, plus_stocks, all_stocks, gain_of, change_of, soils_of};
+ghost use Rattle.soils.specs.Soils.{soil_carbon, stocks, row_stocks, plus_stocks, StocksMost, gain_of, change_of, soils_of};
+ghost use Rattle.soils.specs.Laws.{stocks_none, stocks_both, stocks_fit};
 
-use form::{Counts, first_block, four_at, row_start, two_at};
+use form::{Counts, four_at, two_at};
+use totals::adding::{AddsUp, sum_rows};
 use wide::of;
 use wide::signed::{Signed, difference, rounded_signed};
 
@@ -71,34 +73,37 @@ fn stocks_at(bytes: &[u8], at: usize) -> SoilStocks
     }
 }
 
-// One row more.
-fn add_stocks(t: SoilStocks, p: SoilStocks) -> SoilStocks
-    requires { (t.now.0 + p.now.0 < 2 ^ 64) × (t.then.0 + p.then.0 < 2 ^ 64) }
-    ensures { result ≡ plus_stocks t p }
-{
-    SoilStocks {
-        now: SoilStock(t.now.0 + p.now.0),
-        then: SoilStock(t.then.0 + p.then.0),
-    }
-}
+// The stocks of two rows, or of more: each added to its own.
+impl AddsUp for SoilStocks {
+    ghost none = { stocks 0 0 };
 
-// The stocks of all rows.
-fn sum_soils(bytes: &[u8], c: Counts) -> SoilStocks
-    requires { Formed bytes.now c }
-    ensures { result ≡ all_stocks (rows 7 bytes.now) }
-{
-    let first = first_block(c, 7);
-    let n = c.soils as usize;
-    let mut t = SoilStocks {
-        now: SoilStock(0),
-        then: SoilStock(0),
-    };
-    let mut i: usize = 0;
-    while i < n {
-        t = add_stocks(t, stocks_at(bytes, row_start(first, i)));
-        i += 1;
+    ghost both = { plus_stocks };
+
+    ghost Most = { StocksMost };
+
+    ghost Fit = { λ a b. (a.now.0 + b.now.0 < 2 ^ 64) × (a.then.0 + b.then.0 < 2 ^ 64) };
+
+    ghost row_most = { 27 * 10 ^ 15 };
+
+    ghost most_none = { stocks_none };
+
+    ghost most_both = { stocks_both };
+
+    ghost fit = { stocks_fit };
+
+    fn nothing() -> SoilStocks {
+        SoilStocks {
+            now: SoilStock(0),
+            then: SoilStock(0),
+        }
     }
-    t
+
+    fn plus(self, other: SoilStocks) -> SoilStocks {
+        SoilStocks {
+            now: SoilStock(self.now.0 + other.now.0),
+            then: SoilStock(self.then.0 + other.then.0),
+        }
+    }
 }
 
 // A loss is below zero.
@@ -121,7 +126,7 @@ pub fn work_soils(bytes: &[u8], c: Counts) -> Soils
     requires { Formed bytes.now c }
     ensures { result ≡ soils_of (rows 7 bytes.now) }
 {
-    let soil = gained(sum_soils(bytes, c));
+    let soil = gained(sum_rows(bytes, c, 7, |at| stocks_at(bytes, at)));
     Soils {
         soil,
         change: yearly(soil),

@@ -29,8 +29,8 @@ use Rattle.form.specs.Sums.{sum_rules}
 use Rattle.form.specs.Verdict.{Formed, block_rules, form_rules, rules, row_count, rows, counts_of, count_list, count_in, verdict_of}
 use Rattle.form.specs.Standing.{blocks_for, start_block, first_block, start_place, rows_from}
 use Rattle.form.specs.declared.Counts.{Counts}
-use Rattle.form.specs.declared.Ruling.TheVariants.{Clean}
-use Rattle.form.specs.declared.Verdict.TheVariants.{Accepted}
+use Rattle.form.specs.Refusals.{Clean}
+use Rattle.std.specs.Prelude.{Ok}
 use Rattle.form.proofs.Tests.{and_rest, or_none, all_fail, same_of}
 use Rattle.form.proofs.Order.{AllKept, Kept, none, more, ruling-clean, ruling_append, or_clean, append_kept, kept_of}
 use Rattle.form.proofs.Places.{broken_at}
@@ -70,7 +70,7 @@ unfolding kinds
 counts-length c = refl
 
 -- an accepted return is formed
-module _ (s : List ℕ) (c : Counts) (acc : verdict_of s ≡ Accepted c) where
+module _ (s : List ℕ) (c : Counts) (acc : verdict_of s ≡ Ok c) where
   judged : (ruling (rules s) ≡ Clean) × (c ≡ counts_of s)
   unfolding verdict_of
   judged = clean_of s (ruling (rules s)) c acc

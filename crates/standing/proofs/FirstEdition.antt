@@ -16,7 +16,7 @@ use Rattle.form.specs.Records.{filed}
 use Rattle.form.specs.Sums.{sum_rules}
 use Rattle.form.specs.Verdict.{block_rules, form_rules, rules}
 use Rattle.form.specs.FirstEdition.{bad_length01, bad_header01, wrong_end01, bad_block01, rules01}
-use Rattle.form.specs.declared.Spot.TheVariants.{Nowhere}
+use Rattle.std.specs.Prelude.{None}
 use Rattle.form.proofs.Search.{first_same, first_none}
 use Rattle.form.proofs.Order.{append_same, both-rule}
 use Rattle.form.proofs.EachKind.{kinds_are}
@@ -69,7 +69,7 @@ module _ (s : List ℕ) (one : edition s 0 ≡ 1) where
       lengths_same : bad_length s ≡ bad_length01 s
       lengths_same = rw (le-ltb longest (length s) (omega (arith, kinds_are)), le-ltb 5120 (length s) short)
 
-      blocks_same : first (bad_header01 s) (blocks s) ≡ Nowhere → (b : ℕ) → b < blocks s → bad_block s b ≡ bad_block01 s b
+      blocks_same : first (bad_header01 s) (blocks s) ≡ None → (b : ℕ) → b < blocks s → bad_block s b ≡ bad_block01 s b
       blocks_same none b l =
           let low = low-kinds (λ a m. header_same a ∙ first_none (bad_header01 s) none a m) in
           block_same b l (low b l) (low (b + 1))

@@ -21,8 +21,7 @@ use Rattle.form.specs.Layout.{kinds, parameters_kind}
 use Rattle.form.specs.Edition.{last_kind}
 use Rattle.form.specs.Verdict.{block_rules, count_below, row_count}
 use Rattle.form.specs.Standing.{blocks_for, start_block}
-use Rattle.form.specs.declared.Spot.{Spot}
-use Rattle.form.specs.declared.Spot.TheVariants.{At, Nowhere}
+use Rattle.std.specs.Prelude.{None, Option, Some}
 use Rattle.form.proofs.Search.{Says, first_says}
 use Rattle.form.proofs.Order.{AllKept, Kept, none, more}
 use Rattle.form.proofs.Tests.{all_fail, same_of, and_rest}
@@ -124,9 +123,9 @@ module _ (s : List ℕ) (o : Ordered s (blocks s)) where
       go r (no d) = omega (arith, r (omega arith), (o (suc b) l).rises b refl)
 
   -- the first block of kind k or above, or their number: there the blocks of the kinds below k end
-  abbrev place : Spot → ℕ
-  place (At i) = i
-  place Nowhere = blocks s
+  abbrev place : Option ℕ → ℕ
+  place (Some i) = i
+  place None = blocks s
 
   abbrev cut : ℕ → ℕ
   cut k = place (first (λ b. leb k (kind_of s b)) (blocks s))
@@ -139,13 +138,13 @@ module _ (s : List ℕ) (o : Ordered s (blocks s)) where
   parted : (k : ℕ) → Parted k (cut k)
   parted k = go (first (λ b. leb k (kind_of s b)) (blocks s)) (first_says (λ b. leb k (kind_of s b)) (blocks s))
     where
-      go : (t : Spot) → Says (λ b. leb k (kind_of s b)) (blocks s) t → Parted k (place t)
-      go (At i) h = record {
+      go : (t : Option ℕ) → Says (λ b. leb k (kind_of s b)) (blocks s) t → Parted k (place t)
+      go (Some i) h = record {
         end = omega arith;
         below = λ b l. leb-false k (kind_of s b) (h.2 b l);
         above = λ b g l. omega (arith, leb-true k (kind_of s i) h.1, kinds_rise i b g l);
       }
-      go Nowhere h = record { end = omega arith; below = λ b l. leb-false k (kind_of s b) (h b l); above = λ b g l. absurd (omega arith) }
+      go None h = record { end = omega arith; below = λ b l. leb-false k (kind_of s b) (h b l); above = λ b g l. absurd (omega arith) }
 
   -- of the first m blocks, those between its cuts are of a kind
   blocks_are : (k m : ℕ) → m ≤ blocks s → blocks_below k s m + min m (cut k) ≡ min m (cut (suc k))

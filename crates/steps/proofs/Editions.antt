@@ -17,11 +17,9 @@ use Rattle.form.specs.Records.{filed, record_rules}
 use Rattle.form.specs.Sums.{sum_rules}
 use Rattle.form.specs.Standing.{start_block}
 use Rattle.form.specs.Verdict.{block_rules, form_rules, row_count, rows, Formed, verdict_by, verdict_of}
-use Rattle.form.specs.declared.Ruling.TheVariants.{Broken}
-use Rattle.form.specs.declared.Spot.{Spot}
-use Rattle.form.specs.declared.Spot.TheVariants.{At, Nowhere}
+use Rattle.form.specs.Refusals.{Refused}
+use Rattle.std.specs.Prelude.{None, Ok, Option, Some}
 use Rattle.form.specs.declared.Counts.{Counts}
-use Rattle.form.specs.declared.Verdict.TheVariants.{Accepted, Refused}
 use Rattle.form.proofs.Search.{first_at, first_none}
 use Rattle.form.proofs.Order.{Kept, AllKept, none, more, this, later, kept_of, append_kept, ruling-clean, least_ruling, ruled_before}
 use Rattle.standing.proofs.Stand.{headed, Ordered, ordered, start_all, needed, lying, only_row}
@@ -42,7 +40,7 @@ none_left : (l : List (List ℕ)) → length l ≡ 0 → l ≡ []
 none_left [] e = refl
 none_left (x ∷ l) e = absurd (omega arith)
 
-module _ (s : List ℕ) (c : Counts) (accepted : verdict_of s ≡ Accepted c) where
+module _ (s : List ℕ) (c : Counts) (accepted : verdict_of s ≡ Ok c) where
   acc : Formed s c
   acc = formed s c accepted
 
@@ -122,7 +120,7 @@ module _ (s : List ℕ) (one : edition s 0 ≡ 1) where
     at_most_ten h =
         omega (arith, start_all s in_order, few 1, few 2, few 3, only_row s in_order h, none_above 5 (omega arith), none_above 6 (omega arith), none_above 7 (omega arith), none_above 8 (omega arith))
 
-  pub ten_blocks : (c : Counts) → verdict_of s ≡ Accepted c → length s ≤ 5120
+  pub ten_blocks : (c : Counts) → verdict_of s ≡ Ok c → length s ≤ 5120
   ten_blocks c accepted =
       let f = formed s c accepted in
       let w = whole-blocks s c f in
@@ -130,12 +128,12 @@ module _ (s : List ℕ) (one : edition s 0 ≡ 1) where
 
   module _ (length-kept : bad_length s ≡ false) (checks : (b : ℕ) → b < blocks s → bad_check s b ≡ false)
       (headers : (b : ℕ) → b < blocks s → bad_header s b ≡ false) where
-    stopped : 10 < blocks s → (t : Spot) → first (bad_block s) (blocks s) ≡ t → (p : ℕ) × (ruling (block_rules s) ≡ Broken 4 p)
+    stopped : 10 < blocks s → (t : Option ℕ) → first (bad_block s) (blocks s) ≡ t → (p : ℕ) × (ruling (block_rules s) ≡ Refused 4 p)
     unfolding block_rules Kept
-    stopped h (At p) e =
+    stopped h (Some p) e =
         let f = first_at (bad_block s) e in
         (p, least_ruling (later (λ k l. length-kept) (later checks (later headers (this f.0 f.1 f.2)))))
-    stopped h Nowhere e =
+    stopped h None e =
         let m = at_most_ten (more (λ k l. length-kept) (more checks (more headers (more (first_none (bad_block s) e) none)))) (omega arith) in
         absurd (omega arith)
 
@@ -143,5 +141,5 @@ module _ (s : List ℕ) (one : edition s 0 ≡ 1) where
     unfolding verdict_of
     above_ten h =
         let r = stopped h (first (bad_block s) (blocks s)) refl in
-        let f : ruling (form_rules s) ≡ Broken 4 r.0 = ruled_before (block_rules s) (record_rules (edition s 0) (filed s)) r.1 in
+        let f : ruling (form_rules s) ≡ Refused 4 r.0 = ruled_before (block_rules s) (record_rules (edition s 0) (filed s)) r.1 in
         (r.0, ap (verdict_by s) (ruled_before (form_rules s) (sum_rules (filed s)) f))

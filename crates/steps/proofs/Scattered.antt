@@ -9,13 +9,13 @@ use Rattle.form.specs.Block.{edition}
 use Rattle.form.specs.Sums.{scattered_part, scattered_in}
 use Rattle.form.specs.Verdict.{rows, Formed, verdict_of}
 use Rattle.form.specs.declared.Counts.{Counts}
-use Rattle.form.specs.declared.Verdict.TheVariants.{Accepted}
+use Rattle.std.specs.Prelude.{Ok}
 use Rattle.form.proofs.Scattered.{part_of_one, none_counted}
 use Rattle.standing.proofs.Accepted.{formed, formed_counts, rows-length, none_scattered}
 use Rattle.totals.proofs.Sums.{sum_below}
 use Rattle.worksheets.specs.Sheets.{stock_rows, by_kind, figures_of}
 
-module _ (s : List ℕ) (c : Counts) (accepted : verdict_of s ≡ Accepted c) where
+module _ (s : List ℕ) (c : Counts) (accepted : verdict_of s ≡ Ok c) where
   acc : Formed s c
   acc = formed s c accepted
 

@@ -18,9 +18,8 @@ use Rattle.form.specs.Sums.{soil_type, soil_uneven, cleared_above, sum_rules}
 use Rattle.form.specs.Verdict.{block_rules, form_rules, rows, counts_of, Formed, verdict_of}
 use Rattle.form.specs.FirstEdition.{rules01}
 use Rattle.form.specs.declared.Counts.{Counts}
-use Rattle.form.specs.declared.Ruling.{Ruling}
-use Rattle.form.specs.declared.Ruling.TheVariants.{Clean, Broken}
-use Rattle.form.specs.declared.Verdict.TheVariants as verdict
+use Rattle.form.specs.Refusals.{Clean, Refused, Ruling}
+use Rattle.std.specs.Prelude.{Ok, Err}
 use Rattle.form.proofs.Order.{Kept, none, more, rule_of, apart, least_of, kept_of, append_kept, ruling-clean, ruling_least, clean-ruling, or_rule, ruling_append, ruled}
 use Rattle.form.proofs.Meaning.{broken_at}
 use Rattle.standing.proofs.Accepted.{accepted-ruling, no_rows}
@@ -32,18 +31,17 @@ use Rattle.areas.specs.Place.{Even, FirstOfLowest}
 use Rattle.areas.proofs.Return.{no_soils}
 use Rattle.areas.proofs.Balanced.{place_told, told_place, kept-even, even-kept}
 use Rattle.rows.specs.Writing.{write_rules, written_by, write_answer}
-use Rattle.rows.specs.declared.Written.TheVariants.{Done, Refused}
 use Rattle.rows.proofs.Return.{done_by}
 use Rattle.steps.proofs.Told.{written_told}
 
 module _ (s : List ℕ) where
-  pub even_good : (c : Counts) → verdict_of s ≡ verdict.Accepted c → Even (rows 7 s)
+  pub even_good : (c : Counts) → verdict_of s ≡ Ok c → Even (rows 7 s)
   unfolding Kept
   even_good c accepted =
       let sums = (append_kept (form_rules s) (sum_rules (filed s)) (ruling-clean (accepted-ruling s c accepted))).1 in
       kept-even (filed s) (kept_of 13 sums)
 
-  pub soil-refused : (p : ℕ) → verdict_of s ≡ verdict.Refused 13 p → FirstOfLowest (filed s) p (soil_type ((filed s).row p))
+  pub soil-refused : (p : ℕ) → verdict_of s ≡ Refused 13 p → FirstOfLowest (filed s) p (soil_type ((filed s).row p))
   unfolding block_rules
   soil-refused p e = place_told (filed s) (broken_at s 13 e refl)
 
@@ -52,7 +50,7 @@ module _ (f : Filed) where
   unfolding Kept
   soil_passes h = clean-ruling (more (λ j l. even-kept f h j) none)
 
-  pub soil-stops : {p t : ℕ} → FirstOfLowest f p t → ruling (soil_rules f) ≡ Broken 13 p
+  pub soil-stops : {p t : ℕ} → FirstOfLowest f p t → ruling (soil_rules f) ≡ Refused 13 p
   soil-stops w = sym (ruled (rule 13 f.places (soil_uneven f)) [] (told_place f w))
 
 -- ---- edition 1
@@ -62,7 +60,7 @@ wood s = rule 12 1 (λ p. cleared_above (rows 3 s) (rows 1 s)) ∷ []
 
 or_none : (u : Ruling) → or_rule u Clean ≡ u
 or_none Clean = refl
-or_none (Broken n p) = refl
+or_none (Err r) = refl
 
 module _ (s : List ℕ) (one : edition s 0 ≡ 1) (short : length s ≤ 5120) where
   pub first-kept : ruling (rules01 s) ≡ Clean → ruling (soil_rules (filed s)) ≡ Clean
@@ -73,7 +71,7 @@ module _ (s : List ℕ) (one : edition s 0 ≡ 1) (short : length s ≤ 5120) wh
 
   last_by : (u : Ruling) → ruling (rules01 s) ≡ u → or_rule u (ruling (sum_rules (filed s))) ≡ or_rule u (ruling (wood s))
   last_by Clean e = ruling_append (wood s) (soil_rules (filed s)) ∙ ap (or_rule (ruling (wood s))) (first-kept e) ∙ or_none (ruling (wood s))
-  last_by (Broken n p) e = refl
+  last_by (Err r) e = refl
 
   pub first-rules : ruling (rules01 s ++ sum_rules (filed s)) ≡ ruling (rules01 s ++ wood s)
   first-rules =
@@ -85,7 +83,7 @@ module _ (ed : ℕ) (lengths area room : List ℕ) where
   abbrev lists : Filed
   lists = filed_lists (cut lengths area)
 
-  pub written-even : {n : ℕ} → write_answer ed lengths area room ≡ Done n → Even (filed_rows lists 7)
+  pub written-even : {n : ℕ} → write_answer ed lengths area room ≡ Ok n → Even (filed_rows lists 7)
   unfolding write_answer list_rules Kept
   written-even e =
       let clean = (done_by ed (cut lengths area) (ruling (write_rules ed lengths area room)) e).0 in
@@ -94,5 +92,5 @@ module _ (ed : ℕ) (lengths area room : List ℕ) where
   pub unwritten_refused : {p : ℕ} → write_answer ed lengths area room ≡ Refused 13 p → FirstOfLowest lists p (soil_type (lists.row p))
   unfolding write_answer list_rules
   unwritten_refused {p} e =
-      let broken : ruling (write_rules ed lengths area room) ≡ Broken 13 p = written_told ed (cut lengths area) (ruling (write_rules ed lengths area room)) (Broken 13 p) e in
+      let broken : ruling (write_rules ed lengths area room) ≡ Refused 13 p = written_told ed (cut lengths area) (ruling (write_rules ed lengths area room)) (Refused 13 p) e in
       place_told lists (least_of refl (ruling_least broken))

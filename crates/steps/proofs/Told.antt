@@ -5,37 +5,32 @@ use mathlib.Core.List.{List}
 use native.Mathlib.Omega.{arith}
 use Rattle.worksheets.specs.declared.sheets.Figures.{Figures}
 use Rattle.form.specs.Verdict.{verdict_by}
-use Rattle.form.specs.declared.Ruling.{Ruling}
-use Rattle.form.specs.declared.Ruling.TheVariants.{Clean, Broken}
-use Rattle.form.specs.declared.Verdict.{Verdict}
-use Rattle.form.specs.declared.Verdict.TheVariants as verdict
+use Rattle.doubles.specs.Answers.{Answer}
+use Rattle.form.specs.Refusals.{Clean, Refused, Ruling, Verdict}
+use Rattle.rows.specs.Answers.{Written}
+use Rattle.std.specs.Prelude.{Ok, Err}
+use Rattle.worksheets.specs.Answer as sheets
 use Rattle.filing.specs.Lists.{Lists}
 use Rattle.rows.specs.Writing.{written_by}
-use Rattle.rows.specs.declared.Written.{Written}
-use Rattle.rows.specs.declared.Written.TheVariants as written
 use Rattle.worksheets.specs.Answers.{Outcome, worked, refusal, outcome_by, said, answered}
-use Rattle.worksheets.specs.declared.sheets.Answer as sheets
-use Rattle.worksheets.specs.declared.sheets.Answer.TheVariants as answer
 use Rattle.doubles.specs.Subtotals.{answer_by}
-use Rattle.doubles.specs.declared.Answer.{Answer}
-use Rattle.doubles.specs.declared.Answer.TheVariants as doubles
 use Rattle.form.proofs.Order.{same_ruling}
 
 in_verdict : Verdict → Ruling
-in_verdict (verdict.Accepted c) = Clean
-in_verdict (verdict.Refused n p) = Broken n p
+in_verdict (Ok c) = Clean
+in_verdict (Err r) = Err r
 
 in_written : Written → Ruling
-in_written (written.Done n) = Clean
-in_written (written.Refused n p) = Broken n p
+in_written (Ok n) = Clean
+in_written (Err r) = Err r
 
 in_outcome : Outcome → Ruling
 in_outcome (worked v) = Clean
-in_outcome (refusal n p) = Broken n p
+in_outcome (refusal n p) = Refused n p
 
 in_answer : Answer → Ruling
-in_answer (doubles.Figures d) = Clean
-in_answer (doubles.Refused n p) = Broken n p
+in_answer (Ok d) = Clean
+in_answer (Err r) = Err r
 
 module _ (s : List ℕ) where
   pub verdict_told : (u v : Ruling) → verdict_by s u ≡ verdict_by s v → u ≡ v
@@ -64,5 +59,5 @@ said_back (worked f) = refl
 said_back (refusal n p) = refl
 
 pub answered_back : (a : sheets.Answer) → answered (said a) ≡ a
-answered_back (answer.Figures f) = refl
-answered_back (answer.Refused n p) = refl
+answered_back (Ok f) = refl
+answered_back (Err r) = refl

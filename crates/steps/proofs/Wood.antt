@@ -14,8 +14,8 @@ use Rattle.form.specs.Records.{filed}
 use Rattle.form.specs.Sums.{column_k, column_l, cleared_above, sum_rules}
 use Rattle.form.specs.Verdict.{block_rules, form_rules, rows, counts_of, Formed, verdict_by, verdict_of}
 use Rattle.form.specs.declared.Counts.{Counts}
-use Rattle.form.specs.declared.Ruling.TheVariants.{Clean, Broken}
-use Rattle.form.specs.declared.Verdict.TheVariants.{Accepted, Refused}
+use Rattle.form.specs.Refusals.{Clean, Refused}
+use Rattle.std.specs.Prelude.{Ok}
 use Rattle.form.proofs.Order.{Kept, kept_of, append_kept, ruling-clean, kept-before, one_broken, one_kept}
 use Rattle.form.proofs.Meaning.{broken_at}
 use Rattle.standing.proofs.Accepted.{accepted-ruling}
@@ -31,7 +31,7 @@ pub wood-clean : (harvest conversion : List (List ℕ)) → column_l conversion 
 wood-clean harvest conversion h = le-ltb (100 * column_k harvest) (column_l conversion) h
 
 module _ (s : List ℕ) where
-  pub wood_good : (c : Counts) → verdict_of s ≡ Accepted c → column_l (rows 1 s) ≤ 100 * column_k (rows 3 s)
+  pub wood_good : (c : Counts) → verdict_of s ≡ Ok c → column_l (rows 1 s) ≤ 100 * column_k (rows 3 s)
   unfolding Kept
   wood_good c accepted =
       let sums = (append_kept (form_rules s) (sum_rules (filed s)) (ruling-clean (accepted-ruling s c accepted))).1 in
@@ -48,7 +48,7 @@ module _ (s : List ℕ) where
     pub wood_passes : column_l (rows 1 s) ≤ 100 * column_k (rows 3 s) → ruling (rs ++ sum_rules (filed s)) ≡ ruling (soil_rules (filed s))
     wood_passes h = kept-before rs (sum_rules (filed s)) clean ∙ one_kept 12 _ (soil_rules (filed s)) (wood-clean (rows 3 s) (rows 1 s) h)
 
-    pub wood-stops : 100 * column_k (rows 3 s) < column_l (rows 1 s) → ruling (rs ++ sum_rules (filed s)) ≡ Broken 12 0
+    pub wood-stops : 100 * column_k (rows 3 s) < column_l (rows 1 s) → ruling (rs ++ sum_rules (filed s)) ≡ Refused 12 0
     wood-stops h = kept-before rs (sum_rules (filed s)) clean ∙ one_broken 12 _ (soil_rules (filed s)) (lt-ltb (100 * column_k (rows 3 s)) (column_l (rows 1 s)) h)
 
 -- M where no more is cleared than used, and O from it

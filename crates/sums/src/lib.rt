@@ -1,21 +1,19 @@
-// Sums of one number a row: E of the stocks, K of the harvest, L of the conversion, and worksheet 5-4's uptake of land given up by farmers. One loop for all kinds.
+// Sums of one number a row: E of the stocks, K of the harvest, L of the conversion, and worksheet 5-4's uptake of land given up by farmers.
 // And, for the counts themselves, how many stock rows are of scattered trees.
 #![tactic(auto)]
 
 ghost use Rattle.std.specs.Prelude.{◌≡◌, false, ◌+◌, ◌^◌, ◌≤◌, ◌<◌, length};
-ghost use Rattle.form.specs.Layout.{kinds, layout, conversion, stock, harvest, abandoned, row_at, above_limit};
+ghost use Rattle.form.specs.Layout.{conversion, stock, harvest, abandoned, row_at, above_limit};
 ghost use Rattle.form.specs.Verdict.{row_count, rows, counts_of, Formed};
 ghost use Rattle.form.specs.Standing.{first_block};
-ghost use Rattle.form.specs.Sums.{sum_of, scattered_part, scattered_in, harvest_part, cleared_part, column_k, column_l};
-ghost use Rattle.wide.specs.Numbers.{Is};
+ghost use Rattle.form.specs.Sums.{scattered_part, scattered_in, harvest_part, cleared_part, column_k, column_l};
 ghost use Rattle.totals.specs.Masses.{dry_matter, carbon};
 ghost use Rattle.totals.specs.Columns.{stock_part, column_e};
 ghost use Rattle.totals.specs.Abandoned.{abandoned_part, uptake_total, growth_at};
-ghost use Rattle.sums.specs.Parts.{part_in};
 
-use form::{Counts, byte_at, count_of, first_block, four_at, row_start, two_at, where_same};
+use form::{Counts, byte_at, four_at, row_start, two_at, where_same};
+use totals::adding::{AddsUp, sum_rows};
 use totals::{Carbon, CarbonPart, DryMatter, DryMatterPart, carbon_of, lost, share_of};
-use wide::{Wide, add_word, of};
 
 // One conversion row's part in L.
 fn cleared_at(bytes: &[u8], at: usize) -> DryMatterPart
@@ -59,46 +57,14 @@ fn growth_at(bytes: &[u8], at: usize) -> CarbonPart
 }
 
 // A row's two areas, the one abandoned for up to twenty years and the one for longer.
-fn land_at(bytes: &[u8], at: usize) -> CarbonPart
+fn land_at(bytes: &[u8], at: usize) -> Carbon
     requires at_in_bounds { at + 40 ≤ length bytes.now }
     requires at_value { above_limit abandoned (row_at abandoned bytes.now at) ≡ false }
-    ensures { result.0 ≡ abandoned_part (row_at abandoned bytes.now at) }
+    ensures { result ≡ carbon (abandoned_part (row_at abandoned bytes.now at)) }
 {
-    let young = growth_at(bytes, at + 4);
-    let older = growth_at(bytes, at + 12);
-    CarbonPart(young.0 + older.0)
-}
-
-// A row's part in its kind's sum.
-fn part_at(bytes: &[u8], at: usize, kind: usize) -> u64
-    requires at_in_bounds { at + 40 ≤ length bytes.now }
-    requires at_value { above_limit (layout kind) (row_at (layout kind) bytes.now at) ≡ false }
-    ensures { result ≡ part_in kind (row_at (layout kind) bytes.now at) }
-{
-    match kind {
-        1 => cleared_at(bytes, at).0,
-        2 => stock_at(bytes, at).0,
-        3 => harvest_at(bytes, at).0,
-        5 => land_at(bytes, at).0,
-        _ => 0,
-    }
-}
-
-// The sum over the rows of a kind.
-fn sum_parts(bytes: &[u8], c: Counts, kind: usize) -> Wide
-    requires formed { Formed bytes.now c }
-    requires le_kind { (1 ≤ kind) × (kind ≤ kinds) }
-    ensures { Is result (sum_of (part_in kind) (rows kind bytes.now)) }
-{
-    let first = first_block(c, kind);
-    let n = count_of(c, kind) as usize;
-    let mut sum = of(0);
-    let mut i: usize = 0;
-    while i < n {
-        sum = add_word(sum, part_at(bytes, row_start(first, i), kind));
-        i += 1;
-    }
-    sum
+    let young = Carbon::from(growth_at(bytes, at + 4));
+    let older = Carbon::from(growth_at(bytes, at + 12));
+    young.plus(older)
 }
 
 // E: the carbon that the stocks take up.
@@ -106,7 +72,7 @@ pub fn sum_stocks(bytes: &[u8], c: Counts) -> Carbon
     requires { Formed bytes.now c }
     ensures { result ≡ carbon (column_e (rows 2 bytes.now)) }
 {
-    Carbon(sum_parts(bytes, c, 2))
+    sum_rows(bytes, c, 2, |at| Carbon::from(stock_at(bytes, at)))
 }
 
 // K: the biomass that is used.
@@ -114,7 +80,7 @@ pub fn sum_harvest(bytes: &[u8], c: Counts) -> DryMatter
     requires { Formed bytes.now c }
     ensures { result ≡ dry_matter (column_k (rows 3 bytes.now)) }
 {
-    DryMatter(sum_parts(bytes, c, 3))
+    sum_rows(bytes, c, 3, |at| DryMatter::from(harvest_at(bytes, at)))
 }
 
 // L: the biomass that clearing gives, off site.
@@ -122,7 +88,7 @@ pub fn sum_cleared(bytes: &[u8], c: Counts) -> DryMatter
     requires { Formed bytes.now c }
     ensures { result ≡ dry_matter (column_l (rows 1 bytes.now)) }
 {
-    DryMatter(sum_parts(bytes, c, 1))
+    sum_rows(bytes, c, 1, |at| DryMatter::from(cleared_at(bytes, at)))
 }
 
 // The uptake.
@@ -130,7 +96,7 @@ pub fn sum_abandoned(bytes: &[u8], c: Counts) -> Carbon
     requires { Formed bytes.now c }
     ensures { result ≡ carbon (uptake_total (rows 5 bytes.now)) }
 {
-    Carbon(sum_parts(bytes, c, 5))
+    sum_rows(bytes, c, 5, |at| land_at(bytes, at))
 }
 
 // 1 for a stock row of scattered trees, and 0 for one of land.
@@ -148,10 +114,8 @@ pub fn count_scattered(bytes: &[u8], first: usize, n: usize) -> u32
     ensures { result ≡ scattered_in (rows 2 bytes.now) }
 {
     let mut scattered: u32 = 0;
-    let mut i: usize = 0;
-    while i < n {
+    for i in 0..n {
         scattered += scattered_at(bytes, row_start(first, i));
-        i += 1;
     }
     scattered
 }

@@ -1,42 +1,40 @@
 -- Answers that the checker computes, one of each kind, and how much of the table is given.
-use Rattle.std.specs.Prelude.{ℕ, ◌+◌, ◌≡◌, refl, false, List, [], ◌∷◌, pos, negsuc, length}
-use Rattle.entries52.specs.declared.Figure.{Figure}
-use Rattle.entries52.specs.declared.Figure.TheVariants.{Given, NotGiven}
-use Rattle.table52.specs.declared.Lookup.TheVariants.{Found, NoCountry, NoZone}
+use Rattle.std.specs.Prelude.{ℕ, ◌+◌, ◌≡◌, refl, false, List, [], ◌∷◌, pos, negsuc, length, Option, Some, None, ℤ, Ok, Err}
+use Rattle.table52.specs.declared.OffTable.TheVariants.{Country, Zone}
 use Rattle.entries52.specs.Table.{Printed, table, entries}
 use Rattle.entries52.specs.Entries.{rate_of}
 use Rattle.table52.specs.Lookup.{looked_up}
 
 -- Angola, moist with a short dry season
-angola : looked_up 0 1 ≡ Found (record { area1980 = Given (pos 31233); area1990 = Given (pos 29045); rate = Given (pos 219); marked = false })
+angola : looked_up 0 1 ≡ Ok (record { area1980 = Some (pos 31233); area1990 = Some (pos 29045); rate = Some (pos 219); marked = false })
 unfolding looked_up table
 angola = refl
 
 -- Rep. C. Africana, very moist: a blank rate beside two equal areas
-level : looked_up 5 0 ≡ Found (record { area1980 = Given (pos 7063); area1990 = Given (pos 7063); rate = Given (pos 0); marked = false })
+level : looked_up 5 0 ≡ Ok (record { area1980 = Some (pos 7063); area1990 = Some (pos 7063); rate = Some (pos 0); marked = false })
 unfolding looked_up table
 level = refl
 
 -- Guatemala, dry montane: the one area that is missing beside two figures
-guatemala : looked_up 72 5 ≡ Found (record { area1980 = Given (pos 240); area1990 = NotGiven; rate = Given (pos 24); marked = false })
+guatemala : looked_up 72 5 ≡ Ok (record { area1980 = Some (pos 240); area1990 = None; rate = Some (pos 24); marked = false })
 unfolding looked_up table
 guatemala = refl
 
 -- Puerto Rico, moist with a long dry season: a forest that grows, with a rate of -20
-puerto_rico : looked_up 83 2 ≡ Found (record { area1980 = Given (pos 1307); area1990 = Given (pos 1506); rate = Given (negsuc 19); marked = false })
+puerto_rico : looked_up 83 2 ≡ Ok (record { area1980 = Some (pos 1307); area1990 = Some (pos 1506); rate = Some (negsuc 19); marked = false })
 unfolding looked_up table
 puerto_rico = refl
 
 -- the last entry, and both numbers off the table, then the zone alone
-venezuela : looked_up 89 5 ≡ Found (record { area1980 = Given (pos 259); area1990 = Given (pos 178); rate = Given (pos 8); marked = false })
+venezuela : looked_up 89 5 ≡ Ok (record { area1980 = Some (pos 259); area1990 = Some (pos 178); rate = Some (pos 8); marked = false })
 unfolding looked_up table
 venezuela = refl
 
-no_country : looked_up 90 6 ≡ NoCountry
+no_country : looked_up 90 6 ≡ Err Country
 unfolding looked_up
 no_country = refl
 
-no_zone : looked_up 89 6 ≡ NoZone
+no_zone : looked_up 89 6 ≡ Err Zone
 unfolding looked_up
 no_zone = refl
 
@@ -46,11 +44,11 @@ unfolding table
 whole = refl
 
 -- the entries with all three figures
-all_three : Figure → Figure → Figure → ℕ
-all_three (Given a) (Given b) (Given r) = 1
-all_three (Given a) (Given b) NotGiven = 0
-all_three (Given a) NotGiven r = 0
-all_three NotGiven b r = 0
+all_three : Option ℤ → Option ℤ → Option ℤ → ℕ
+all_three (Some a) (Some b) (Some r) = 1
+all_three (Some a) (Some b) None = 0
+all_three (Some a) None r = 0
+all_three None b r = 0
 
 full : List Printed → ℕ
 full [] = 0

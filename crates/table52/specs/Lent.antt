@@ -1,21 +1,18 @@
 -- An entry in lent memory, for programs in C: "answers the three figures with the mark, or says which is not given".
-use Rattle.std.specs.Prelude.{Bool, cond, List, [], ◌∷◌, ◌++◌, length, drop, ℤ, pos, ltb}
-use Rattle.entries52.specs.declared.Figure.{Figure}
-use Rattle.entries52.specs.declared.Figure.TheVariants.{Given, NotGiven}
+use Rattle.std.specs.Prelude.{Bool, cond, List, [], ◌∷◌, ◌++◌, length, drop, ℤ, pos, ltb, Option, Some, None, Result, Ok, Err}
 use Rattle.entries52.specs.declared.Entry.{Entry}
-use Rattle.table52.specs.declared.Lookup.{Lookup}
-use Rattle.table52.specs.declared.Lookup.TheVariants as found
-use Rattle.table52.specs.declared.lent.Told.{Told}
-use Rattle.table52.specs.declared.lent.Told.TheVariants.{Done, NoCountry, NoZone, Short}
+use Rattle.table52.specs.declared.OffTable.{OffTable}
+use Rattle.table52.specs.declared.lent.NotTold.{NotTold}
+use Rattle.table52.specs.declared.lent.NotTold.TheVariants.{NoEntry, Short}
 
 -- whether a figure is given, and the figure: 1 and a zero are told apart from 0 and a zero
-abbrev pub given_of : Figure → ℤ
-given_of (Given n) = pos 1
-given_of NotGiven = pos 0
+abbrev pub given_of : Option ℤ → ℤ
+given_of (Some n) = pos 1
+given_of None = pos 0
 
-abbrev pub number_of : Figure → ℤ
-number_of (Given n) = n
-number_of NotGiven = pos 0
+abbrev pub number_of : Option ℤ → ℤ
+number_of (Some n) = n
+number_of None = pos 0
 
 abbrev pub mark_of : Bool → ℤ
 mark_of m = cond m (pos 1) (pos 0)
@@ -30,17 +27,15 @@ entry_numbers e =
     ∷ []
 
 -- the refusals of the lookup, and last the lent room too short
-abbrev pub told_of : Lookup → List ℤ → Told
-told_of (found.Found e) room = cond (ltb (length room) (length (entry_numbers e))) Short Done
-told_of found.NoCountry room = NoCountry
-told_of found.NoZone room = NoZone
+abbrev pub told_of : Result Entry OffTable → List ℤ → Result (Unit {0}) NotTold
+told_of (Ok e) room = cond (ltb (length room) (length (entry_numbers e))) (Err Short) (Ok tt)
+told_of (Err off) room = Err (NoEntry off)
 
 -- the room with an entry's numbers at the front; later elements keep their values
 abbrev pub with_entry : Entry → List ℤ → List ℤ
 with_entry e room = entry_numbers e ++ drop (length (entry_numbers e)) room
 
 -- the room afterwards: the entry at the front, or as it was
-abbrev pub room_after : Lookup → List ℤ → List ℤ
-room_after (found.Found e) room = cond (ltb (length room) (length (entry_numbers e))) room (with_entry e room)
-room_after found.NoCountry room = room
-room_after found.NoZone room = room
+abbrev pub room_after : Result Entry OffTable → List ℤ → List ℤ
+room_after (Ok e) room = cond (ltb (length room) (length (entry_numbers e))) room (with_entry e room)
+room_after (Err off) room = room

@@ -12,23 +12,24 @@ pub const COUNTRIES: u32 = 90;
 
 pub const ZONES: u32 = 6;
 
-#[derive(Clone, Copy)]
-pub enum Lookup {
-    Found(Entry),
-    NoCountry,
-    NoZone,
+// Why there is no entry: the number of the country or of the zone is off the table.
+#[derive(Clone, Copy, Debug, PartialEq, Eq)]
+pub enum OffTable {
+    Country,
+    Zone,
 }
 
 // The table's entry for a country and a zone, each numbered from 0 in the document's order.
-pub fn look_up(country: u32, zone: u32) -> Lookup
+#[tactic(auto, unfolding(crate::specs::Lookup::looked_up))]
+pub fn look_up(country: u32, zone: u32) -> Result<Entry, OffTable>
     ensures { result ≡ looked_up country zone }
 {
     if COUNTRIES <= country {
-        return Lookup::NoCountry;
+        return Err(OffTable::Country);
     }
     if ZONES <= zone {
-        return Lookup::NoZone;
+        return Err(OffTable::Zone);
     }
     let n = (ZONES * country + zone) as usize;
-    Lookup::Found(entry_at(n))
+    Ok(entry_at(n))
 }

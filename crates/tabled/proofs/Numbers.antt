@@ -8,8 +8,7 @@ use lib.ListN.{length, drop}
 use lib.Seq.{sets-eq}
 use Rattle.form.specs.Ruling.{too_short, ruling, on_front}
 use Rattle.form.specs.Verdict.{rules}
-use Rattle.form.specs.declared.Ruling.{Ruling}
-use Rattle.form.specs.declared.Ruling.TheVariants.{Clean, Broken}
+use Rattle.form.specs.Refusals.{Clean, Refused, Ruling}
 use Rattle.form.proofs.Order.{ruled_before, kept-before, too_short_lem, long_enough}
 use Rattle.form.proofs.Meaning.{refused-ruling}
 use Rattle.standing.proofs.Accepted.{accepted-ruling}
@@ -26,10 +25,10 @@ module _ (s room : List ℕ) where
   abbrev Out : Ruling → List ℕ → Type 0
   Out r l = (r ≡ figures_answer s room) × (l ≡ figures_after s room r)
 
-  pub refused_out : (n p : ℕ) → refusal n p ≡ outcome_of s → Out (Broken n p) room
+  pub refused_out : (n p : ℕ) → refusal n p ≡ outcome_of s → Out (Refused n p) room
   refused_out n p e = (sym (ruled_before (rules s) (too_short numbers_room room ∷ []) (refused-ruling s n p (refused_verdict s n p e))), refl)
 
-  pub short_out : (v : Figures) → worked v ≡ outcome_of s → length room < numbers_room → Out (Broken 9 0) room
+  pub short_out : (v : Figures) → worked v ≡ outcome_of s → length room < numbers_room → Out (Refused 9 0) room
   short_out v e l =
       let w = worked_out s v e in
       (sym (kept-before (rules s) (too_short numbers_room room ∷ []) (accepted-ruling s w.counts w.accepted) ∙ too_short_lem numbers_room room l), refl)

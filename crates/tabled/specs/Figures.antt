@@ -1,9 +1,8 @@
 -- The figures from C, as whole numbers of 64 bits, three each (listed/Listed).
-use Rattle.std.specs.Prelude.{ℕ, List, [], ◌∷◌, ◌++◌}
+use Rattle.std.specs.Prelude.{ℕ, List, [], ◌∷◌, ◌++◌, Err}
 use Rattle.form.specs.Ruling.{Rule, too_short, ruling, on_front}
 use Rattle.form.specs.Verdict.{rules}
-use Rattle.form.specs.declared.Ruling.{Ruling}
-use Rattle.form.specs.declared.Ruling.TheVariants.{Clean, Broken}
+use Rattle.form.specs.Refusals.{Clean, Ruling}
 use Rattle.worksheets.specs.Sheets.{by_kind, figures_of}
 use Rattle.listed.specs.Listed.{figure_numbers, numbers_room}
 
@@ -17,7 +16,7 @@ figures_answer s room = ruling (figures_rules s room)
 -- the room afterwards: the numbers at the front and "later elements keep their values"; on a refusal "lent memory is unchanged"
 abbrev pub figures_after : List ℕ → List ℕ → Ruling → List ℕ
 figures_after s room Clean = on_front (figure_numbers (figures_of (by_kind s))) room
-figures_after s room (Broken n p) = room
+figures_after s room (Err r) = room
 
 -- after the call
 abbrev pub figures_told : List ℕ → List ℕ → List ℕ

@@ -1,16 +1,17 @@
 -- The line of a row, read field by field. Assumes nothing.
 --     field_plain     each field that is printed comes back; line-cells: the cells of a row's line are the kind's name and the fields
 --     field-said      and each says its number
-use Prim.Native.Nat.{ℕ, zero, suc, ◌+◌, ◌*◌, ◌/◌, ◌^◌, ◌<◌, ◌≤◌}
-use mathlib.Core.Path.{◌≡◌, refl, sym, ap, ap₂, ◌∙◌}
-use mathlib.Core.Bool.{Bool, true, false, cond, ◌&&◌}
+use Prim.Native.Nat.{ℕ, zero, suc, ◌/◌, ◌^◌, ◌<◌, ◌≤◌}
+use mathlib.Core.Path.{◌≡◌, refl, ap, ◌∙◌}
+use mathlib.Core.Bool.{Bool, true, false, cond}
 use mathlib.Core.List.{List, [], ◌∷◌, ◌++◌}
 use native.Mathlib.Decide.{dec_lt}
 use native.Mathlib.Omega.{arith}
-use borrow.Author.Tests.{eqb-true, eqb-false, eq-eqb, ne_eqb}
+use borrow.Author.Tests.{eqb-true}
 use lib.Dec.{eqb, lit<}
 use lib.ListN.{length, get_or, length-append, get_or-append}
-use lib.Seq.{get_or-append-add, get_or_at}
+use lib.Seq.{get_or_at}
+use Rattle.std.specs.Prelude.{Ok}
 use Rattle.form.specs.Layout.{numbers_of}
 use Rattle.form.specs.Records.{unit_code}
 use Rattle.form.proofs.Tests.{and-true}
@@ -18,17 +19,13 @@ use Rattle.decimal.specs.Digits.{decimal, padded}
 use Rattle.phrases.specs.Ascii.{codes}
 use Rattle.cells.specs.Cells.{cell_at, found_in, small, same_word}
 use Rattle.cells.proofs.FieldLaws.{Plain, AllPlain, cells-joined, found_joined}
-use Rattle.numerals.specs.Numerals.{read_number}
-use Rattle.numerals.specs.declared.Numeral.TheVariants.{Units}
 use Rattle.numerals.specs.Written.{pointed, printed}
 use Rattle.numerals.proofs.Amounts.{decimal-digits, decimal_some, padded-digits}
 use Rattle.numerals.proofs.Meaning.{reads_back}
 use Rattle.naming.specs.Names.{kind_name}
 use Rattle.columns.specs.Columns.{decimals_of, is_unit}
 use Rattle.columns.proofs.ColumnLaws.{by_unit}
-use Rattle.rowtext.specs.Said.{comma_marks, number_said, unit_said, cell_said, unit_in, number_in, said_at}
-use Rattle.rowtext.specs.declared.Said.{Said}
-use Rattle.rowtext.specs.declared.Said.TheVariants.{Number}
+use Rattle.rowtext.specs.Said.{number_said, unit_said, cell_said, unit_in, number_in, said_at}
 use Rattle.unpacked.specs.Unpacked.{unit_word, field_text, field_texts, row_line}
 use Rattle.textrips.proofs.Neat.{neat, is_neat, neat_append, neat-digits, neat-plain}
 
@@ -98,7 +95,7 @@ text_at kind r (suc n) i h = by (dec_lt i n) (text_at kind r n i)
 
 -- ---- what a field says, by what it is
 
-word-said : (code : ℕ) → code ≤ 1 → unit_said (unit_word code) ≡ Number code
+word-said : (code : ℕ) → code ≤ 1 → unit_said (unit_word code) ≡ Ok code
 unfolding unit_said unit_word same_word small
 word-said zero l = refl
 word-said (suc zero) l = refl
@@ -113,7 +110,7 @@ which_unit : (kind i : ℕ) → is_unit kind i ≡ true → (kind ≡ 2) × (i �
 unfolding is_unit
 which_unit kind i e = let p = and-true (eqb kind 2) (eqb i 1) e in (eqb-true kind 2 p.0, eqb-true i 1 p.1)
 
-said-unit : (kind : ℕ) (r : List ℕ) (u i : ℕ) → is_unit kind i ≡ true → (kind ≡ 2 → get_or r 1 0 ≤ 1) → cell_said 44 kind u i (field_text kind r i) ≡ Number (get_or r i 0)
+said-unit : (kind : ℕ) (r : List ℕ) (u i : ℕ) → is_unit kind i ≡ true → (kind ≡ 2 → get_or r 1 0 ≤ 1) → cell_said 44 kind u i (field_text kind r i) ≡ Ok (get_or r i 0)
 unfolding cell_said
 said-unit kind r u i e unit =
     let w = which_unit kind i e in
@@ -121,7 +118,7 @@ said-unit kind r u i e unit =
     rw (e, unit-field kind r i e) (word-said (get_or r i 0) l)
 
 said-number : (kind : ℕ) (r : List ℕ) (u i : ℕ) → is_unit kind i ≡ false → decimals_of kind u i ≡ decimals_of kind (unit_code r) i → get_or r i 0 ≤ 4294967295
-    → cell_said 44 kind u i (field_text kind r i) ≡ Number (get_or r i 0)
+    → cell_said 44 kind u i (field_text kind r i) ≡ Ok (get_or r i 0)
 unfolding cell_said field_text
 said-number kind r u i e d l = rw (e, d) (ap number_said (reads_back false (decimals_of kind (unit_code r) i) (get_or r i 0) l))
 
@@ -148,10 +145,10 @@ module _ (kind : ℕ) (r : List ℕ) (named : Plain 44 (kind_name kind)) where
         let t : is_unit kind 1 ≡ true = rw two refl in
         ap (λ (x : List ℕ). number_in (unit_said x)) (c ∙ unit-field kind r 1 t) ∙ ap number_in (word-said (get_or r 1 0) (unit two))
 
-    pub field-said : (i : ℕ) → i < numbers_of kind → said_at 44 kind (row_line kind r) i ≡ Number (get_or r i 0)
+    pub field-said : (i : ℕ) → i < numbers_of kind → said_at 44 kind (row_line kind r) i ≡ Ok (get_or r i 0)
     field-said i h = ap (cell_said 44 kind (unit_in 44 (row_line kind r)) i) (field-cell i h) ∙ by (is_unit kind i) refl
       where
-        by : (t : Bool) → is_unit kind i ≡ t → cell_said 44 kind (unit_in 44 (row_line kind r)) i (field_text kind r i) ≡ Number (get_or r i 0)
+        by : (t : Bool) → is_unit kind i ≡ t → cell_said 44 kind (unit_in 44 (row_line kind r)) i (field_text kind r i) ≡ Ok (get_or r i 0)
         by true e = said-unit kind r (unit_in 44 (row_line kind r)) i e unit
         by false e =
             said-number kind r (unit_in 44 (row_line kind r)) i e (by_unit kind (unit_in 44 (row_line kind r)) (unit_code r) i (λ two l. unit_there two)) (few i)

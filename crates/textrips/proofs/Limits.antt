@@ -2,7 +2,7 @@
 --     row_within      each row of each list, by rule 6
 --     number_small    so each number is below 2^32; unit-known: a stock row's unit is land or trees
 use Prim.Native.Nat.{ℕ, zero, suc, ◌+◌, ◌*◌, ◌<◌, ◌≤◌}
-use mathlib.Core.Path.{◌≡◌, refl, sym, ap, ◌∙◌}
+use mathlib.Core.Path.{◌≡◌, refl, ◌∙◌}
 use mathlib.Core.Bool.{Bool, true, false, ◌&&◌}
 use mathlib.Core.List.{List, [], ◌∷◌}
 use native.Mathlib.Nat.{zero-add}
@@ -12,14 +12,13 @@ use borrow.Author.Tests.{lt-ltb, leb-true}
 use lib.Dec.{leb, lit<}
 use lib.ListN.{length, get_or, get_or-eq_default}
 use Rattle.form.specs.Layout.{Layout, kinds, layout, numbers_of, field, above_limit}
-use Rattle.form.specs.Records.{field_above, broken_by}
+use Rattle.form.specs.Records.{broken_by}
 use Rattle.form.proofs.Order.{Kept, kept_of}
 use Rattle.form.proofs.Tests.{and_rest, and-true}
 use Rattle.form.proofs.EachKind.{each_layout}
 use Rattle.standing.proofs.Accepted.{limit_of}
 use Rattle.filing.specs.Lists.{Lists, of_kind, rows_in, row_of, filed_list, filed_lists}
-use Rattle.filing.proofs.Alike.{Alike}
-use Rattle.trips.proofs.Shape.{start_of, blocks_at, start_next, start_mono, list_at}
+use Rattle.trips.proofs.Shape.{start_of, start_next, start_mono, list_at}
 use Rattle.trips.proofs.Standing.{Clear, places-blocks}
 
 module _ (e : ℕ) (l : Lists) (ok : Clear e l) (k i : ℕ) (h : k < kinds) (there : i < rows_in (suc k) (length (of_kind l (suc k)))) where

@@ -4,22 +4,21 @@
 --     lists-read      the lines of all kinds
 use Prim.Native.Nat.{ℕ, zero, suc, ◌+◌, ◌-◌, ◌*◌, ◌<◌, ◌≤◌}
 use mathlib.Core.Path.{◌≡◌, refl, sym, ap, ap₂, subst, ◌∙◌}
-use mathlib.Core.Bool.{Bool, true, false, cond, not}
+use mathlib.Core.Bool.{true, false}
 use mathlib.Core.List.{List, [], ◌∷◌, ◌++◌, flatten, map, append_assoc, append-nil}
 use native.Mathlib.Nat.{add-zero, mul-suc, mul-zero}
 use native.Mathlib.Omega.{arith}
 use borrow.Author.Tests.{le-ltb, lt-leb, ne_eqb, eq-eqb}
-use lib.Dec.{ltb, leb, eqb}
+use lib.Dec.{eqb}
 use lib.ListN.{length, get_or, take, drop, replicate, length-append, length-drop}
-use lib.Seq.{sets, take-add, length-take-le, take_all, set_at, get_or_at}
+use lib.Seq.{take-add, length-take-le, take_all, set_at, get_or_at}
+use Rattle.std.specs.Prelude.{Ok}
 use Rattle.form.specs.Layout.{numbers_of}
 use Rattle.filing.specs.Lists.{Lists, rows_in, row_of}
 use Rattle.cells.specs.Cells.{cell_at, found_in, same_word}
 use Rattle.rowtext.specs.Said.{numbers_said, row_said}
-use Rattle.rowtext.specs.declared.RowSaid.TheVariants as Row
 use Rattle.heads.specs.Heads.{is_passed, edition_word}
-use Rattle.texts.specs.declared.Check.TheVariants as C
-use Rattle.texts.specs.Texts.{TextRead, rows, Sofar, kind_in, count_of, checked_kind, checked, with_row, unless_fault, after_line, rows_from}
+use Rattle.texts.specs.Texts.{TextRead, rows, Sofar, kind_in, count_of, checked_kind, checked, with_row, after_line, rows_from}
 use Rattle.unpacked.specs.Unpacked.{row_line, note_line, row_lines_to, kind_lines, lists_lines}
 
 -- ---- a row
@@ -30,25 +29,25 @@ pub record Back (kind : ℕ) (r : List ℕ) : Type 0 where
   pub known : 0 < kind
   pub named : kind_in 44 (row_line kind r) ≡ kind
   pub fields : found_in 44 (row_line kind r) ≡ numbers_of kind
-  pub whole : row_said 44 kind (row_line kind r) ≡ Row.Whole
+  pub whole : row_said 44 kind (row_line kind r) ≡ Ok tt
   pub numbers : numbers_said 44 kind (row_line kind r) ≡ r
 
 -- a line that names a kind not below the one before, of which there are not yet 32 rows
 kindly : (sep kind : ℕ) (st : Sofar) (n : ℕ) (l : List ℕ) → st.kind ≤ kind → count_of st kind < 32 → found_in sep l ≡ numbers_of kind
-    → row_said sep kind l ≡ Row.Whole → checked_kind sep kind st n l ≡ C.Row kind
+    → row_said sep kind l ≡ Ok tt → checked_kind sep kind st n l ≡ Ok kind
 unfolding checked_kind
 kindly sep kind st n l a b c d =
     rw (le-ltb kind st.kind a, lt-leb 32 (count_of st kind) b, eq-eqb (found_in sep l) (numbers_of kind) c, d)
 
 checked_is : (sep kind : ℕ) (st : Sofar) (n : ℕ) (l : List ℕ) → same_word edition_word (cell_at sep 0 l) ≡ false → kind_in sep l ≡ kind → 0 < kind
-    → checked_kind sep kind st n l ≡ C.Row kind → checked sep st n l ≡ C.Row kind
+    → checked_kind sep kind st n l ≡ Ok kind → checked sep st n l ≡ Ok kind
 unfolding checked
 checked_is sep kind st n l a e h c =
     let z : eqb kind 0 ≡ false = ne_eqb kind 0 (λ q. absurd (omega arith)) in
     rw (a, e, z) c
 
 -- a line that counts and is a row
-step : (e sep n : ℕ) (st : Sofar) (l : List ℕ) (ls : List (List ℕ)) (kind : ℕ) → is_passed sep l ≡ false → checked sep st (suc n) l ≡ C.Row kind
+step : (e sep n : ℕ) (st : Sofar) (l : List ℕ) (ls : List (List ℕ)) (kind : ℕ) → is_passed sep l ≡ false → checked sep st (suc n) l ≡ Ok kind
     → rows_from e sep n st (l ∷ ls) ≡ rows_from e sep (suc n) (after_line sep st l) ls
 unfolding rows_from
 step e sep n st l ls kind p c = rw (p, c)

@@ -1,17 +1,17 @@
 -- Texts of neat bytes: no blank, no separator, no quote, no `#` and no line end. What `unpack` prints between commas is neat, so it is read as it was printed. Assumes nothing.
 --     neat_append     two neat texts one behind the other; neat-digits: digits are neat
 --     neat-plain      a neat text is a field that comes back; neat-whole: and has no line end
-use Prim.Native.Nat.{ℕ, zero, suc, ◌+◌, ◌<◌, ◌≤◌}
+use Prim.Native.Nat.{ℕ, ◌<◌, ◌≤◌}
 use mathlib.Core.Path.{◌≡◌, refl, sym, ap, ap₂, ◌∙◌}
-use mathlib.Core.Bool.{Bool, true, false, cond, not, ◌&&◌, ◌||◌}
+use mathlib.Core.Bool.{Bool, true, false, cond, not, ◌&&◌}
 use mathlib.Core.List.{List, [], ◌∷◌, ◌++◌}
 use native.Mathlib.Omega.{arith}
-use borrow.Author.Tests.{leb-true, ltb-true, lt-ltb, le-leb, ne_eqb, eqb-false, not-true}
+use borrow.Author.Tests.{leb-true, ltb-true, lt-ltb, ne_eqb, not-true}
 use lib.Dec.{ltb, leb, eqb}
-use lib.ListN.{length, get_or}
+use lib.ListN.{length}
 use Rattle.form.proofs.Tests.{and-true}
 use Rattle.cells.specs.Lines.{has, last_of}
-use Rattle.cells.specs.Cells.{blank_in, cleaned, is_filler}
+use Rattle.cells.specs.Cells.{blank_in, is_filler}
 use Rattle.cells.proofs.Cleaning.{clean-kept}
 use Rattle.cells.proofs.FieldLaws.{Plain}
 use Rattle.numerals.specs.Numerals.{is_digit, digits_in, AllDigits}

@@ -6,17 +6,16 @@ use Prim.Native.Nat.{ℕ, ◌<◌, ◌≤◌}
 use mathlib.Core.Path.{◌≡◌, refl, sym, ap, subst, ◌∙◌}
 use mathlib.Core.List.{List, [], ◌∷◌}
 use native.Mathlib.Omega.{arith}
-use lib.ListN.{length, get_or, take}
-use lib.Seq.{take_at}
+use lib.ListN.{length}
+use Rattle.std.specs.Prelude.{Ok}
 use Rattle.form.specs.Bytes.{byte_at}
 use Rattle.form.specs.Layout.{kinds}
 use Rattle.form.specs.Ruling.{ruling, on_front}
 use Rattle.form.specs.Block.{edition}
 use Rattle.form.specs.Verdict.{counts_of, verdict_of}
 use Rattle.form.specs.declared.Counts.{Counts}
-use Rattle.form.specs.declared.Ruling.{Ruling}
-use Rattle.form.specs.declared.Ruling.TheVariants.{Clean, Broken}
-use Rattle.form.specs.declared.Verdict.TheVariants.{Accepted}
+use Rattle.form.specs.Refusals.{Clean, Ruling}
+use Rattle.std.specs.Prelude.{Ok, Err}
 use Rattle.form.proofs.Order.{kept-before, long_enough, append_kept, ruling-clean, clean-ruling}
 use Rattle.standing.proofs.Accepted.{formed, formed_counts}
 use Rattle.filing.specs.Lists.{Lists, cut}
@@ -24,7 +23,6 @@ use Rattle.filing.proofs.Cut.{cut-flat}
 use Rattle.lists.specs.Rules.{list_rules}
 use Rattle.rows.specs.Reading.{area_to, row_lists, lengths_of}
 use Rattle.rows.specs.Writing.{written, room_rule, written_by, write_answer}
-use Rattle.rows.specs.declared.Written.TheVariants.{Done}
 use Rattle.trips.proofs.RoundTrips.{area_is, accepted_again, clean_again, bytes_again, edition_again}
 use Rattle.trips.proofs.WriteBack.{lengths_are}
 use Rattle.trips.proofs.ReadBack.{rows_back}
@@ -34,14 +32,12 @@ use Rattle.handed.proofs.Calls.{write_called}
 use Rattle.texts.specs.Texts.{TextRead, rows, faulty, text_read}
 use Rattle.unpacked.specs.Unpacked.{lists_text, unpacked_text}
 use Rattle.packing.specs.Packing.{pack_call, packed_by, of_ruling, bytes_packed, size_packed}
-use Rattle.packing.specs.declared.Packing.{Packing}
-use Rattle.packing.specs.declared.Packing.TheVariants.{Packed, Faulty, Refused}
 use Rattle.unpacked.specs.Rooms.{unpack_room}
 use Rattle.textrips.proofs.ReadBack.{lists-room, text_back}
 
 -- a text packs to a return, in these rooms: the return stands at the front of the one, and its number of bytes of the other; later elements keep their values
 pub record Packs (text s room size : List ℕ) : Type 0 where
-  pub answered : pack_call text room size ≡ Packed
+  pub answered : pack_call text room size ≡ Ok tt
   pub bytes : bytes_packed text room size ≡ on_front s room
   pub sized : size_packed text room size ≡ on_front (length s ∷ []) size
 
@@ -51,7 +47,7 @@ written-clean : (e : ℕ) (lengths area room size : List ℕ) → ruling (list_r
 unfolding write_answer
 written-clean e lengths area room size clean long one =
     let n = length (written e (cut lengths area)) in
-    let done : write_answer e lengths area room ≡ Done n =
+    let done : write_answer e lengths area room ≡ Ok n =
     ap (written_by e (cut lengths area)) (kept-before (list_rules e lengths area) (room_rule e (cut lengths area) room ∷ []) clean ∙ long_enough n room long) in
     write_called e area lengths room size n done one
 
@@ -62,7 +58,7 @@ packs text e lengths area said clean room size long one =
     record { answered = rw (said, w) refl; bytes = rw (said, w) refl; sized = rw (said, w) refl }
 
 -- an accepted return
-module _ (s : List ℕ) (c : Counts) (accepted : verdict_of s ≡ Accepted c) where
+module _ (s : List ℕ) (c : Counts) (accepted : verdict_of s ≡ Ok c) where
   told : edition s 0 ≡ c.edition
   told = sym (ap (λ (x : Counts). x.edition) (formed_counts s c (formed s c accepted)))
 
@@ -91,15 +87,15 @@ pub record Says (text room size : List ℕ) : Type 0 where
   pub said : text_read text ≡ rows edition-said lengths area
   pub called : write_call edition-said area lengths room size ≡ Clean
 
-was_clean : (v : Ruling) → of_ruling v ≡ Packed → v ≡ Clean
+was_clean : (v : Ruling) → of_ruling v ≡ Ok tt → v ≡ Clean
 was_clean Clean e = refl
-was_clean (Broken n p) e = let z : ◌≡◌ {A = ℕ} 0 1 = cc in absurd (omega arith)
+was_clean (Err r) e = let z : ◌≡◌ {A = ℕ} 0 1 = cc in absurd (omega arith)
 
-says_by : (text room size : List ℕ) (t : TextRead) → text_read text ≡ t → packed_by t room size ≡ Packed → Says text room size
+says_by : (text room size : List ℕ) (t : TextRead) → text_read text ≡ t → packed_by t room size ≡ Ok tt → Says text room size
 says_by text room size (rows e lengths area) q p = record { edition-said = e; lengths = lengths; area = area; said = q; called = was_clean (write_call e area lengths room size) p }
 says_by text room size (faulty f) q p = let z : ◌≡◌ {A = ℕ} 0 1 = cc in absurd (omega arith)
 
-pub packed_says : (text room size : List ℕ) → pack_call text room size ≡ Packed → Says text room size
+pub packed_says : (text room size : List ℕ) → pack_call text room size ≡ Ok tt → Says text room size
 packed_says text room size p = says_by text room size (text_read text) refl p
 
 module _ (text room size : List ℕ) (w : Says text room size) where
@@ -112,7 +108,7 @@ module _ (text room size : List ℕ) (w : Says text room size) where
   its_return = written w.edition-said (cut w.lengths w.area)
 
   -- which is accepted, and which the rooms hold
-  pub return-accepted : verdict_of its_return ≡ Accepted (counts_of its_return)
+  pub return-accepted : verdict_of its_return ≡ Ok (counts_of its_return)
   unfolding its_return
   return-accepted = accepted_again w.edition-said w.lengths w.area clean-rows
 
@@ -136,7 +132,7 @@ module _ (text room size : List ℕ) (w : Says text room size) where
       (ap text_read text_is ∙ text_back w.edition-said w.lengths w.area clean-rows) clean-rows room' size' long one
 
 -- ---- the room that is named for the text of a return
-pub unpacked_fits : (s : List ℕ) (c : Counts) → verdict_of s ≡ Accepted c → length (unpacked_text s) ≤ unpack_room
+pub unpacked_fits : (s : List ℕ) (c : Counts) → verdict_of s ≡ Ok c → length (unpacked_text s) ≤ unpack_room
 unpacked_fits s c accepted =
     let l = cut (lengths_of c) (area_to s kinds) in
     let short = lists-room c.edition l (clear c.edition (lengths_of c) (area_to s kinds) (clean_again s c accepted)) in

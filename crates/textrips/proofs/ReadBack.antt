@@ -1,7 +1,7 @@
 -- THE TEXT OF ROWS READS BACK AS THE ROWS, of all rows that can be written. Assumes nothing.
 --     text_back       the text that `unpack` prints of rows says their edition, their lengths and their numbers
 use Prim.Native.Nat.{ℕ, zero, suc, ◌+◌, ◌*◌, ◌/◌, ◌%◌, ◌<◌, ◌≤◌}
-use mathlib.Core.Path.{◌≡◌, refl, sym, ap, ap₂, subst, ◌∙◌}
+use mathlib.Core.Path.{◌≡◌, sym, ap, ap₂, subst, ◌∙◌}
 use mathlib.Core.Bool.{Bool, true, false, cond}
 use mathlib.Core.List.{List, [], ◌∷◌, ◌++◌, flatten, map}
 use native.Mathlib.Nat.{div-add-mod}
@@ -11,16 +11,15 @@ use lib.Dec.{eqb}
 use lib.ListN.{length, get_or}
 use Rattle.form.specs.Ruling.{ruling}
 use Rattle.form.specs.Layout.{kinds, layout, numbers_of, above_limit}
-use Rattle.form.specs.declared.Ruling.TheVariants.{Clean}
+use Rattle.form.specs.Refusals.{Clean}
 use Rattle.form.proofs.EachKind.{small-edition}
 use Rattle.decimal.specs.Digits.{decimal}
 use Rattle.cells.specs.Lines.{ended, text_lines, lines_of}
 use Rattle.cells.proofs.LineLaws.{AllWhole, lines-ended}
 use Rattle.cells.proofs.WordLaws.{no_mark_by}
-use Rattle.cells.proofs.FieldLaws.{Plain}
 use Rattle.numerals.proofs.Amounts.{decimal-digits, decimal_some}
 use Rattle.filing.specs.Lists.{Lists, of_kind, cut, rows_in, row_of}
-use Rattle.filing.proofs.Cut.{cut-length, cut-lengths, flat-cut}
+use Rattle.filing.proofs.Cut.{cut-lengths, flat-cut}
 use Rattle.lists.specs.Rules.{list_rules}
 use Rattle.trips.proofs.Standing.{Clear, clear, kept-lists}
 use Rattle.trips.proofs.Fitting.{length-row_of}
@@ -29,7 +28,7 @@ use Rattle.unpacked.specs.Unpacked.{row_lines_to, kind_lines, lists_lines, note_
 use Rattle.unpacked.specs.Rooms.{unpack_room}
 use Rattle.textrips.proofs.Neat.{neat-digits, neat-plain}
 use Rattle.textrips.proofs.Limits.{row_within, number_small, unit-known}
-use Rattle.textrips.proofs.Lines.{Back, Readable, Each, each_of}
+use Rattle.textrips.proofs.Lines.{Readable, Each, each_of}
 use Rattle.textrips.proofs.Rows.{row_back, note-passed, row-whole, note-whole, head-whole}
 use Rattle.textrips.proofs.Lengths.{Fitting, text-room}
 use Rattle.textrips.proofs.Heads.{text_reads}

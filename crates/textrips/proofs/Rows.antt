@@ -1,21 +1,20 @@
 -- The lines that `unpack` prints, read one by one. Assumes nothing.
 --     row_back        a row whose numbers fit is read from its line; note-passed: a kind's note is passed over
 --     row-whole, note-whole, head-whole    none of them has a line end in it
-use Prim.Native.Nat.{ℕ, zero, suc, ◌+◌, ◌<◌, ◌≤◌}
-use mathlib.Core.Path.{◌≡◌, refl, sym, ap, ap₂, ◌∙◌}
-use mathlib.Core.Bool.{Bool, true, false, cond, ◌&&◌, ◌||◌}
+use Prim.Native.Nat.{ℕ, zero, suc, ◌<◌, ◌≤◌}
+use mathlib.Core.Path.{◌≡◌, refl, ap, ◌∙◌}
+use mathlib.Core.Bool.{Bool, true, false, ◌&&◌}
 use mathlib.Core.List.{List, [], ◌∷◌, ◌++◌}
 use native.Mathlib.Omega.{arith}
 use borrow.Author.Tests.{ne_eqb, eqb-false}
 use lib.Dec.{eqb}
 use lib.ListN.{length, get_or}
 use Rattle.form.specs.Layout.{kinds, numbers_of}
-use Rattle.form.specs.Records.{unit_code}
 use Rattle.form.proofs.Tests.{or_none}
 use Rattle.decimal.specs.Digits.{decimal}
 use Rattle.phrases.specs.Ascii.{codes}
 use Rattle.cells.specs.Lines.{has, last_of}
-use Rattle.cells.specs.Cells.{cell_at, blank_in, front_off, is_filler, is_empty_line, begins_note, is_empty, small, same_word, joined}
+use Rattle.cells.specs.Cells.{blank_in, front_off, is_filler, is_empty_line, begins_note, small, same_word, joined}
 use Rattle.cells.proofs.FieldLaws.{Plain}
 use Rattle.cells.proofs.LineLaws.{Whole}
 use Rattle.numerals.proofs.Amounts.{decimal-digits, decimal_some}
@@ -23,7 +22,6 @@ use Rattle.naming.specs.Names.{kind_name}
 use Rattle.columns.specs.Columns.{kind_named, named_from, columns_of}
 use Rattle.rowtext.proofs.Laws.{says-whole}
 use Rattle.heads.specs.Heads.{is_passed, edition_word}
-use Rattle.texts.specs.Texts.{kind_in}
 use Rattle.unpacked.specs.Unpacked.{field_text, field_texts, row_line, heading, headings, note_line, edition_line}
 use Rattle.textrips.proofs.Neat.{is_neat, neat, neat-digits, neat-plain, no_filler, no_note, no_byte}
 use Rattle.textrips.proofs.Fields.{Clean, field-clean, name-cell, fields_found, field-said}

@@ -11,17 +11,16 @@ use native.Mathlib.Omega.{arith}
 use lib.ListN.{length, take, get_or}
 use lib.Seq.{sets, length-sets, length-take-le}
 use borrow.Author.Tests.{eq-eqb, ne_eqb, lt-ltb, le-ltb, le-leb, lt-leb}
+use Rattle.std.specs.Prelude.{Result, Ok, Err}
 use Rattle.form.specs.Layout.{kinds, numbers_of}
 use Rattle.form.proofs.Tests.{taken, left}
 use Rattle.cells.specs.Cells.{cell_at, found_in, same_word}
 use Rattle.rowtext.specs.Said.{first_numbers, numbers_said, row_said, stored_of}
-use Rattle.rowtext.specs.declared.RowSaid.{RowSaid}
-use Rattle.rowtext.specs.declared.RowSaid.TheVariants as Row
+use Rattle.rowtext.specs.declared.RowFault.{RowFault}
 use Rattle.rowtext.proofs.Laws.{first-length}
-use Rattle.heads.specs.Heads.{is_passed, fault, fields_fault, cell_fault, edition_word}
+use Rattle.heads.specs.Heads.{is_passed, fault, edition_word}
+use Rattle.heads.specs.declared.Fault.TheVariants as F
 use Rattle.heads.specs.declared.TextFault.{TextFault}
-use Rattle.texts.specs.declared.Check.{Check}
-use Rattle.texts.specs.declared.Check.TheVariants as C
 use Rattle.texts.specs.declared.Kept.{Kept}
 use Rattle.texts.specs.Texts.{Sofar, kind_in, count_of, checked_row, checked_kind, checked, with_row, after_line}
 use Rattle.texts.specs.Steps.{onward, stopped, step_by, line_step, kept_as, counted_as, Stored, Ready, RoomFor}
@@ -30,28 +29,28 @@ use Rattle.texts.proofs.Rows.{RowLine, row-said, sound-fits, sound-room, length-
 
 -- ---- its fields
 
-module _ (sep kind n used : ℕ) (l a a' : List ℕ) {r : RowSaid} (q : r ≡ row_said sep kind l) (w : a' ≡ sets a used (first_numbers sep kind l (stored_of kind r))) where
-  pub row_read : r ≡ Row.Whole → (C.Row kind ≡ checked_row n kind (row_said sep kind l)) × (a' ≡ sets a used (numbers_said sep kind l))
-  row_read e = (ap (checked_row n kind) (sym e ∙ q), w ∙ ap (λ (x : RowSaid). sets a used (first_numbers sep kind l (stored_of kind x))) e)
+module _ (sep kind n used : ℕ) (l a a' : List ℕ) {r : Result (Unit {0}) RowFault} (q : r ≡ row_said sep kind l) (w : a' ≡ sets a used (first_numbers sep kind l (stored_of kind r))) where
+  pub row_read : r ≡ Ok tt → (Ok kind ≡ checked_row n kind (row_said sep kind l)) × (a' ≡ sets a used (numbers_said sep kind l))
+  row_read e = (ap (checked_row n kind) (sym e ∙ q), w ∙ ap (λ (x : Result (Unit {0}) RowFault). sets a used (first_numbers sep kind l (stored_of kind x))) e)
 
-  pub cell_wrong : {f i : ℕ} → r ≡ Row.Fault f i → {x : TextFault} → x ≡ cell_fault n f kind i
-      → (C.Fault x ≡ checked_row n kind (row_said sep kind l)) × (length a' ≡ length a)
-  cell_wrong e t = (ap C.Fault t ∙ ap (checked_row n kind) (sym e ∙ q), ap length w ∙ length-sets a used (first_numbers sep kind l (stored_of kind r)))
+  pub cell_wrong : {f : RowFault} → r ≡ Err f
+      → (Err (fault n (F.Cell kind f.field f.fault)) ≡ checked_row n kind (row_said sep kind l)) × (length a' ≡ length a)
+  cell_wrong e = (ap (checked_row n kind) (sym e ∙ q), ap length w ∙ length-sets a used (first_numbers sep kind l (stored_of kind r)))
 
 -- ---- of a kind
 
-module _ (sep kind n : ℕ) (st : Sofar) (l : List ℕ) {r : Check} where
-  pub below : kind < st.kind → r ≡ C.Fault (fault n 4) → r ≡ checked_kind sep kind st n l
+module _ (sep kind n : ℕ) (st : Sofar) (l : List ℕ) {r : Result ℕ TextFault} where
+  pub below : kind < st.kind → r ≡ Err (fault n F.Order) → r ≡ checked_kind sep kind st n l
   unfolding checked_kind
   below h q = taken _ (lt-ltb kind st.kind h) q
 
   module _ (o : st.kind ≤ kind) where
-    pub too_many : 32 ≤ count_of st kind → r ≡ C.Fault (fault n 5) → r ≡ checked_kind sep kind st n l
+    pub too_many : 32 ≤ count_of st kind → r ≡ Err (fault n F.Rows) → r ≡ checked_kind sep kind st n l
     unfolding checked_kind
     too_many h q = left _ (le-ltb kind st.kind o) (taken _ (le-leb 32 (count_of st kind) h) q)
 
     module _ (f : count_of st kind < 32) where
-      pub other_fields : (found_in sep l ≡ numbers_of kind → ⊥) → r ≡ C.Fault (fields_fault n (numbers_of kind) (found_in sep l)) → r ≡ checked_kind sep kind st n l
+      pub other_fields : (found_in sep l ≡ numbers_of kind → ⊥) → r ≡ Err (fault n (F.Fields (numbers_of kind) (found_in sep l))) → r ≡ checked_kind sep kind st n l
       unfolding checked_kind
       other_fields h q =
           left _ (le-ltb kind st.kind o) (left _ (lt-leb 32 (count_of st kind) f) (taken _ (ap not (ne_eqb (found_in sep l) (numbers_of kind) h)) q))
@@ -63,13 +62,13 @@ module _ (sep kind n : ℕ) (st : Sofar) (l : List ℕ) {r : Check} where
 
 -- ---- of any line that counts
 
-module _ (sep n : ℕ) (st : Sofar) (l : List ℕ) {r : Check} where
-  pub said-edition : same_word edition_word (cell_at sep 0 l) ≡ true → r ≡ C.Fault (fault n 2) → r ≡ checked sep st n l
+module _ (sep n : ℕ) (st : Sofar) (l : List ℕ) {r : Result ℕ TextFault} where
+  pub said-edition : same_word edition_word (cell_at sep 0 l) ≡ true → r ≡ Err (fault n F.Edition) → r ≡ checked sep st n l
   unfolding checked
   said-edition h q = taken _ h q
 
   module _ (e : same_word edition_word (cell_at sep 0 l) ≡ false) {kind : ℕ} (k : kind ≡ kind_in sep l) where
-    pub no_kind : kind ≡ 0 → r ≡ C.Fault (fault n 3) → r ≡ checked sep st n l
+    pub no_kind : kind ≡ 0 → r ≡ Err (fault n F.Kind) → r ≡ checked sep st n l
     unfolding checked
     no_kind h q = left _ e (taken _ (eq-eqb (kind_in sep l) 0 (sym k ∙ h)) q)
 
@@ -89,20 +88,20 @@ module _ (sep n : ℕ) (l : List ℕ) (k : Kept) (ls a : List ℕ) where
   unfolding line_step
   line-passed h = taken _ h refl
 
-  module _ (h : is_passed sep l ≡ false) {c : Check} (q : c ≡ checked sep (counted_as k) n l) where
+  module _ (h : is_passed sep l ≡ false) {c : Result ℕ TextFault} (q : c ≡ checked sep (counted_as k) n l) where
     -- the tests of a line ask for no more than the kind and the count
     as_kept : c ≡ checked sep (kept_as k ls a) n l
     unfolding checked checked_kind
     as_kept = q
 
-    pub line-fault : {f : TextFault} → c ≡ C.Fault f → stopped f ≡ line_step sep (kept_as k ls a) n l
+    pub line-fault : {f : TextFault} → c ≡ Err f → stopped f ≡ line_step sep (kept_as k ls a) n l
     unfolding line_step
-    line-fault e = left _ h (ap (λ (x : Check). step_by x (after_line sep (kept_as k ls a) l)) (sym e ∙ as_kept))
+    line-fault e = left _ h (ap (λ (x : Result ℕ TextFault). step_by x (after_line sep (kept_as k ls a) l)) (sym e ∙ as_kept))
 
-    pub fault_same : {f : TextFault} → c ≡ C.Fault f → (a' : List ℕ) → Stored sep k.used l a a' c → length a' ≡ length a
-    fault_same e a' w = subst (λ (x : Check). Stored sep k.used l a a' x) e w
+    pub fault_same : {f : TextFault} → c ≡ Err f → (a' : List ℕ) → Stored sep k.used l a a' c → length a' ≡ length a
+    fault_same e a' w = subst (λ (x : Result ℕ TextFault). Stored sep k.used l a a' x) e w
 
-    module _ {kind : ℕ} (e : c ≡ C.Row kind) where
+    module _ {kind : ℕ} (e : c ≡ Ok kind) where
       row_line : (kind ≡ kind_in sep l) × RowLine sep (kept_as k ls a) l
       row_line = row-said sep (kept_as k ls a) n l (sym as_kept ∙ e)
 
@@ -141,7 +140,7 @@ module _ (sep n : ℕ) (l : List ℕ) (k : Kept) (ls a : List ℕ) where
           many = first-length sep kind l (numbers_of kind)
 
           stored : a' ≡ sets a k.used numbers
-          stored = subst (λ (x : Check). Stored sep k.used l a a' x) e w
+          stored = subst (λ (x : Result ℕ TextFault). Stored sep k.used l a a' x) e w
 
           abbrev after : Sofar
           after = with_row kind (kept_as k ls a) numbers
@@ -159,7 +158,7 @@ module _ (sep n : ℕ) (l : List ℕ) (k : Kept) (ls a : List ℕ) where
           line_row =
               left _ h
               (ap onward (kept-after ∙ ap (λ (x : ℕ). with_row x (kept_as k ls a) (numbers_said sep x l)) row_line.0)
-              ∙ ap (λ (x : Check). step_by x (after_line sep (kept_as k ls a) l)) (sym e ∙ as_kept))
+              ∙ ap (λ (x : Result ℕ TextFault). step_by x (after_line sep (kept_as k ls a) l)) (sym e ∙ as_kept))
 
           pub row_inside : k'.used ≤ length a'
           row_inside = omega (arith, ap (λ (x : Kept). x.used) p, ap length stored, length-sets a k.used numbers, row_room)

@@ -9,11 +9,13 @@ use native.Mathlib.Omega.{arith}
 use native.Mathlib.Nat.{mul-mod_right, div-le_of_le-mul, mul-le-mul_left}
 use lib.Dec.{eqb, ltb}
 use lib.ListN.{length, get_or}
+use Rattle.std.specs.Prelude.{Result, Ok, Err}
 use Rattle.form.specs.Layout.{kinds, numbers_of}
 use Rattle.filing.specs.Lists.{total, rows_in}
 use Rattle.cells.specs.Lines.{text_lines}
+use Rattle.heads.specs.declared.Fault.TheVariants as F
+use Rattle.heads.specs.declared.TextFault.{TextFault}
 use Rattle.heads.specs.declared.Head.{Head}
-use Rattle.heads.specs.declared.Head.TheVariants as H
 use Rattle.heads.specs.Heads.{fault, head_of}
 use Rattle.texts.specs.Texts.{Sofar, nothing, rows, faulty, rows_from, rows_by, lines_read, longest_text, text_read}
 use Rattle.texts.specs.Steps.{HeadLine, head_line, rows_behind, Step, onward, stopped, line_step, Sound}
@@ -54,11 +56,11 @@ module _ {e : ℕ} {lengths area : List ℕ} where
       by (onward st') p g more = more st' (sound_step sep st st' (suc n) l s p) g
       by (stopped f) p g more = let z : ◌≡◌ {A = ℕ} 0 1 = cc in absurd (omega arith)
 
-  behind_laid : (h : Head) (n : ℕ) (ls : List (List ℕ)) → rows_by h n ls ≡ rows e lengths area → Laid lengths area
-  behind_laid (H.Edition edition sep) n ls q = rows_laid edition sep n nothing ls sound_none q
-  behind_laid (H.Fault f) n ls q = let z : ◌≡◌ {A = ℕ} 0 1 = cc in absurd (omega arith)
+  behind_laid : (h : Result Head TextFault) (n : ℕ) (ls : List (List ℕ)) → rows_by h n ls ≡ rows e lengths area → Laid lengths area
+  behind_laid (Ok h) n ls q = rows_laid h.edition h.separator n nothing ls sound_none q
+  behind_laid (Err f) n ls q = let z : ◌≡◌ {A = ℕ} 0 1 = cc in absurd (omega arith)
 
-  lines_laid : (q : Bool) (h : HeadLine) → cond q (faulty (fault 0 2)) (rows_behind h) ≡ rows e lengths area → Laid lengths area
+  lines_laid : (q : Bool) (h : HeadLine) → cond q (faulty (fault 0 F.Edition)) (rows_behind h) ≡ rows e lengths area → Laid lengths area
   lines_laid true h p = let z : ◌≡◌ {A = ℕ} 0 1 = cc in absurd (omega arith)
   lines_laid false h p = behind_laid (head_of h.number h.line) h.number h.behind p
 
@@ -66,6 +68,6 @@ module _ {e : ℕ} {lengths area : List ℕ} where
   unfolding text_read
   text_laid text q = by (ltb longest_text (length text)) q
     where
-      by : (b : Bool) → cond b (faulty (fault 0 1)) (lines_read 0 (text_lines text)) ≡ rows e lengths area → Laid lengths area
+      by : (b : Bool) → cond b (faulty (fault 0 F.Long)) (lines_read 0 (text_lines text)) ≡ rows e lengths area → Laid lengths area
       by true p = let z : ◌≡◌ {A = ℕ} 0 1 = cc in absurd (omega arith)
       by false p = lines_laid (eqb (head_line 0 (text_lines text)).number 0) (head_line 0 (text_lines text)) (sym (by_head 0 (text_lines text)) ∙ p)

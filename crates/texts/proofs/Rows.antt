@@ -14,18 +14,16 @@ use lib.Dec.{eqb, ltb, leb, lit≤}
 use lib.ListN.{length, get_or, set, replicate, length-set, length-append, length-replicate}
 use lib.Seq.{get_or-set_same, get_or-set_other}
 use borrow.Author.Tests.{eq-eqb, ne_eqb, eqb-true, eqb-false, ltb-false, leb-false}
+use Rattle.std.specs.Prelude.{Result, Ok, Err}
 use Rattle.form.specs.Layout.{kinds, numbers_of}
 use Rattle.filing.specs.Lists.{total}
 use Rattle.cells.specs.Cells.{cell_at, found_in, same_word}
 use Rattle.columns.specs.Columns.{named_from, kind_named}
 use Rattle.rowtext.specs.Said.{numbers_said, row_said}
-use Rattle.rowtext.specs.declared.RowSaid.{RowSaid}
-use Rattle.rowtext.specs.declared.RowSaid.TheVariants as Row
+use Rattle.rowtext.specs.declared.RowFault.{RowFault}
 use Rattle.rowtext.proofs.Laws.{first-length}
 use Rattle.heads.specs.Heads.{is_passed, edition_word}
 use Rattle.heads.specs.declared.TextFault.{TextFault}
-use Rattle.texts.specs.declared.Check.{Check}
-use Rattle.texts.specs.declared.Check.TheVariants as C
 use Rattle.texts.specs.Texts.{Sofar, nothing, TextRead, faulty, kind_in, count_of, checked_row, checked_kind, checked, with_row, after_line, unless_fault, rows_from}
 use Rattle.texts.specs.Steps.{Step, onward, stopped, step_by, line_step, area_room, Sound}
 use Rattle.texts.proofs.Small.{AllSmall, append_small, zeros-small, row_small}
@@ -49,22 +47,22 @@ kind-known word = named_few 0 _ word
 -- ---- a line that is a row
 
 -- a test that failed, since the answer is no fault
-pass : (b : Bool) (f : TextFault) {x : Check} {k : ℕ} → cond b (C.Fault f) x ≡ C.Row k → (b ≡ false) × (x ≡ C.Row k)
+pass : (b : Bool) (f : TextFault) {x : Result ℕ TextFault} {k : ℕ} → cond b (Err f) x ≡ Ok k → (b ≡ false) × (x ≡ Ok k)
 pass true f e = let z : ◌≡◌ {A = ℕ} 0 1 = cc in absurd (omega arith)
 pass false f e = (refl, e)
 
-row-whole : (n kind : ℕ) (r : RowSaid) {k : ℕ} → checked_row n kind r ≡ C.Row k → (k ≡ kind) × (r ≡ Row.Whole)
-row-whole n kind Row.Whole e = (cc, refl)
-row-whole n kind (Row.Fault f i) e = let z : ◌≡◌ {A = ℕ} 0 1 = cc in absurd (omega arith)
+row-whole : (n kind : ℕ) (r : Result (Unit {0}) RowFault) {k : ℕ} → checked_row n kind r ≡ Ok k → (k ≡ kind) × (r ≡ Ok tt)
+row-whole n kind (Ok done) e = (cc, refl)
+row-whole n kind (Err f) e = let z : ◌≡◌ {A = ℕ} 0 1 = cc in absurd (omega arith)
 
 pub record RowLine (sep : ℕ) (st : Sofar) (l : List ℕ) : Type 0 where
   pub some : 0 < kind_in sep l
   pub known : kind_in sep l ≤ kinds
   pub order : st.kind ≤ kind_in sep l
   pub few : count_of st (kind_in sep l) < 32
-  pub whole : row_said sep (kind_in sep l) l ≡ Row.Whole
+  pub whole : row_said sep (kind_in sep l) l ≡ Ok tt
 
-pub row-said : (sep : ℕ) (st : Sofar) (n : ℕ) (l : List ℕ) {k : ℕ} → checked sep st n l ≡ C.Row k → (k ≡ kind_in sep l) × RowLine sep st l
+pub row-said : (sep : ℕ) (st : Sofar) (n : ℕ) (l : List ℕ) {k : ℕ} → checked sep st n l ≡ Ok k → (k ≡ kind_in sep l) × RowLine sep st l
 unfolding checked checked_kind
 row-said sep st n l e =
     let kind = kind_in sep l in
@@ -202,14 +200,14 @@ pub sound_step : (sep : ℕ) (st st' : Sofar) (n : ℕ) (l : List ℕ) → Sound
 unfolding line_step
 sound_step sep st st' n l s e = by (is_passed sep l) (checked sep st n l) refl e
   where
-    by : (p : Bool) (c : Check) → checked sep st n l ≡ c → cond p (onward st) (step_by c (after_line sep st l)) ≡ onward st' → Sound st'
+    by : (p : Bool) (c : Result ℕ TextFault) → checked sep st n l ≡ c → cond p (onward st) (step_by c (after_line sep st l)) ≡ onward st' → Sound st'
     by true c q g = let z : st ≡ st' = cc in subst (λ (x : Sofar). Sound x) z s
-    by false (C.Row k) q g =
+    by false (Ok k) q g =
         let r = (row-said sep st n l q).1 in
         let z : after_line sep st l ≡ st' = cc in
         let m = first-length sep (kind_in sep l) l (numbers_of (kind_in sep l)) in
         subst (λ (x : Sofar). Sound x) z (sound-row st s (kind_in sep l) r.some r.known r.order r.few (numbers_said sep (kind_in sep l) l) m (row_small sep (kind_in sep l) l))
-    by false (C.Fault f) q g = let z : ◌≡◌ {A = ℕ} 0 1 = cc in absurd (omega arith)
+    by false (Err f) q g = let z : ◌≡◌ {A = ℕ} 0 1 = cc in absurd (omega arith)
 
 -- what a text says from a line on, by what is known behind that line
 abbrev pub rows_after : ℕ → ℕ → ℕ → Step → List (List ℕ) → TextRead
@@ -220,9 +218,9 @@ pub step_rows : (e sep n : ℕ) (st : Sofar) (l : List ℕ) (ls : List (List ℕ
 unfolding rows_from line_step
 step_rows e sep n st l ls = by (is_passed sep l) (checked sep st (suc n) l)
   where
-    by : (p : Bool) (c : Check)
+    by : (p : Bool) (c : Result ℕ TextFault)
         → cond p (rows_from e sep (suc n) st ls) (unless_fault c (rows_from e sep (suc n) (after_line sep st l) ls))
         ≡ rows_after e sep (suc n) (cond p (onward st) (step_by c (after_line sep st l))) ls
     by true c = refl
-    by false (C.Row k) = refl
-    by false (C.Fault f) = refl
+    by false (Ok k) = refl
+    by false (Err f) = refl

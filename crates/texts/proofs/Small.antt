@@ -14,11 +14,12 @@ use Rattle.form.proofs.Tests.{either}
 use Rattle.cells.specs.Cells.{cell_at, same_word}
 use Rattle.phrases.specs.Ascii.{codes}
 use Rattle.numerals.specs.Numerals.{digits_in, is_number, behind_mark, units_of, unless_large, read_parts, read_number}
-use Rattle.numerals.specs.declared.Numeral.TheVariants.{Units, NoNumber, ManyDecimals, Large}
+use Rattle.std.specs.Prelude.{Result, Ok, Err}
+use Rattle.numerals.specs.declared.NumberFault.TheVariants.{NoNumber, ManyDecimals, Large}
 use Rattle.columns.specs.Columns.{decimals_of, is_unit}
 use Rattle.rowtext.specs.Said.{comma_marks, number_said, unit_said, cell_said, number_in, unit_in, said_at, first_numbers, numbers_said}
-use Rattle.rowtext.specs.declared.Said.{Said}
-use Rattle.rowtext.specs.declared.Said.TheVariants.{Number, Wrong}
+use Rattle.rowtext.specs.declared.FieldFault.{FieldFault}
+use Rattle.rowtext.specs.declared.FieldFault.TheVariants as Field
 
 abbrev pub AllSmall : List ℕ → Type 0
 AllSmall xs = (i : ℕ) → get_or xs i 0 < 4294967296
@@ -42,7 +43,7 @@ unit-small : (cell : List ℕ) → number_in (unit_said cell) < 4294967296
 unfolding unit_said
 unit-small cell = by (same_word (codes "land") cell) (same_word (codes "trees") cell)
   where
-    by : (p q : Bool) → number_in (cond p (Number 0) (cond q (Number 1) (Wrong 7))) < 4294967296
+    by : (p q : Bool) → number_in (cond p (Ok 0) (cond q (Ok 1) (Err Field.Unit))) < 4294967296
     by true q = omega arith
     by false true = omega arith
     by false false = omega arith
@@ -57,7 +58,7 @@ number_small commas d cell = by (is_number commas cell) (ltb d (length behind)) 
     units : ℕ
     units = units_of d (digits_in cell) behind
 
-    by : (p q r : Bool) (n : ℕ) → ltb 4294967295 n ≡ r → number_in (number_said (cond p (cond q ManyDecimals (cond r Large (Units n))) NoNumber)) < 4294967296
+    by : (p q r : Bool) (n : ℕ) → ltb 4294967295 n ≡ r → number_in (number_said (cond p (cond q (Err ManyDecimals) (cond r (Err Large) (Ok n))) (Err NoNumber))) < 4294967296
     by false q r n e = omega arith
     by true true r n e = omega arith
     by true false true n e = omega arith
@@ -67,7 +68,7 @@ said-small : (sep kind : ℕ) (line : List ℕ) (i : ℕ) → number_in (said_at
 unfolding cell_said
 said-small sep kind line i =
     let cell = cell_at sep (suc i) line in
-    either (λ (x : Said). number_in x < 4294967296) (is_unit kind i) (λ e. unit-small cell) (λ e. number_small (comma_marks sep) (decimals_of kind (unit_in sep line) i) cell)
+    either (λ (x : Result ℕ FieldFault). number_in x < 4294967296) (is_unit kind i) (λ e. unit-small cell) (λ e. number_small (comma_marks sep) (decimals_of kind (unit_in sep line) i) cell)
 
 first_small : (sep kind : ℕ) (line : List ℕ) (n : ℕ) → AllSmall (first_numbers sep kind line n)
 unfolding first_numbers

@@ -6,15 +6,13 @@ use mathlib.Core.List.{List, []}
 use native.Mathlib.Numerals.{add-one}
 use native.Mathlib.Omega.{arith}
 use lib.ListN.{length, drop, replicate}
+use Rattle.std.specs.Prelude.{Result, Ok, Err}
 use Rattle.form.specs.Layout.{kinds}
 use Rattle.cells.specs.Lines.{part, lines_of, LineAt}
 use Rattle.cells.specs.declared.Line.{Line}
 use Rattle.cells.proofs.LineLaws.{lines_end}
 use Rattle.heads.specs.declared.TextFault.{TextFault}
 use Rattle.texts.specs.declared.Kept.{Kept}
-use Rattle.texts.specs.declared.Taken.{Taken}
-use Rattle.texts.specs.declared.Taken.TheVariants as T
-use Rattle.texts.specs.declared.Entered.TheVariants as E
 use Rattle.texts.specs.Texts.{Sofar, nothing, rows_from}
 use Rattle.texts.specs.Steps.{Step, onward, line_step, kept_as, taken_as, UsedIn, area_room, Sound, Ready, entered_as}
 use Rattle.texts.proofs.Rows.{sound_none, sound_step, rows_after, step_rows}
@@ -44,11 +42,11 @@ module _ (text : List ℕ) (e sep at n : ℕ) (lengths₀ area₀ : List ℕ) wh
       none = ap (λ (x : List ℕ). record { kind = 0; count = 0; lengths = x; area = [] }) z
 
   module _ (lengths area : List ℕ) (kept : Kept) (from number : ℕ) (c : Going lengths area kept from number) where
-    pub going_end : length text ≤ from → entered_as (E.Rows e kept.used) lengths area ≡ rows_from e sep n nothing (lines_of (drop at text))
+    pub going_end : length text ≤ from → entered_as (Ok (record { edition = e; used = kept.used })) lengths area ≡ rows_from e sep n nothing (lines_of (drop at text))
     unfolding rows_from
     going_end h = sym (ap (rows_from e sep number (kept_as kept lengths area)) (lines_end text from h)) ∙ c.rest
 
-    module _ (r : Line) (l : LineAt text from r) (t : Taken) (lengths' area' : List ℕ)
+    module _ (r : Line) (l : LineAt text from r) (t : Result Kept TextFault) (lengths' area' : List ℕ)
         (s : taken_as t lengths' area' ≡ line_step sep (kept_as kept lengths area) (number + 1) (part r.from r.to text)) where
       -- the text from this line on, by what is known behind it
       behind : rows_after e sep (number + 1) (taken_as t lengths' area') (lines_of (drop r.next text)) ≡ rows_from e sep n nothing (lines_of (drop at text))
@@ -59,17 +57,17 @@ module _ (text : List ℕ) (e sep at n : ℕ) (lengths₀ area₀ : List ℕ) wh
           ∙ sym (ap (rows_from e sep number (kept_as kept lengths area)) l.lines)
           ∙ c.rest
 
-      pub going-fault : {f : TextFault} → t ≡ T.Fault f → entered_as (E.Fault f) lengths' area' ≡ rows_from e sep n nothing (lines_of (drop at text))
-      going-fault q = sym (ap (λ (x : Taken). rows_after e sep (number + 1) (taken_as x lengths' area') (lines_of (drop r.next text))) q) ∙ behind
+      pub going-fault : {f : TextFault} → t ≡ Err f → entered_as (Err f) lengths' area' ≡ rows_from e sep n nothing (lines_of (drop at text))
+      going-fault q = sym (ap (λ (x : Result Kept TextFault). rows_after e sep (number + 1) (taken_as x lengths' area') (lines_of (drop r.next text))) q) ∙ behind
 
-      pub going_more : {k : Kept} → t ≡ T.On k → UsedIn t area' → length lengths' ≡ length lengths → length area' ≡ length area
+      pub going_more : {k : Kept} → t ≡ Ok k → UsedIn t area' → length lengths' ≡ length lengths → length area' ≡ length area
           → Going lengths' area' k r.next (number + 1)
       going_more {k} q u g a = record {
         within = l.within;
         counted = omega (arith, c.counted, l.onward);
         ready = record {
           sound = sound_step sep (kept_as kept lengths area) (kept_as k lengths' area') (number + 1) (part r.from r.to text) c.ready.sound (sym s ∙ as_on);
-          inside = subst (λ (x : Taken). UsedIn x area') q u;
+          inside = subst (λ (x : Result Kept TextFault). UsedIn x area') q u;
           roomy = omega (arith, c.ready.roomy, a);
         };
         same_lengths = g ∙ c.same_lengths;
@@ -78,4 +76,4 @@ module _ (text : List ℕ) (e sep at n : ℕ) (lengths₀ area₀ : List ℕ) wh
       }
         where
           as_on : taken_as t lengths' area' ≡ onward (kept_as k lengths' area')
-          as_on = ap (λ (x : Taken). taken_as x lengths' area') q
+          as_on = ap (λ (x : Result Kept TextFault). taken_as x lengths' area') q

@@ -9,7 +9,9 @@ use Rattle.cells.specs.Cells.{fields_of, blank_in, front_off, end_off, quotes_of
 use Rattle.numerals.specs.Numerals.{is_digit, is_mark, digits_in, with_digits, is_number, unless_large, read_parts, read_number}
 use Rattle.columns.specs.Columns.{is_unit, named_from}
 use Rattle.rowtext.specs.Said.{unit_said, cell_said, first_numbers, row_said}
-use Rattle.heads.specs.Heads.{fault, fields_fault, cell_fault, behind_edition, separator_at, separator_in, head_of}
+use Rattle.rowtext.specs.declared.FieldFault.TheVariants as Field
+use Rattle.heads.specs.declared.Fault.TheVariants as F
+use Rattle.heads.specs.Heads.{fault, behind_edition, separator_at, separator_in, head_of}
 use Rattle.texts.specs.Texts.{TextRead, rows, faulty, checked_kind, checked, rows_from, lines_read, text_read, row_line_at, row_line_in, row_line}
 
 unfoldable read : String → TextRead
@@ -42,28 +44,28 @@ unfolding read
 no_rows = refl
 
 -- lines that are passed over are counted
-behind-others : read "# a note\n\nedition,2\n,,\n# another\nstocks,1\n" ≡ faulty (fault 6 3)
+behind-others : read "# a note\n\nedition,2\n,,\n# another\nstocks,1\n" ≡ faulty (fault 6 F.Kind)
 unfolding read
 behind-others = refl
 
-none_counts : read "# a note\n,,\n" ≡ faulty (fault 0 2)
+none_counts : read "# a note\n,,\n" ≡ faulty (fault 0 F.Edition)
 unfolding read
 none_counts = refl
 
 -- the faults of a line, in their order
-twice : read "edition,2\nedition,2\n" ≡ faulty (fault 2 2)
+twice : read "edition,2\nedition,2\n" ≡ faulty (fault 2 F.Edition)
 unfolding read
 twice = refl
 
-out_of_order : read "edition,3\nstock,7,land,2,3,0.5\nconversion,1\n" ≡ faulty (fault 3 4)
+out_of_order : read "edition,3\nstock,7,land,2,3,0.5\nconversion,1\n" ≡ faulty (fault 3 F.Order)
 unfolding read
 out_of_order = refl
 
-few_fields : read "edition,3\nharvest,1,x\n" ≡ faulty (fields_fault 2 5 2)
+few_fields : read "edition,3\nharvest,1,x\n" ≡ faulty (fault 2 (F.Fields 5 2))
 unfolding read
 few_fields = refl
 
-no_unit : read "edition,3\nstock,7,acres,2,x,0.5\n" ≡ faulty (cell_fault 2 7 2 1)
+no_unit : read "edition,3\nstock,7,acres,2,x,0.5\n" ≡ faulty (fault 2 (F.Cell 2 1 Field.Unit))
 unfolding read
 no_unit = refl
 

@@ -1,5 +1,5 @@
 -- A text as the code goes through it: the first line that counts, one line by itself, and the rows in lent room. Assumes nothing.
-use Rattle.std.specs.Prelude.{ℕ, suc, ◌+◌, ◌*◌, ◌≤◌, ◌<◌, ◌≡◌, cond, List, [], ◌∷◌, ◌++◌, length, take, drop, get_or}
+use Rattle.std.specs.Prelude.{ℕ, suc, ◌+◌, ◌*◌, ◌≤◌, ◌<◌, ◌≡◌, cond, List, [], ◌∷◌, ◌++◌, length, take, drop, get_or, Option, Some, None, Result, Ok, Err}
 use Rattle.std.proofs.lemmas.List.Edits.{sets}
 use Rattle.form.specs.Layout.{kinds, numbers_of}
 use Rattle.filing.specs.Lists.{total}
@@ -7,12 +7,7 @@ use Rattle.cells.specs.Lines.{part, lines_of}
 use Rattle.rowtext.specs.Said.{numbers_said}
 use Rattle.heads.specs.Heads.{is_passed, head_of}
 use Rattle.heads.specs.declared.TextFault.{TextFault}
-use Rattle.texts.specs.declared.Check.{Check}
-use Rattle.texts.specs.declared.Check.TheVariants as C
-use Rattle.texts.specs.declared.Taken.{Taken}
-use Rattle.texts.specs.declared.Taken.TheVariants as T
 use Rattle.texts.specs.declared.Entered.{Entered}
-use Rattle.texts.specs.declared.Entered.TheVariants as E
 use Rattle.texts.specs.declared.Kept.{Kept}
 use Rattle.texts.specs.declared.First.{First}
 use Rattle.texts.specs.Texts.{Sofar, TextRead, rows, faulty, kind_in, count_of, checked, after_line, rows_by, row_line_by}
@@ -28,8 +23,12 @@ head_line n [] = record { number = 0; line = []; behind = [] }
 head_line n (l ∷ ls) = cond (is_passed 44 l) (head_line (suc n) ls) (record { number = suc n; line = l; behind = ls })
 
 -- as places in the text
-abbrev pub first_as : List ℕ → First → HeadLine
-first_as text r = record { number = r.number; line = part r.from r.to text; behind = lines_of (drop r.next text) }
+abbrev pub place_as : List ℕ → First → HeadLine
+place_as text r = record { number = r.number; line = part r.from r.to text; behind = lines_of (drop r.next text) }
+
+abbrev pub first_as : List ℕ → Option First → HeadLine
+first_as text None = record { number = 0; line = []; behind = [] }
+first_as text (Some r) = place_as text r
 
 -- what a text says, by its first line that counts
 abbrev pub rows_behind : HeadLine → TextRead
@@ -44,15 +43,20 @@ pub record FirstIn (text : List ℕ) (r : First) : Type 0 where
   pub inside : r.to ≤ r.next
   pub within : r.next ≤ length text
   pub counted : r.number ≤ r.next
+  pub some : 0 < r.number
+
+abbrev pub FirstOf : List ℕ → Option First → Type 0
+FirstOf text None = Unit {0}
+FirstOf text (Some r) = FirstIn text r
 
 -- one line by itself: the rows after it, or its fault
 pub data Step : Type 0 where
   onward : Sofar → Step
   stopped : TextFault → Step
 
-abbrev pub step_by : Check → Sofar → Step
-step_by (C.Row kind) st = onward st
-step_by (C.Fault f) st = stopped f
+abbrev pub step_by : Result ℕ TextFault → Sofar → Step
+step_by (Ok kind) st = onward st
+step_by (Err f) st = stopped f
 
 unfoldable pub line_step : ℕ → Sofar → ℕ → List ℕ → Step
 line_step sep st n l = cond (is_passed sep l) (onward st) (step_by (checked sep st n l) (after_line sep st l))
@@ -74,18 +78,18 @@ kept_as k ls a = record { kind = k.kind; count = k.count; lengths = ls; area = t
 abbrev pub counted_as : Kept → Sofar
 counted_as k = record { kind = k.kind; count = k.count; lengths = []; area = [] }
 
-abbrev pub taken_as : Taken → List ℕ → List ℕ → Step
-taken_as (T.On k) ls a = onward (kept_as k ls a)
-taken_as (T.Fault f) ls a = stopped f
+abbrev pub taken_as : Result Kept TextFault → List ℕ → List ℕ → Step
+taken_as (Ok k) ls a = onward (kept_as k ls a)
+taken_as (Err f) ls a = stopped f
 
-abbrev pub UsedIn : Taken → List ℕ → Type 0
-UsedIn (T.On k) a = k.used ≤ length a
-UsedIn (T.Fault f) a = Unit {0}
+abbrev pub UsedIn : Result Kept TextFault → List ℕ → Type 0
+UsedIn (Ok k) a = k.used ≤ length a
+UsedIn (Err f) a = Unit {0}
 
 -- a row's numbers stand behind the used ones; what a line at fault leaves there is not said
-abbrev pub Stored : ℕ → ℕ → List ℕ → List ℕ → List ℕ → Check → Type 0
-Stored sep used line before after (C.Row kind) = after ≡ sets before used (numbers_said sep kind line)
-Stored sep used line before after (C.Fault f) = length after ≡ length before
+abbrev pub Stored : ℕ → ℕ → List ℕ → List ℕ → List ℕ → Result ℕ TextFault → Type 0
+Stored sep used line before after (Ok kind) = after ≡ sets before used (numbers_said sep kind line)
+Stored sep used line before after (Err f) = length after ≡ length before
 
 -- room that is always enough: 32 rows of each kind
 abbrev pub area_room : ℕ
@@ -113,10 +117,10 @@ abbrev pub RoomFor : Kept → List ℕ → Type 0
 RoomFor k a = (kind : ℕ) → 0 < kind → kind ≤ kinds → k.kind ≤ kind → count_of (counted_as k) kind < 32 → k.used + numbers_of kind ≤ length a
 
 -- what is answered, with the lengths and the area as they are left
-abbrev pub entered_as : Entered → List ℕ → List ℕ → TextRead
-entered_as (E.Rows e u) ls a = rows e ls (take u a)
-entered_as (E.Fault f) ls a = faulty f
+abbrev pub entered_as : Result Entered TextFault → List ℕ → List ℕ → TextRead
+entered_as (Ok e) ls a = rows e.edition ls (take e.used a)
+entered_as (Err f) ls a = faulty f
 
-abbrev pub EnteredIn : Entered → List ℕ → List ℕ → Type 0
-EnteredIn (E.Rows e u) ls a = (length ls ≡ kinds) × (u ≤ length a)
-EnteredIn (E.Fault f) ls a = length ls ≡ kinds
+abbrev pub EnteredIn : Result Entered TextFault → List ℕ → List ℕ → Type 0
+EnteredIn (Ok e) ls a = (length ls ≡ kinds) × (e.used ≤ length a)
+EnteredIn (Err f) ls a = length ls ≡ kinds

@@ -6,45 +6,32 @@ ghost use Rattle.std.proofs.lemmas.List.Edits.{sets};
 ghost use Rattle.form.specs.Layout.{kinds, numbers_of};
 ghost use Rattle.cells.specs.Lines.{lines_of, text_lines};
 ghost use Rattle.cells.specs.Cells.{cell_at, same_word};
+ghost use Rattle.columns.specs.Columns.{kind_or_none};
 ghost use Rattle.rowtext.specs.Said.{row_said};
 ghost use Rattle.heads.specs.Heads.{edition_word};
 ghost use Rattle.texts.specs.Texts.{nothing, kind_in, count_of, checked_row, checked_kind, checked, rows_from, longest_text, text_read, row_line_at, row_line};
-ghost use Rattle.texts.specs.Steps.{head_line, first_as, rows_behind, row_line_behind, FirstIn, line_step, kept_as, counted_as, taken_as, UsedIn, Stored, area_room, Ready, RoomFor};
+ghost use Rattle.texts.specs.Steps.{head_line, first_as, place_as, rows_behind, row_line_behind, FirstIn, FirstOf, line_step, kept_as, counted_as, taken_as, UsedIn, Stored, area_room, Ready, RoomFor};
 ghost use Rattle.texts.specs.Steps.{entered_as, EnteredIn};
 
 use cells::{found, next_field, next_line, same_word, text_start};
 use columns::kind_named;
 use form::layout::numbers;
-use heads::{Head, TextFault, cell_fault_at, fault_at, fields_fault_at, head_of, is_passed};
-use rowtext::{RowSaid, read_row};
+use heads::{Fault, Head, TextFault, head_of, is_passed};
+use rowtext::read_row;
 
 // Room that is always enough for the rows of a text: 32 of each kind.
 pub const AREA_ROOM: usize = 2336;
 
-// What a line behind the first that counts says: a row of a kind, or its fault.
-#[derive(Clone, Copy)]
-pub enum Check {
-    Row(u32),
-    Fault(TextFault),
-}
-
 // The rows so far, beside the lent lengths and area: the kind of the last row, how many rows of it there are, and how many numbers of the area are used.
-#[derive(Clone, Copy)]
+#[derive(Clone, Copy, PartialEq, Eq, Debug)]
 pub struct Kept {
     pub kind: usize,
     pub count: usize,
     pub used: usize,
 }
 
-// The rows after a line, or its fault.
-#[derive(Clone, Copy)]
-pub enum Taken {
-    On(Kept),
-    Fault(TextFault),
-}
-
-// The first line that counts: its number, 0 where there is none, where it stands, and where the next begins.
-#[derive(Clone, Copy)]
+// The first line that counts: its number, where it stands, and where the next begins.
+#[derive(Clone, Copy, PartialEq, Eq, Debug)]
 pub struct First {
     pub number: u32,
     pub from: usize,
@@ -52,11 +39,11 @@ pub struct First {
     pub next: usize,
 }
 
-// Any text: its rows, kind after kind, at the front of the area, and the length of each kind's part; or its first fault.
-#[derive(Clone, Copy)]
-pub enum Entered {
-    Rows { edition: u32, used: usize },
-    Fault(TextFault),
+// A text without a fault: its edition, and how many numbers of the area its rows use.
+#[derive(Clone, Copy, PartialEq, Eq, Debug)]
+pub struct Entered {
+    pub edition: u32,
+    pub used: usize,
 }
 
 // Whether the first field is the word `edition`.
@@ -69,9 +56,9 @@ fn names_edition(line: &[u8], sep: u8) -> bool
     same_word(b"edition", &line[from..to])
 }
 
-// The kind that the first field names, or 0.
-fn kind_in(line: &[u8], sep: u8) -> usize
-    ensures { (result ≡ kind_in sep line.now) × (result ≤ kinds) }
+// The kind that the first field names.
+fn kind_in(line: &[u8], sep: u8) -> Option<usize>
+    ensures { (result ≡ kind_or_none (kind_in sep line.now)) × (kind_in sep line.now ≤ kinds) }
 {
     let name = next_field(line, 0, sep);
     let from = name.from;
@@ -90,56 +77,93 @@ fn count_of(kept: Kept, kind: usize) -> usize
 }
 
 // The fields of a row, from left to right.
-fn check_row(line: &[u8], sep: u8, kind: usize, n: u32, area: &mut [u32], used: usize) -> Check
+fn check_row(
+    line: &[u8],
+    sep: u8,
+    kind: usize,
+    n: u32,
+    area: &mut [u32],
+    used: usize,
+) -> Result<usize, TextFault>
     requires { (kind ≤ kinds) × (used + numbers_of kind ≤ length area.old) }
     ensures value { result ≡ checked_row n kind (row_said sep kind line.now) }
     ensures stored { Stored sep used line.now area.old area.new result }
 {
     match read_row(line, sep, kind, area, used) {
-        RowSaid::Whole => Check::Row(kind as u32),
-        RowSaid::Fault { fault, field } => Check::Fault(cell_fault_at(
-            n,
-            fault,
-            kind as u32,
-            field,
-        )),
+        Ok(()) => Ok(kind),
+        Err(row) => {
+            let fault = Fault::Cell {
+                kind: kind as u32,
+                field: row.field,
+                fault: row.fault,
+            };
+            Err(TextFault { line: n, fault })
+        }
     }
 }
 
 // A line that names a kind: the order, the rows, how many fields, and the fields.
-fn check_kind(line: &[u8], sep: u8, kind: usize, n: u32, kept: Kept, area: &mut [u32]) -> Check
+fn check_kind(
+    line: &[u8],
+    sep: u8,
+    kind: usize,
+    n: u32,
+    kept: Kept,
+    area: &mut [u32],
+) -> Result<usize, TextFault>
     requires { (0 < kind) × (kind ≤ kinds) × RoomFor kept area.old × (length line.now < 4294967296) }
     ensures value { result ≡ checked_kind sep kind (counted_as kept) n line.now }
     ensures stored { Stored sep kept.used line.now area.old area.new result }
 {
     if kind < kept.kind {
-        return Check::Fault(fault_at(n, 4));
+        return Err(TextFault {
+            line: n,
+            fault: Fault::Order,
+        });
     }
     if 32 <= count_of(kept, kind) {
-        return Check::Fault(fault_at(n, 5));
+        return Err(TextFault {
+            line: n,
+            fault: Fault::Rows,
+        });
     }
     let fields = found(line, sep);
     let due = numbers(kind);
     if fields != due {
-        return Check::Fault(fields_fault_at(n, due as u32, fields as u32));
+        let fault = Fault::Fields {
+            due: due as u32,
+            found: fields as u32,
+        };
+        return Err(TextFault { line: n, fault });
     }
     check_row(line, sep, kind, n, area, kept.used)
 }
 
 // Line number n, which counts.
-fn check_line(line: &[u8], sep: u8, n: u32, kept: Kept, area: &mut [u32]) -> Check
+fn check_line(
+    line: &[u8],
+    sep: u8,
+    n: u32,
+    kept: Kept,
+    area: &mut [u32],
+) -> Result<usize, TextFault>
     requires { RoomFor kept area.old × (length line.now < 4294967296) }
     ensures value { result ≡ checked sep (counted_as kept) n line.now }
     ensures stored { Stored sep kept.used line.now area.old area.new result }
 {
     if names_edition(line, sep) {
-        return Check::Fault(fault_at(n, 2));
+        return Err(TextFault {
+            line: n,
+            fault: Fault::Edition,
+        });
     }
-    let kind = kind_in(line, sep);
-    if kind == 0 {
-        return Check::Fault(fault_at(n, 3));
+    match kind_in(line, sep) {
+        Some(kind) => check_kind(line, sep, kind, n, kept, area),
+        None => Err(TextFault {
+            line: n,
+            fault: Fault::Kind,
+        }),
     }
-    check_kind(line, sep, kind, n, kept, area)
 }
 
 // One row more of a kind, whose numbers stand behind the used ones.
@@ -168,18 +192,16 @@ fn take_line(
     kept: Kept,
     lengths: &mut [u32],
     area: &mut [u32],
-) -> Taken
+) -> Result<Kept, TextFault>
     requires { Ready kept lengths.old area.old × (length line.now < 4294967296) }
     ensures area_after { taken_as result lengths.new area.new ≡ line_step sep (kept_as kept lengths.old area.old) n line.now }
     ensures used_in { UsedIn result area.new × (length lengths.new ≡ length lengths.old) × (length area.new ≡ length area.old) }
 {
     if is_passed(line, sep) {
-        return Taken::On(kept);
+        return Ok(kept);
     }
-    match check_line(line, sep, n, kept, area) {
-        Check::Row(kind) => Taken::On(take_row(kept, kind as usize, lengths)),
-        Check::Fault(fault) => Taken::Fault(fault),
-    }
+    let kind = check_line(line, sep, n, kept, area)?;
+    Ok(take_row(kept, kind, lengths))
 }
 
 // The lines from a place on, of which n are behind us.
@@ -187,13 +209,12 @@ fn read_rows(
     text: &[u8],
     at: usize,
     n: u32,
-    sep: u8,
-    edition: u32,
+    head: Head,
     lengths: &mut [u32],
     area: &mut [u32],
-) -> Entered
+) -> Result<Entered, TextFault>
     requires { (n ≤ at) × (at ≤ length text.now) × (length text.now ≤ longest_text) × (lengths.old ≡ replicate kinds 0) × (area_room ≤ length area.old) }
-    ensures area_after { entered_as result lengths.new area.new ≡ rows_from edition sep n nothing (lines_of (drop at text.now)) }
+    ensures area_after { entered_as result lengths.new area.new ≡ rows_from head.edition head.separator n nothing (lines_of (drop at text.now)) }
     ensures entered_in { EnteredIn result lengths.new area.new }
 {
     let mut kept = Kept {
@@ -203,93 +224,90 @@ fn read_rows(
     };
     let mut from = at;
     let mut number = n;
+    // no plainer by `for`: a turn steps on by a line, whose length only the turn finds
     while from < text.len() {
         let line = next_line(text, from);
         let start = line.from;
         let end = line.to;
         number += 1;
-        match take_line(&text[start..end], sep, number, kept, lengths, area) {
-            Taken::On(next) => {
-                kept = next;
-            }
-            Taken::Fault(fault) => {
-                return Entered::Fault(fault);
-            }
-        }
+        kept = take_line(
+            &text[start..end],
+            head.separator,
+            number,
+            kept,
+            lengths,
+            area,
+        )?;
         from = line.next;
     }
-    Entered::Rows {
-        edition,
+    Ok(Entered {
+        edition: head.edition,
         used: kept.used,
-    }
+    })
 }
 
 // The first line that counts. Before the separator is known a tab is a blank, as where a comma separates.
-fn first_line(text: &[u8]) -> First
+fn first_line(text: &[u8]) -> Option<First>
     requires { length text.now ≤ longest_text }
-    ensures { (first_as text.now result ≡ head_line 0 (text_lines text.now)) × FirstIn text.now result }
+    ensures { (first_as text.now result ≡ head_line 0 (text_lines text.now)) × FirstOf text.now result }
 {
     let mut from = text_start(text);
     let mut number: u32 = 0;
+    // no plainer by `for`, as in read_rows
     while from < text.len() {
         let line = next_line(text, from);
         let start = line.from;
         let end = line.to;
         number += 1;
         if !is_passed(&text[start..end], 44) {
-            return First {
+            return Some(First {
                 number,
                 from: start,
                 to: end,
                 next: line.next,
-            };
+            });
         }
         from = line.next;
     }
-    First {
-        number: 0,
-        from,
-        to: from,
-        next: from,
-    }
+    None
 }
 
 // By what the first line that counts says.
-fn read_behind(text: &[u8], first: First, lengths: &mut [u32], area: &mut [u32]) -> Entered
+fn read_behind(
+    text: &[u8],
+    first: First,
+    lengths: &mut [u32],
+    area: &mut [u32],
+) -> Result<Entered, TextFault>
     requires { FirstIn text.now first × (length text.now ≤ longest_text) × (lengths.old ≡ replicate kinds 0) × (area_room ≤ length area.old) }
-    ensures area_after { entered_as result lengths.new area.new ≡ rows_behind (first_as text.now first) }
+    ensures area_after { entered_as result lengths.new area.new ≡ rows_behind (place_as text.now first) }
     ensures entered_in { EnteredIn result lengths.new area.new }
 {
     let from = first.from;
     let to = first.to;
-    match head_of(first.number, &text[from..to]) {
-        Head::Edition { edition, separator } => read_rows(
-            text,
-            first.next,
-            first.number,
-            separator,
-            edition,
-            lengths,
-            area,
-        ),
-        Head::Fault(fault) => Entered::Fault(fault),
-    }
+    let head = head_of(first.number, &text[from..to])?;
+    read_rows(text, first.next, first.number, head, lengths, area)
 }
 
 // Any text: its rows, kind after kind, at the front of the area, and the length of each kind's part; or its first fault.
-pub fn enter(text: &[u8], lengths: &mut [u32], area: &mut [u32]) -> Entered
+pub fn enter(text: &[u8], lengths: &mut [u32], area: &mut [u32]) -> Result<Entered, TextFault>
     requires { (lengths.old ≡ replicate kinds 0) × (area_room ≤ length area.old) }
     ensures area_after { entered_as result lengths.new area.new ≡ text_read text.now }
     ensures entered_in { EnteredIn result lengths.new area.new }
 {
     if 131072 < text.len() {
-        return Entered::Fault(fault_at(0, 1));
+        return Err(TextFault {
+            line: 0,
+            fault: Fault::Long,
+        });
     }
-    let first = first_line(text);
-    if first.number == 0 {
-        return Entered::Fault(fault_at(0, 2));
+    match first_line(text) {
+        Some(first) => read_behind(text, first, lengths, area),
+        None => Err(TextFault {
+            line: 0,
+            fault: Fault::Edition,
+        }),
     }
-    read_behind(text, first, lengths, area)
 }
 
 // The line in which a row stands, of the lines from a place on, of which n are behind us; 0 where there is none.
@@ -300,6 +318,7 @@ fn row_line(text: &[u8], at: usize, n: u32, sep: u8, index: usize) -> u32
     let mut from = at;
     let mut number = n;
     let mut left = index;
+    // no plainer by `for`, as in read_rows
     while from < text.len() {
         let line = next_line(text, from);
         let start = line.from;
@@ -319,26 +338,26 @@ fn row_line(text: &[u8], at: usize, n: u32, sep: u8, index: usize) -> u32
 // By what the first line that counts says.
 fn row_line_behind(text: &[u8], first: First, index: usize) -> u32
     requires { FirstIn text.now first × (length text.now ≤ longest_text) }
-    ensures { result ≡ row_line_behind index (first_as text.now first) }
+    ensures { result ≡ row_line_behind index (place_as text.now first) }
 {
     let from = first.from;
     let to = first.to;
     match head_of(first.number, &text[from..to]) {
-        Head::Edition {
-            edition: _,
-            separator,
-        } => row_line(text, first.next, first.number, separator, index),
-        Head::Fault(_) => 0,
+        Ok(head) => row_line(text, first.next, first.number, head.separator, index),
+        Err(_) => 0,
     }
 }
 
-// The line in which a row of a text stands, counted from 0 over all kinds; 0 where there is none. It goes over the text again: only a refusal asks for it.
+// The line in which a row of a text stands, counted from 0 over all kinds; 0 where there is none, since the theorem right_line of promises/Texts counts by
+// this number. It goes over the text again: only a refusal asks for it.
 pub fn line_of_row(text: &[u8], index: usize) -> u32
     ensures { result ≡ row_line index text.now }
 {
     if 131072 < text.len() {
         return 0;
     }
-    let first = first_line(text);
-    row_line_behind(text, first, index)
+    match first_line(text) {
+        Some(first) => row_line_behind(text, first, index),
+        None => 0,
+    }
 }

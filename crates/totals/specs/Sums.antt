@@ -1,7 +1,7 @@
 -- What the steps along the conversion rows answer.
-use Rattle.std.specs.Prelude.{ℕ, ◌+◌, ◌^◌, ◌<◌, List}
-use Rattle.wide.specs.Numbers.{value, Is}
-use Rattle.form.specs.Sums.{sum_of, cleared_part, column_l}
+use Rattle.std.specs.Prelude.{ℕ, ◌+◌, ◌≤◌, List}
+use Rattle.wide.specs.Numbers.{value}
+use Rattle.form.specs.Sums.{cleared_part, column_l}
 use Rattle.totals.specs.Masses.{dry_matter, carbon, periods}
 use Rattle.totals.specs.Columns.{onsite_part, offsite_part, decay_part, thinner_part, onsite_total, offsite_total, decay_total, thinner_total}
 use Rattle.totals.specs.declared.Parts.{Parts}
@@ -17,23 +17,38 @@ parts_of r = record {
   thinner = record { 0 = thinner_part r };
 }
 
--- u is t with a row's parts added
-pub record Added (t : Totals) (p : Parts) (u : Totals) : Type 0 where
-  pub cleared : Is u.cleared.0 (value t.cleared.0 + p.cleared.0)
-  pub onsite : Is u.onsite.0 (value t.onsite.0 + p.onsite.0)
-  pub offsite : Is u.offsite.0 (value t.offsite.0 + p.offsite.0)
-  pub decay : Is u.decay.0 (value t.decay.0 + p.decay.0)
-  pub thinner : Is u.thinner.0 (value t.thinner.0 + p.thinner.0)
+-- a row's parts as sums of that row alone
+unfoldable pub row_totals : Parts → Totals
+row_totals p = record {
+  cleared = dry_matter p.cleared.0;
+  onsite = carbon p.onsite.0;
+  offsite = carbon p.offsite.0;
+  decay = carbon p.decay.0;
+  thinner = periods p.thinner.0;
+}
 
--- t is the sums over rows
-pub record Summed (t : Totals) (rs : List (List ℕ)) : Type 0 where
-  pub cleared : Is t.cleared.0 (sum_of cleared_part rs)
-  pub onsite : Is t.onsite.0 (sum_of onsite_part rs)
-  pub offsite : Is t.offsite.0 (sum_of offsite_part rs)
-  pub decay : Is t.decay.0 (sum_of decay_part rs)
-  pub thinner : Is t.thinner.0 (sum_of thinner_part rs)
+-- the sums over no rows, and those of two together, each with its own
+abbrev pub no_totals : Totals
+no_totals = record { cleared = dry_matter 0; onsite = carbon 0; offsite = carbon 0; decay = carbon 0; thinner = periods 0 }
 
--- and in their one form
+unfoldable pub plus_totals : Totals → Totals → Totals
+plus_totals t u = record {
+  cleared = dry_matter (value t.cleared.0 + value u.cleared.0);
+  onsite = carbon (value t.onsite.0 + value u.onsite.0);
+  offsite = carbon (value t.offsite.0 + value u.offsite.0);
+  decay = carbon (value t.decay.0 + value u.decay.0);
+  thinner = periods (value t.thinner.0 + value u.thinner.0);
+}
+
+-- each of the five is at most n
+pub record TotalsMost (n : ℕ) (t : Totals) : Type 0 where
+  pub cleared : value t.cleared.0 ≤ n
+  pub onsite : value t.onsite.0 ≤ n
+  pub offsite : value t.offsite.0 ≤ n
+  pub decay : value t.decay.0 ≤ n
+  pub thinner : value t.thinner.0 ≤ n
+
+-- the sums over rows, in their one form
 unfoldable pub totals_of : List (List ℕ) → Totals
 totals_of rs = record {
   cleared = dry_matter (column_l rs);
@@ -42,8 +57,3 @@ totals_of rs = record {
   decay = carbon (decay_total rs);
   thinner = periods (thinner_total rs);
 }
-
--- there is room for one row more
-abbrev pub Room : Totals → Type 0
-Room t =
-    (value t.cleared.0 < 2 ^ 100) × (value t.onsite.0 < 2 ^ 100) × (value t.offsite.0 < 2 ^ 100) × (value t.decay.0 < 2 ^ 100) × (value t.thinner.0 < 2 ^ 100)

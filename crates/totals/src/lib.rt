@@ -1,16 +1,21 @@
 // Sums over the conversion rows, read in the caller's bytes in place.
 #![tactic(auto)]
 
+pub mod adding;
+
 ghost use Rattle.std.specs.Prelude.{◌≡◌, ◌+◌, ◌*◌, ◌/◌, ◌%◌, ◌^◌, ◌≤◌, ◌<◌, length, false, cond};
 ghost use Rattle.form.specs.Layout.{conversion, row_at, above_limit};
 ghost use Rattle.form.specs.Records.{thinner, counted_difference};
 ghost use Rattle.form.specs.Verdict.{rows, Formed};
-ghost use Rattle.wide.specs.Numbers.{value, Is};
+ghost use Rattle.wide.specs.Numbers.{value};
 ghost use Rattle.totals.specs.Columns.{decay_part, thinner_part};
-ghost use Rattle.totals.specs.Sums.{parts_of, Added, Room, totals_of};
+ghost use Rattle.totals.specs.Masses.{dry_matter, carbon, periods};
+ghost use Rattle.totals.specs.Sums.{parts_of, row_totals, no_totals, plus_totals, TotalsMost, totals_of};
+ghost use Rattle.totals.specs.Laws.{amounts, totals_none, totals_both, totals_fit};
 
-use form::{Counts, counted_difference, four_at, row_start, two_at};
-use wide::{Wide, add_word, of};
+use crate::adding::{AddsUp, Mass, sum_rows};
+use form::{Counts, counted_difference, four_at, two_at};
+use wide::{Wide, of, times};
 
 // Masses of one substance, each counted in the unit of its column.
 #[derive(Clone, Copy)]
@@ -55,6 +60,14 @@ pub fn carbon_of(mass: DryMatterPart, fraction: u32) -> CarbonPart
     ensures { result.0 ≡ mass.0 * fraction }
 {
     CarbonPart(mass.0 * (fraction as u64))
+}
+
+// The same where a row's carbon takes two words.
+pub fn wide_carbon_of(mass: DryMatterPart, share: u32) -> Carbon
+    requires { mass.0 * share < 2 ^ 120 }
+    ensures { result ≡ carbon (mass.0 * share) }
+{
+    Carbon(times(of(mass.0), share))
 }
 
 // The carbon of what is burned: at most 10 ^ 19, so that one word holds it.
@@ -151,38 +164,129 @@ pub struct Totals {
     pub thinner: Periods,
 }
 
-// A row's part goes to the sum of its own substance, or to that of periods.
-fn plus_dry_matter(sum: DryMatter, part: DryMatterPart) -> DryMatter
-    requires { value sum.0 < 2 ^ 100 }
-    ensures { Is result.0 (value sum.0 + part.0) }
-{
-    DryMatter(add_word(sum.0, part.0))
+// A substance is its number in two words.
+impl Mass for DryMatter {
+    ghost amount = { λ m. value m.0 };
+
+    ghost of_amount = { dry_matter };
+
+    ghost amounts = { amounts };
+
+    fn words(self) -> Wide {
+        self.0
+    }
+
+    fn of_words(words: Wide) -> DryMatter {
+        DryMatter(words)
+    }
 }
 
-fn plus_carbon(sum: Carbon, part: CarbonPart) -> Carbon
-    requires { value sum.0 < 2 ^ 100 }
-    ensures { Is result.0 (value sum.0 + part.0) }
-{
-    Carbon(add_word(sum.0, part.0))
+impl Mass for Carbon {
+    ghost amount = { λ m. value m.0 };
+
+    ghost of_amount = { carbon };
+
+    ghost amounts = { amounts };
+
+    fn words(self) -> Wide {
+        self.0
+    }
+
+    fn of_words(words: Wide) -> Carbon {
+        Carbon(words)
+    }
 }
 
-fn plus_periods(sum: Periods, part: PeriodsPart) -> Periods
-    requires { value sum.0 < 2 ^ 100 }
-    ensures { Is result.0 (value sum.0 + part.0) }
-{
-    Periods(add_word(sum.0, part.0))
+impl Mass for Periods {
+    ghost amount = { λ m. value m.0 };
+
+    ghost of_amount = { periods };
+
+    ghost amounts = { amounts };
+
+    fn words(self) -> Wide {
+        self.0
+    }
+
+    fn of_words(words: Wide) -> Periods {
+        Periods(words)
+    }
 }
 
-fn add_row(t: Totals, p: Parts) -> Totals
-    requires { Room t }
-    ensures { Added t p result }
-{
-    Totals {
-        cleared: plus_dry_matter(t.cleared, p.cleared),
-        onsite: plus_carbon(t.onsite, p.onsite),
-        offsite: plus_carbon(t.offsite, p.offsite),
-        decay: plus_carbon(t.decay, p.decay),
-        thinner: plus_periods(t.thinner, p.thinner),
+// A row's part goes to its own substance, or to periods.
+impl From<DryMatterPart> for DryMatter {
+    ghost from_gives = { λ part mass. mass ≡ dry_matter part.0 };
+
+    fn from(part: DryMatterPart) -> DryMatter {
+        DryMatter::of_word(part.0)
+    }
+}
+
+impl From<CarbonPart> for Carbon {
+    ghost from_gives = { λ part mass. mass ≡ carbon part.0 };
+
+    fn from(part: CarbonPart) -> Carbon {
+        Carbon::of_word(part.0)
+    }
+}
+
+impl From<PeriodsPart> for Periods {
+    ghost from_gives = { λ part mass. mass ≡ periods part.0 };
+
+    fn from(part: PeriodsPart) -> Periods {
+        Periods::of_word(part.0)
+    }
+}
+
+impl From<Parts> for Totals {
+    ghost from_gives = { λ parts totals. totals ≡ row_totals parts };
+
+    fn from(parts: Parts) -> Totals {
+        Totals {
+            cleared: parts.cleared.into(),
+            onsite: parts.onsite.into(),
+            offsite: parts.offsite.into(),
+            decay: parts.decay.into(),
+            thinner: parts.thinner.into(),
+        }
+    }
+}
+
+impl AddsUp for Totals {
+    ghost none = { no_totals };
+
+    ghost both = { plus_totals };
+
+    ghost Most = { TotalsMost };
+
+    ghost Fit = { λ a b. TotalsMost (2 ^ 110) a × TotalsMost (2 ^ 110) b };
+
+    ghost row_most = { 2 ^ 64 };
+
+    ghost most_none = { totals_none };
+
+    ghost most_both = { totals_both };
+
+    ghost fit = { totals_fit };
+
+    fn nothing() -> Totals {
+        Totals {
+            cleared: DryMatter::nothing(),
+            onsite: Carbon::nothing(),
+            offsite: Carbon::nothing(),
+            decay: Carbon::nothing(),
+            thinner: Periods::nothing(),
+        }
+    }
+
+    fn plus(self, other: Totals) -> Totals {
+        Totals {
+            cleared: self.cleared.plus(other.cleared),
+            onsite: self.onsite.plus(other.onsite),
+            offsite: self.offsite.plus(other.offsite),
+            decay: self.decay.plus(other.decay),
+            thinner: self.thinner.plus(other.thinner),
+        }
     }
 }
 
@@ -191,19 +295,5 @@ pub fn sum_conversion(bytes: &[u8], c: Counts) -> Totals
     requires { Formed bytes.now c }
     ensures { result ≡ totals_of (rows 1 bytes.now) }
 {
-    let n = c.conversion as usize;
-    let zero = of(0);
-    let mut t = Totals {
-        cleared: DryMatter(zero),
-        onsite: Carbon(zero),
-        offsite: Carbon(zero),
-        decay: Carbon(zero),
-        thinner: Periods(zero),
-    };
-    let mut i: usize = 0;
-    while i < n {
-        t = add_row(t, parts_at(bytes, row_start(0, i)));
-        i += 1;
-    }
-    t
+    sum_rows(bytes, c, 1, |at| Totals::from(parts_at(bytes, at)))
 }

@@ -17,8 +17,8 @@ use Rattle.form.specs.Records.{filed_rows}
 use Rattle.form.specs.Sums.{scattered_in}
 use Rattle.form.specs.Verdict.{rules, counts_of, count_in, verdict_by, verdict_of}
 use Rattle.form.specs.declared.Counts.{Counts}
-use Rattle.form.specs.declared.Ruling.TheVariants.{Clean}
-use Rattle.form.specs.declared.Verdict.TheVariants.{Accepted}
+use Rattle.form.specs.Refusals.{Clean}
+use Rattle.std.specs.Prelude.{Ok}
 use Rattle.form.proofs.Search.{first_is_none}
 use Rattle.form.proofs.Order.{ruling_append, kept, kept-before, long_enough, or_clean}
 use Rattle.form.proofs.Meaning.{clean_of}
@@ -29,7 +29,6 @@ use Rattle.filing.proofs.Laying.{length_part}
 use Rattle.lists.specs.Rules.{list_rules}
 use Rattle.rows.specs.Reading.{rows_of, area_to, outgrown, read_rules, read_answer, room_after, row_lists, lengths_of}
 use Rattle.rows.specs.Writing.{written, room_rule, write_rules, written_by, write_answer, bytes_after}
-use Rattle.rows.specs.declared.Written.TheVariants.{Done}
 use Rattle.rows.proofs.Return.{done_by}
 use Rattle.trips.proofs.WriteBack.{lengths_are}
 use Rattle.trips.proofs.RoundTrips.{area_is, accepted_again, edition_again, counts_again, scattered_again, rows_again, clean_again, bytes_again}
@@ -38,9 +37,9 @@ use Rattle.trips.proofs.RoundTrips.{area_is, accepted_again, edition_again, coun
 
 -- the bytes that a write left at the front of its room
 abbrev pub returned : ℕ → List ℕ → List ℕ → List ℕ → ℕ → List ℕ
-returned ed lengths area room n = take n (bytes_after ed lengths area room (Done n))
+returned ed lengths area room n = take n (bytes_after ed lengths area room (Ok n))
 
-module _ (ed : ℕ) (lengths area room : List ℕ) (n : ℕ) (done : write_answer ed lengths area room ≡ Done n) where
+module _ (ed : ℕ) (lengths area room : List ℕ) (n : ℕ) (done : write_answer ed lengths area room ≡ Ok n) where
   -- the return that is written
   abbrev w : List ℕ
   w = written ed (cut lengths area)
@@ -60,7 +59,7 @@ module _ (ed : ℕ) (lengths area room : List ℕ) (n : ℕ) (done : write_answe
   none_outgrown rows h k l =
       le-ltb (length rows) (length (area_to w k)) (omega (arith, length_part (rows_of w) k kinds (omega arith), ap length (rows_again ed lengths area clean)))
 
-  accepts : (rows : List ℕ) → length area ≤ length rows → read_answer w rows ≡ Accepted (counts_of w)
+  accepts : (rows : List ℕ) → length area ≤ length rows → read_answer w rows ≡ Ok (counts_of w)
   unfolding read_answer ruling
   accepts rows h =
       let last = rule 9 (suc kinds) (outgrown w (length rows)) in
@@ -68,7 +67,7 @@ module _ (ed : ℕ) (lengths area room : List ℕ) (n : ℕ) (done : write_answe
       (kept-before (rules w) (last ∷ []) (accepted-ruling w (counts_of w) (accepted_again ed lengths area clean))
       ∙ sym (kept last [] (first_is_none (outgrown w (length rows)) (suc kinds) (none_outgrown rows h)) refl))
 
-  pub read-accepted : (rows : List ℕ) → length area ≤ length rows → read_answer (returned ed lengths area room n) rows ≡ Accepted (counts_of (returned ed lengths area room n))
+  pub read-accepted : (rows : List ℕ) → length area ≤ length rows → read_answer (returned ed lengths area room n) rows ≡ Ok (counts_of (returned ed lengths area room n))
   read-accepted rows h = rw left (accepts rows h)
 
   pub read-counts : (k : ℕ) → k < kinds → count_in (counts_of (returned ed lengths area room n)) (suc k) ≡ rows_in (suc k) (get_or lengths k 0)
@@ -78,7 +77,7 @@ module _ (ed : ℕ) (lengths area room : List ℕ) (n : ℕ) (done : write_answe
   pub read-scattered : (counts_of (returned ed lengths area room n)).scattered ≡ scattered_in (filed_rows (filed_lists (cut lengths area)) 2)
   read-scattered = ap (λ (x : List ℕ). (counts_of x).scattered) left ∙ scattered_again ed lengths area clean
 
-  pub read-rows : (rows : List ℕ) (c : Counts) → room_after (returned ed lengths area room n) rows (Accepted c) ≡ on_front area rows
+  pub read-rows : (rows : List ℕ) (c : Counts) → room_after (returned ed lengths area room n) rows (Ok c) ≡ on_front area rows
   read-rows rows c = rw left (ap (λ (x : List ℕ). on_front x rows) (rows_again ed lengths area clean))
 
   pub read-edition : (counts_of (returned ed lengths area room n)).edition ≡ ed
@@ -88,15 +87,15 @@ module _ (ed : ℕ) (lengths area room : List ℕ) (n : ℕ) (done : write_answe
 
 -- the rows that a read left at the front of its room: as many numbers as its counts say
 abbrev pub left_behind : List ℕ → List ℕ → Counts → List ℕ
-left_behind s rows c = take (total (lengths_of c)) (room_after s rows (Accepted c))
+left_behind s rows c = take (total (lengths_of c)) (room_after s rows (Ok c))
 
-module _ (s rows : List ℕ) (c : Counts) (done : read_answer s rows ≡ Accepted c) where
-  judged : verdict_of s ≡ Accepted c
+module _ (s rows : List ℕ) (c : Counts) (done : read_answer s rows ≡ Ok c) where
+  judged : verdict_of s ≡ Ok c
   unfolding read_answer verdict_of
   judged =
       let d = clean_of s (ruling (read_rules s rows)) c done in
       let u = or_clean (ruling (rules s)) _ (sym (ruling_append (rules s) (rule 9 (suc kinds) (outgrown s (length rows)) ∷ [])) ∙ d.0) in
-      ap (verdict_by s) u ∙ ap Accepted (sym d.1)
+      ap (verdict_by s) u ∙ ap Ok (sym d.1)
 
   pub left_is : left_behind s rows c ≡ area_to s kinds
   left_is =
@@ -114,11 +113,11 @@ module _ (s rows : List ℕ) (c : Counts) (done : read_answer s rows ≡ Accepte
         kept-before (list_rules c.edition (lengths_of c) (area_to s kinds)) (room_rule c.edition (cut (lengths_of c) (area_to s kinds)) room ∷ []) (clean_again s c judged)
         ∙ long_enough (length (written c.edition (cut (lengths_of c) (area_to s kinds)))) room (rw (ap length same) long)
 
-    pub write_done : write_answer c.edition (lengths_of c) (left_behind s rows c) room ≡ Done (length s)
+    pub write_done : write_answer c.edition (lengths_of c) (left_behind s rows c) room ≡ Ok (length s)
     unfolding write_answer
     write_done =
         rw left_is
-        (ap (written_by c.edition (cut (lengths_of c) (area_to s kinds))) clean-room ∙ ap (λ (x : List ℕ). Done (length x)) same)
+        (ap (written_by c.edition (cut (lengths_of c) (area_to s kinds))) clean-room ∙ ap (λ (x : List ℕ). Ok (length x)) same)
 
-    pub write_same : bytes_after c.edition (lengths_of c) (left_behind s rows c) room (Done (length s)) ≡ on_front s room
+    pub write_same : bytes_after c.edition (lengths_of c) (left_behind s rows c) room (Ok (length s)) ≡ on_front s room
     write_same = rw left_is (ap (λ (x : List ℕ). on_front x room) same)

@@ -21,7 +21,7 @@ use Rattle.form.specs.Records.{Filed, filed, filed_rows}
 use Rattle.form.specs.Sums.{scattered_in, filed_rules}
 use Rattle.form.specs.Verdict.{block_rules, count_below, row_count, rows, counts_of, verdict_of}
 use Rattle.form.specs.Standing.{blocks_for, start_block, start_place, rows_from}
-use Rattle.form.specs.declared.Verdict.TheVariants.{Accepted}
+use Rattle.std.specs.Prelude.{Ok}
 use Rattle.form.proofs.Search.{any_none}
 use Rattle.form.proofs.Order.{Kept, AllKept, more, ruling-clean, clean-ruling}
 use Rattle.form.proofs.EachKind.{parameters-kind}
@@ -250,7 +250,7 @@ module _ (ed : ℕ) (l : Lists) (ok : Clear ed l) where
       rw edition_back
       (ruling-clean (sym (rules_same ed (filed_lists l) (filed s) all_alike places_there (solid_lists 1 l)) ∙ clean-ruling ok.records))
 
-  pub accepted_back : verdict_of s ≡ Accepted (counts_of s)
+  pub accepted_back : verdict_of s ≡ Ok (counts_of s)
   unfolding block_rules Kept
   accepted_back = (accepted s).1 (more (λ p h. length-kept) (more check-kept (more header_kept (more block_kept records_there))))
 

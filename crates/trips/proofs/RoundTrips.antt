@@ -16,8 +16,8 @@ use Rattle.form.specs.Sums.{scattered_in}
 use Rattle.form.specs.Verdict.{row_count, rows, counts_of, Formed, verdict_of}
 use Rattle.form.specs.Standing.{rows_from}
 use Rattle.form.specs.declared.Counts.{Counts}
-use Rattle.form.specs.declared.Ruling.TheVariants.{Clean}
-use Rattle.form.specs.declared.Verdict.TheVariants.{Accepted}
+use Rattle.form.specs.Refusals.{Clean}
+use Rattle.std.specs.Prelude.{Ok}
 use Rattle.standing.proofs.Accepted.{accepted-ruling, formed, formed_counts}
 use Rattle.filing.specs.Lists.{Lists, of_kind, cut, rows_in, filed_list, filed_lists}
 use Rattle.filing.specs.Written.{in_turn}
@@ -46,7 +46,7 @@ module _ (ed : ℕ) (lengths area : List ℕ) (clean : ruling (list_rules ed len
   good_lists : Good lengths (length area)
   good_lists = (kept-lists ed lengths area clean).0
 
-  pub accepted_again : verdict_of (written ed (cut lengths area)) ≡ Accepted (counts_of (written ed (cut lengths area)))
+  pub accepted_again : verdict_of (written ed (cut lengths area)) ≡ Ok (counts_of (written ed (cut lengths area)))
   accepted_again = accepted_back ed (cut lengths area) ok
 
   pub counts_again : (k : ℕ) → k < kinds → row_count (suc k) (written ed (cut lengths area)) ≡ rows_in (suc k) (get_or lengths k 0)
@@ -71,14 +71,14 @@ module _ (ed : ℕ) (l : Lists) (clean : ruling (list_rules ed (map length l) (f
   ok_lists : Clear ed l
   ok_lists = subst (λ (x : Lists). Clear ed x) (cut-flat l) (clear ed (map length l) (flatten l) clean)
 
-  pub lists-accepted : verdict_of (written ed l) ≡ Accepted (counts_of (written ed l))
+  pub lists-accepted : verdict_of (written ed l) ≡ Ok (counts_of (written ed l))
   lists-accepted = accepted_back ed l ok_lists
 
   pub lists-rows : (k : ℕ) → k < kinds → rows (suc k) (written ed l) ≡ rows_from (filed_list (suc k) (of_kind l (suc k))) 0 (rows_in (suc k) (length (of_kind l (suc k))))
   lists-rows k h = each_back ed l ok_lists k h
 
 -- an accepted return: no rule refuses its rows, cut by the lengths that its counts give, and their return is the return
-module _ (s : List ℕ) (c : Counts) (accepted : verdict_of s ≡ Accepted c) where
+module _ (s : List ℕ) (c : Counts) (accepted : verdict_of s ≡ Ok c) where
   acc : Formed s c
   acc = formed s c accepted
 

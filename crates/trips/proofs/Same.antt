@@ -13,8 +13,8 @@ use Rattle.form.specs.First.{first}
 use Rattle.form.specs.Ruling.{rule, refuse, ruling}
 use Rattle.form.specs.Records.{Filed, RowTest, RowRule, has_id, id_of, bad_id, broken_by, row_rules, over_places, record_rules, rows_below, filed_rows}
 use Rattle.form.specs.Sums.{cleared_above, soil_type, lowest_uneven, soil_uneven, sum_rules, filed_rules}
-use Rattle.form.specs.declared.Spot.{Spot}
-use Rattle.form.specs.declared.Ruling.TheVariants.{Clean}
+use Rattle.form.specs.Refusals.{Clean}
+use Rattle.std.specs.Prelude.{Option}
 use Rattle.form.proofs.Order.{or_rule, ruling_append}
 use Rattle.form.proofs.Tests.{guarded}
 use Rattle.form.proofs.Search.{first_same}
@@ -78,7 +78,7 @@ module _ (e : ℕ) (f g : Filed) (a : Alike f 0 g 0 f.places) (same : f.places �
   sums_same : ruling (sum_rules f) ≡ ruling (sum_rules g)
   unfolding ruling
   sums_same =
-      ap₂ (λ (b : Bool) (s : Spot). refuse 12 (first (λ p. b) 1) (refuse 13 s Clean))
+      ap₂ (λ (b : Bool) (s : Option ℕ). refuse 12 (first (λ p. b) 1) (refuse 13 s Clean))
       (ap₂ cleared_above (kind_same 3) (kind_same 1))
       (at (soil_uneven f) (soil_uneven g) soil_same)
 

@@ -14,7 +14,7 @@ use Rattle.form.specs.Edition.{last_kind}
 use Rattle.form.specs.Block.{most_blocks, blocks, kind_of, count_of, record_at, stray_record}
 use Rattle.form.specs.Records.{Filed, filed, field_above, broken_by}
 use Rattle.form.specs.Sums.{filed_rules}
-use Rattle.form.specs.declared.Ruling.TheVariants.{Clean}
+use Rattle.form.specs.Refusals.{Clean}
 use Rattle.form.proofs.Order.{Kept, AllKept, more, ruling-clean, kept_of}
 use Rattle.form.proofs.Tests.{and_rest, either}
 use Rattle.form.proofs.EachKind.{parameters-kind, few_kinds, small-edition}

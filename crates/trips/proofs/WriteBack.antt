@@ -18,7 +18,7 @@ use Rattle.form.specs.Records.{filed}
 use Rattle.form.specs.Sums.{filed_rules}
 use Rattle.form.specs.Verdict.{block_rules, form_rules, rules, row_count, count_list, Formed}
 use Rattle.form.specs.declared.Counts.{Counts}
-use Rattle.form.specs.declared.Ruling.TheVariants.{Clean}
+use Rattle.form.specs.Refusals.{Clean}
 use Rattle.form.proofs.Search.{first_is_none}
 use Rattle.form.proofs.Order.{kept, Kept, AllKept, ruling-clean, clean-ruling, append_kept, kept_of}
 use Rattle.form.proofs.Tests.{or_none}

@@ -1,14 +1,14 @@
 // The other masses. One substance becomes another only by a step named here.
 #![tactic(auto)]
 
-ghost use Rattle.std.specs.Prelude.{◌≡◌, ◌+◌, ◌*◌, ◌^◌, ◌<◌};
+ghost use Rattle.std.specs.Prelude.{◌≡◌, ◌*◌, ◌^◌, ◌<◌};
 ghost use Rattle.wide.specs.Numbers.{value};
-ghost use Rattle.units.specs.Columns.{column_m, column_o, column_p, column_q, reported, sum_of_both, co2_of, uptake_co2};
+ghost use Rattle.units.specs.Columns.{column_m, column_o, column_p, column_q, reported, co2_of, uptake_co2};
 
 use totals::{Carbon, DryMatter};
 use wide::rounding::rounded;
 use wide::signed::{Signed, difference, minus, negated, rounded_signed, times_signed};
-use wide::{Wide, add, times};
+use wide::{Wide, times};
 
 // Dry matter, carbon and tonnes of CO2 that may be below zero.
 #[derive(Clone, Copy)]
@@ -61,13 +61,6 @@ pub fn emission(q: NetCo2) -> NetCo2
     ensures { result ≡ reported q }
 {
     NetCo2(negated(q.0))
-}
-
-pub fn both(a: Carbon, b: Carbon) -> Carbon
-    requires { value a.0 + value b.0 < 2 ^ 120 }
-    ensures { result ≡ sum_of_both a b }
-{
-    Carbon(add(a.0, b.0))
 }
 
 // Carbon to CO2, by 44/12.

@@ -7,7 +7,7 @@ ghost use Rattle.unpacked.specs.Rooms.{unpack_room};
 
 use console::{complain, put_sized, take};
 use explained::{EXPLAIN_ROOM, explain_lines};
-use form::{LONGEST, Ruling};
+use form::LONGEST;
 use unpacked::{UNPACK_ROOM, unpack};
 
 // Room of EXPLAIN_ROOM bytes is never too short for the text.
@@ -23,7 +23,7 @@ fn hand_out(rt: &HostRuntime, bytes: &[u8], room: &mut [u8], size: &mut [u32])
     requires { (unpack_room ≤ length room.old) × (1 ≤ length size.old) }
 {
     match unpack(bytes, room, size) {
-        Ruling::Clean => {
+        Ok(()) => {
             put_sized(
                 rt,
                 room,
@@ -31,10 +31,7 @@ fn hand_out(rt: &HostRuntime, bytes: &[u8], room: &mut [u8], size: &mut [u32])
                 b"unpack: standard output did not take all the rows\n",
             );
         }
-        Ruling::Broken {
-            number: _,
-            place: _,
-        } => {
+        Err(_) => {
             let mut why = [0u8; EXPLAIN_ROOM];
             refuse(rt, bytes, &mut why);
         }
@@ -44,11 +41,9 @@ fn hand_out(rt: &HostRuntime, bytes: &[u8], room: &mut [u8], size: &mut [u32])
 // One byte more than the longest return is taken, so that a longer input is refused for its length.
 fn main(rt: HostRuntime) {
     let mut bytes = [0u8; LONGEST + 1];
-    let taken = take(&rt, &mut bytes, b"unpack: the input could not be read\n");
-    if !taken.whole {
+    let Ok(n) = take(&rt, &mut bytes, b"unpack: the input could not be read\n") else {
         return;
-    }
-    let n = taken.count;
+    };
     let mut room = [0u8; UNPACK_ROOM];
     let mut size = [0u32; 1];
     hand_out(&rt, &bytes[..n], &mut room, &mut size);

@@ -1,10 +1,9 @@
 -- The text of a return from C: "a code and a lent size, as `niloferq_write` has them"; "a refusal's code of the return .. ; last 9000: room_len is below the text's
 -- length, or size_len is 0. On a refusal nothing lent has changed."
-use Rattle.std.specs.Prelude.{ℕ, ◌||◌, List, [], ◌∷◌, ◌++◌, length, ltb}
+use Rattle.std.specs.Prelude.{ℕ, ◌||◌, List, [], ◌∷◌, ◌++◌, length, ltb, Err}
 use Rattle.form.specs.Ruling.{Rule, rule, on_front, ruling}
 use Rattle.form.specs.Verdict.{rules}
-use Rattle.form.specs.declared.Ruling.{Ruling}
-use Rattle.form.specs.declared.Ruling.TheVariants.{Clean, Broken}
+use Rattle.form.specs.Refusals.{Clean, Ruling}
 use Rattle.unpacked.specs.Unpacked.{unpacked_text}
 
 -- 9, place 0: the room for the text, or that for its number of bytes
@@ -21,12 +20,12 @@ unpack_call s room size = ruling (unpack_rules s room size)
 -- the room afterwards: exactly the text at the front, or as it was
 abbrev pub room_by : List ℕ → List ℕ → Ruling → List ℕ
 room_by s room Clean = on_front (unpacked_text s) room
-room_by s room (Broken n p) = room
+room_by s room (Err r) = room
 
 -- and that of the size: the text's number of bytes, or as it was
 abbrev pub size_by : List ℕ → List ℕ → Ruling → List ℕ
 size_by s size Clean = on_front (length (unpacked_text s) ∷ []) size
-size_by s size (Broken n p) = size
+size_by s size (Err r) = size
 
 -- both rooms after a call
 abbrev pub text_unpacked : List ℕ → List ℕ → List ℕ → List ℕ

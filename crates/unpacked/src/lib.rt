@@ -7,7 +7,6 @@ ghost use Rattle.std.specs.Prelude.{◌≡◌, [], ◌∷◌, ◌++◌, ◌+◌,
 ghost use Rattle.form.specs.Layout.{kinds, numbers_of};
 ghost use Rattle.form.specs.Block.{blocks};
 ghost use Rattle.form.specs.Verdict.{verdict_of, Formed};
-ghost use Rattle.form.specs.declared.Verdict.TheVariants.{Accepted};
 ghost use Rattle.filing.specs.Written.{in_turn};
 ghost use Rattle.filing.specs.Tables.{row_on};
 ghost use Rattle.rows.specs.Reading.{row_lists};
@@ -19,10 +18,10 @@ ghost use Rattle.unpacked.specs.Calls.{unpack_call, text_unpacked, size_unpacked
 
 use decoding::decode_kind;
 use form::layout::numbers;
-use form::{Counts, KINDS, Ruling, Verdict, blocks_for, count_of};
+use form::{Counts, KINDS, Refusal, blocks_for, count_of, room_for};
 use judge::judge;
+use phrases::put_text;
 use phrases::text::{put, put_byte};
-use phrases::{Put, put_short};
 
 // Room that is always enough for the text.
 pub const UNPACK_ROOM: usize = 33500;
@@ -32,7 +31,7 @@ fn put_edition(edition: u32, out: &mut [u8], at: usize) -> usize
     requires { at + edition_room ≤ length out.old }
     ensures { WrittenIn edition_room (edition_line edition ++ 10 ∷ []) out.old out.new at result }
 {
-    let a = put(b"edition,", 8, out, at);
+    let a = put(b"edition,", out, at);
     let b = decimal::write(wide::of(edition as u64), out, a);
     put_byte(10, out, b)
 }
@@ -70,12 +69,10 @@ fn put_kinds(bytes: &[u8], counts: Counts, out: &mut [u8], at: usize) -> usize
 {
     let mut first: usize = 0;
     let mut to = at;
-    let mut k: usize = 0;
-    while k < KINDS {
+    for k in 0..KINDS {
         let n = count_of(counts, k + 1) as usize;
         to = put_decoded(bytes, k + 1, 12 * first, n, out, to);
         first += blocks_for(n);
-        k += 1;
     }
     to
 }
@@ -89,41 +86,36 @@ fn write_unpacked(bytes: &[u8], counts: Counts, out: &mut [u8]) -> usize
     put_kinds(bytes, counts, out, next)
 }
 
-// The text first in room of our own: lent room is stored to only when it is long enough.
-fn unpack_accepted(bytes: &[u8], counts: Counts, room: &mut [u8], size: &mut [u32]) -> Ruling
-    requires { verdict_of bytes.now ≡ Accepted counts }
+fn unpack_accepted(
+    bytes: &[u8],
+    counts: Counts,
+    room: &mut [u8],
+    size: &mut [u32],
+) -> Result<(), Refusal>
+    requires { verdict_of bytes.now ≡ Ok counts }
     ensures value { result ≡ unpack_call bytes.now room.old size.old }
     ensures room_after { room.new ≡ text_unpacked bytes.now room.old size.old }
     ensures size_after { size.new ≡ size_unpacked bytes.now room.old size.old }
 {
-    if size.len() < 1 {
-        return Ruling::Broken {
+    room_for(1, size.len())?;
+    match put_text::<UNPACK_ROOM, _>(room, |out| write_unpacked(bytes, counts, out)) {
+        None => Err(Refusal {
             number: 9,
             place: 0,
-        };
-    }
-    let mut space = [0u8; UNPACK_ROOM];
-    let n = write_unpacked(bytes, counts, &mut space);
-    match put_short(&space, n, room) {
-        Put::Short => Ruling::Broken {
-            number: 9,
-            place: 0,
-        },
-        Put::Done(m) => {
-            size[0] = m as u32;
-            Ruling::Clean
+        }),
+        Some(n) => {
+            size[0] = n as u32;
+            Ok(())
         }
     }
 }
 
 // The text of an accepted return at the front of the room and its number of bytes as the first size; or the rule that is broken, and both as they were.
-pub fn unpack(bytes: &[u8], room: &mut [u8], size: &mut [u32]) -> Ruling
+pub fn unpack(bytes: &[u8], room: &mut [u8], size: &mut [u32]) -> Result<(), Refusal>
     ensures value { result ≡ unpack_call bytes.now room.old size.old }
     ensures room_after { room.new ≡ text_unpacked bytes.now room.old size.old }
     ensures size_after { size.new ≡ size_unpacked bytes.now room.old size.old }
 {
-    match judge(bytes) {
-        Verdict::Refused { number, place } => Ruling::Broken { number, place },
-        Verdict::Accepted(counts) => unpack_accepted(bytes, counts, room, size),
-    }
+    let counts = judge(bytes)?;
+    unpack_accepted(bytes, counts, room, size)
 }

@@ -68,9 +68,9 @@ fn put_unit(code: u32, out: &mut [u8], at: usize) -> usize
     ensures { WrittenIn field_room (unit_word code) out.old out.new at result }
 {
     if code == 1 {
-        return put(b"trees", 5, out, at);
+        return put(b"trees", out, at);
     }
-    put(b"land", 4, out, at)
+    put(b"land", out, at)
 }
 
 // The one field that is a word.
@@ -100,11 +100,9 @@ fn put_row(kind: usize, row: &[u32], out: &mut [u8], at: usize) -> usize
     ensures { WrittenIn (row_room kind) (row_line kind row.now ++ 10 ∷ []) out.old out.new at result }
 {
     let mut to = put_kind_name(kind as u32, out, at);
-    let mut i: usize = 0;
-    while i < row.len() {
+    for i in 0..row.len() {
         let next = put_byte(44, out, to);
         to = put_field(kind, row, i, out, next);
-        i += 1;
     }
     put_byte(10, out, to)
 }
@@ -116,12 +114,10 @@ fn put_rows(kind: usize, rows: &[u32], n: usize, out: &mut [u8], at: usize) -> u
 {
     let m = numbers(kind);
     let mut to = at;
-    let mut i: usize = 0;
-    while i < n {
+    for i in 0..n {
         let from = m * i;
         let end = from + m;
         to = put_row(kind, &rows[from..end], out, to);
-        i += 1;
     }
     to
 }
@@ -136,45 +132,38 @@ fn put_note(kind: usize, out: &mut [u8], at: usize) -> usize
             b"# conversion,id,area (kha),before (t/ha),after (t/ha),on-site_fraction,on-site_oxidised_fraction,on-site_carbon_fraction,\
               off-site_fraction,off-site_oxidised_fraction,off-site_carbon_fraction,ten-year_area (kha),ten-year_before (t/ha),ten-year_after (t/ha),\
               decay_fraction,decay_carbon_fraction\n",
-            293,
             out,
             at,
         ),
         2 => put(
             b"# stock,id,unit_code (land or trees),rate (t/ha or kt per 1000 trees),amount (kha or 1000 trees),carbon_fraction\n",
-            113,
             out,
             at,
         ),
         3 => put(
             b"# harvest,id,F (1000 m3),G (t/m3),I (kt),J (kt)\n",
-            48,
             out,
             at,
         ),
-        4 => put(b"# parameters,N,CH4,CO,N/C,N2O,NOx\n", 34, out, at),
+        4 => put(b"# parameters,N,CH4,CO,N/C,N2O,NOx\n", out, at),
         5 => put(
             b"# abandoned,id,area (kha),growth_rate (t/ha),carbon_fraction,longer_area (kha),longer_growth_rate (t/ha),longer_carbon_fraction\n",
-            128,
             out,
             at,
         ),
         6 => put(
             b"# savanna,id,area (kha),density (t/ha),fraction_really_burned,live_fraction,live_oxidised_fraction,live_carbon_fraction,\
               dead_oxidised_fraction,dead_carbon_fraction,N/C,CH4,CO,N2O,NOx\n",
-            183,
             out,
             at,
         ),
         7 => put(
             b"# soil,id,land_system,soil_type,area_now (Mha),area_then (Mha),native (t/ha),base,tillage,input\n",
-            96,
             out,
             at,
         ),
         _ => put(
             b"# crop,id,production (kt),residue_ratio,dry_matter,burned_fraction,oxidised_fraction,carbon_fraction,N/C,CH4,CO,N2O,NOx\n",
-            120,
             out,
             at,
         ),

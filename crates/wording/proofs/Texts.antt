@@ -1,14 +1,13 @@
 -- The texts of names that the code has, each name with a space behind it, and the lines that they make. Assumes nothing.
 use Prim.Native.Nat.{ℕ, ◌≤◌}
-use mathlib.Core.Path.{◌≡◌, refl, ap, ◌∙◌}
+use mathlib.Core.Path.{◌≡◌, refl, ap}
 use mathlib.Core.List.{List, [], ◌∷◌, ◌++◌, flat_map}
 use native.Mathlib.Omega.{arith}
 use lib.ListN.{length}
 use types.Run.{OneOf, miss}
 use denote.Enum.Declared.{tag_of}
 use Rattle.phrases.specs.Ascii.{codes}
-use Rattle.phrases.specs.Lines.{number_line, lines_text, spaces, filled_in, unsigned}
-use Rattle.phrases.specs.Words.{up_to_space, start_of, word_at}
+use Rattle.phrases.specs.Lines.{lines_text, spaces, filled_in, unsigned}
 use Rattle.phrases.proofs.LineTexts.{item, lines}
 use Rattle.faults.specs.contracts.Fault.{the_type}
 use Rattle.faults.specs.declared.Fault.{Fault}
@@ -18,7 +17,7 @@ use Rattle.reasons.specs.declared.Header.{Header}
 use Rattle.reasons.specs.declared.Reason.{Reason}
 use Rattle.reasons.specs.declared.Reason.TheVariants.{BadLength, BadCheck, BadHeader, BadBlock, IdBelow, FieldAbove, FractionsAbove, ClearedAbove, SoilUneven, ScatteredTrees}
 use Rattle.naming.specs.RowLines.{row_lines}
-use Rattle.wording.specs.Wording.{word_of, fault_words, fault_number, fault_line, header_lines, fault_lines, due_lines, wood_lines, value_lines}
+use Rattle.wording.specs.Wording.{word_of, fault_line, header_lines, fault_lines, due_lines, wood_lines, value_lines}
 
 abbrev pub header_names : List ℕ
 header_names = codes "kind count number blocks edition "
@@ -52,16 +51,6 @@ plain_lines h Overfilled o = refl
 plain_lines h (Stray i b) o = absurd (miss (1 ∷ 2 ∷ 3 ∷ 5 ∷ []) 6 tt o)
 
 -- the word of a fault, which is short, and its line
-pub word_number : (f : Fault) → word_at (fault_number f) fault_words ≡ word_of f
-unfolding up_to_space start_of
-word_number (Order k) = refl
-word_number End = refl
-word_number Fourth = refl
-word_number Count = refl
-word_number (Unfilled k) = refl
-word_number Overfilled = refl
-word_number (Stray i b) = refl
-
 pub word-short : (f : Fault) → length (word_of f) ≤ 10
 word-short (Order k) = omega arith
 word-short End = omega arith
@@ -71,17 +60,9 @@ word-short (Unfilled k) = omega arith
 word-short Overfilled = omega arith
 word-short (Stray i b) = omega arith
 
--- by the number n that the code found
-module _ (f : Fault) (n : ℕ) (e : n ≡ fault_number f) where
-  found : word_at n fault_words ≡ word_of f
-  found = ap (λ (k : ℕ). word_at k fault_words) e ∙ word_number f
-
-  pub found_short : length (word_at n fault_words) ≤ 10
-  found_short = omega (arith, word-short f, ap length found)
-
-  pub word-text : (codes "fault " ++ word_at n fault_words) ++ 10 ∷ [] ≡ lines_text (fault_line f ∷ [])
-  unfolding lines_text
-  word-text = ap (λ (w : List ℕ). (codes "fault " ++ w) ++ 10 ∷ []) found
+pub word-text : (f : Fault) (word : List ℕ) → word ≡ word_of f → (codes "fault " ++ word) ++ 10 ∷ [] ≡ lines_text (fault_line f ∷ [])
+unfolding lines_text
+word-text f word e = ap (λ (w : List ℕ). (codes "fault " ++ w) ++ 10 ∷ []) e
 
 -- the numbers of one row
 pub row-lines : (r : Reason) → OneOf (4 ∷ 5 ∷ 6 ∷ 8 ∷ 9 ∷ []) (tag_of reason.the_type r) → row_lines r ≡ value_lines r

@@ -29,19 +29,6 @@ word_of (Unfilled k) = codes "unfilled"
 word_of Overfilled = codes "overfilled"
 word_of (Stray i b) = codes "stray"
 
--- as the code finds it: all these words, each with a space behind it, and a word's number among them (`word_number`)
-abbrev pub fault_words : List ℕ
-fault_words = codes "order end fourth count unfilled overfilled stray "
-
-abbrev pub fault_number : Fault → ℕ
-fault_number (Order k) = 0
-fault_number End = 1
-fault_number Fourth = 2
-fault_number Count = 3
-fault_number (Unfilled k) = 4
-fault_number Overfilled = 5
-fault_number (Stray i b) = 6
-
 abbrev pub fault_line : Fault → Line
 fault_line f = word_line (codes "fault") (word_of f)
 

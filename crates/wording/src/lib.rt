@@ -5,27 +5,26 @@ mod lines;
 
 ghost use Rattle.std.specs.Prelude.{◌≡◌, ◌+◌, ◌≤◌, [], ◌∷◌, length};
 ghost use Rattle.phrases.specs.Lines.{WrittenIn, lines_text};
-ghost use Rattle.wording.specs.Wording.{fault_number, fault_line, fault_lines, value_lines};
+ghost use Rattle.wording.specs.Wording.{word_of, fault_line, fault_lines, value_lines};
 
 use crate::lines::{put_due, put_header, put_wood};
 use faults::Fault;
 use naming::put_row;
 use phrases::text::{put, put_byte};
-use phrases::{put_one, put_two, put_word};
+use phrases::{put_one, put_two};
 use reasons::{Header, Reason};
 
-// The number of its word among those below.
-fn fault_number(f: Fault) -> usize
-    ensures { result ≡ fault_number f }
+fn word_of(f: Fault) -> &'static [u8]
+    ensures { result.now ≡ word_of f }
 {
     match f {
-        Fault::Order { kind_before: _ } => 0,
-        Fault::End => 1,
-        Fault::Fourth => 2,
-        Fault::Count => 3,
-        Fault::Unfilled { kind_next: _ } => 4,
-        Fault::Overfilled => 5,
-        Fault::Stray { offset: _, byte: _ } => 6,
+        Fault::Order { kind_before: _ } => b"order",
+        Fault::End => b"end",
+        Fault::Fourth => b"fourth",
+        Fault::Count => b"count",
+        Fault::Unfilled { kind_next: _ } => b"unfilled",
+        Fault::Overfilled => b"overfilled",
+        Fault::Stray { offset: _, byte: _ } => b"stray",
     }
 }
 
@@ -34,14 +33,8 @@ fn put_fault_word(f: Fault, out: &mut [u8], at: usize) -> usize
     requires { at + 20 ≤ length out.old }
     ensures { WrittenIn 20 (lines_text (fault_line f ∷ [])) out.old out.new at result }
 {
-    let i = fault_number(f);
-    let a = put(b"fault ", 6, out, at);
-    let b = put_word(
-        b"order end fourth count unfilled overfilled stray ",
-        i,
-        out,
-        a,
-    );
+    let a = put(b"fault ", out, at);
+    let b = put(word_of(f), out, a);
     put_byte(10, out, b)
 }
 

@@ -4,6 +4,7 @@ ghost use Rattle.phrases.specs.Lines.{WrittenIn, lines_text};
 ghost use Rattle.wording.specs.Wording.{header_lines, due_lines, wood_lines};
 
 use phrases::put_lines;
+use phrases::text::plain;
 use reasons::Header;
 
 // A block's header, five lines.
@@ -11,13 +12,12 @@ pub fn put_header(h: Header, out: &mut [u8], at: usize) -> usize
     requires { at + 140 ≤ length out.old }
     ensures { WrittenIn 140 (lines_text (header_lines h)) out.old out.new at result }
 {
-    let kind = h.kind as u64;
-    let count = h.count as u64;
-    let number = h.number as u64;
-    let blocks = h.blocks as u64;
-    let edition = h.edition as u64;
     let values = [
-        0, 0, kind, 0, 0, count, 0, 0, number, 0, 0, blocks, 0, 0, edition,
+        plain(h.kind as u64),
+        plain(h.count as u64),
+        plain(h.number as u64),
+        plain(h.blocks as u64),
+        plain(h.edition as u64),
     ];
     put_lines(b"kind count number blocks edition ", &values, out, at)
 }
@@ -28,15 +28,9 @@ pub fn put_due(number: u32, blocks: u32, edition: u32, out: &mut [u8], at: usize
     ensures { WrittenIn 110 (lines_text (due_lines number blocks edition)) out.old out.new at result }
 {
     let values = [
-        0,
-        0,
-        number as u64,
-        0,
-        0,
-        blocks as u64,
-        0,
-        0,
-        edition as u64,
+        plain(number as u64),
+        plain(blocks as u64),
+        plain(edition as u64),
     ];
     put_lines(b"number_due blocks_due edition_first ", &values, out, at)
 }
@@ -46,6 +40,6 @@ pub fn put_wood(used: u64, cleared: u64, out: &mut [u8], at: usize) -> usize
     requires { at + 60 ≤ length out.old }
     ensures { WrittenIn 60 (lines_text (wood_lines used cleared)) out.old out.new at result }
 {
-    let values = [0, 0, used, 0, 0, cleared];
+    let values = [plain(used), plain(cleared)];
     put_lines(b"used cleared ", &values, out, at)
 }

@@ -4,7 +4,7 @@
 --     told            what an answer that meets the contract says; refused_verdict, worked_out, what that says of the verdict
 --     same_figures    rows that agree kind by kind have the same figures
 use Prim.Native.Nat.{ℕ, suc, ◌^◌, ◌<◌, ◌≤◌}
-use mathlib.Core.Path.{◌≡◌, refl, sym, ap, ◌∙◌}
+use mathlib.Core.Path.{◌≡◌, refl, sym, ap, ap₂, ◌∙◌}
 use mathlib.Core.List.{List, []}
 use native.Mathlib.Omega.{arith}
 use lib.Dec.{lit<, lit≤}
@@ -13,8 +13,9 @@ use Rattle.form.specs.Layout.{field, kinds, parameters_kind, parameters}
 use Rattle.form.specs.Sums.{column_k, column_l}
 use Rattle.form.specs.Verdict.{rows, Formed, verdict_of}
 use Rattle.form.specs.declared.Counts.{Counts}
-use Rattle.form.specs.declared.Verdict.{Verdict}
-use Rattle.form.specs.declared.Verdict.TheVariants as verdict
+use Rattle.form.specs.Refusals.{Refused, Verdict}
+use Rattle.std.specs.Prelude.{Ok, Err}
+use Rattle.worksheets.specs.Answer.{Answer}
 use Rattle.form.proofs.EachKind.{kinds_are, parameters-kind}
 use Rattle.standing.proofs.Accepted.{one_row, limit_of, within}
 use Rattle.wide.specs.Numbers.{value}
@@ -30,7 +31,6 @@ use Rattle.ledger.proofs.Sizes.{size_M, size_O}
 use Rattle.worksheets.specs.Sheets.{Within, Rows, by_kind, given, figures_of}
 use Rattle.worksheets.specs.Answers.{Outcome, worked, refusal, outcome_by, outcome_of, said, answered}
 use Rattle.worksheets.specs.declared.sheets.Figures.{Figures}
-use Rattle.worksheets.specs.declared.sheets.Answer.{Answer}
 
 module _ (s : List ℕ) (c : Counts) (acc : Formed s c) where
   pub ratios : Within (given (by_kind s))
@@ -65,24 +65,24 @@ pub told : (s : List ℕ) {r a : Answer} → r ≡ answered (outcome_of s) → r
 told s e q = ap said (sym q ∙ e) ∙ outcome_told (outcome_of s)
 
 -- and of the verdict
-refused_by : (s : List ℕ) (v : Verdict) (n p : ℕ) → refusal n p ≡ outcome_by s v → v ≡ verdict.Refused n p
-refused_by s (verdict.Accepted c) n p e = let z : ◌≡◌ {A = ℕ} 0 1 = cc in absurd (omega arith)
-refused_by s (verdict.Refused m q) n p e =
-    let a : m ≡ n = cc in
-    let b : q ≡ p = cc in
-    cc
+refused_by : (s : List ℕ) (v : Verdict) (n p : ℕ) → refusal n p ≡ outcome_by s v → v ≡ Refused n p
+refused_by s (Ok c) n p e = let z : ◌≡◌ {A = ℕ} 0 1 = cc in absurd (omega arith)
+refused_by s (Err r) n p e =
+    let a : r.number ≡ n = cc in
+    let b : r.place ≡ p = cc in
+    ap₂ (λ (x y : ℕ). Refused x y) a b
 
-pub refused_verdict : (s : List ℕ) (n p : ℕ) → refusal n p ≡ outcome_of s → verdict_of s ≡ verdict.Refused n p
+pub refused_verdict : (s : List ℕ) (n p : ℕ) → refusal n p ≡ outcome_of s → verdict_of s ≡ Refused n p
 refused_verdict s n p e = refused_by s (verdict_of s) n p e
 
 pub record Worked (s : List ℕ) (f : Figures) : Type 0 where
   pub counts : Counts
-  pub accepted : verdict_of s ≡ verdict.Accepted counts
+  pub accepted : verdict_of s ≡ Ok counts
   pub figures : f ≡ figures_of (by_kind s)
 
 worked_by : (s : List ℕ) (u : Verdict) (f : Figures) → verdict_of s ≡ u → worked f ≡ outcome_by s u → Worked s f
-worked_by s (verdict.Accepted c) f a e = record { counts = c; accepted = a; figures = cc }
-worked_by s (verdict.Refused m q) f a e = let z : ◌≡◌ {A = ℕ} 0 1 = cc in absurd (omega arith)
+worked_by s (Ok c) f a e = record { counts = c; accepted = a; figures = cc }
+worked_by s (Err r) f a e = let z : ◌≡◌ {A = ℕ} 0 1 = cc in absurd (omega arith)
 
 pub worked_out : (s : List ℕ) (f : Figures) → worked f ≡ outcome_of s → Worked s f
 worked_out s f e = worked_by s (verdict_of s) f refl e

@@ -5,13 +5,12 @@ pub mod sheets;
 
 ghost use Rattle.std.specs.Prelude.{◌≡◌};
 ghost use Rattle.form.specs.Verdict.{verdict_of};
-ghost use Rattle.form.specs.declared.Verdict.TheVariants.{Accepted};
 ghost use Rattle.worksheets.specs.Sheets.{by_kind, figures_of};
 ghost use Rattle.worksheets.specs.Answers.{answered, outcome_of};
 
-use crate::sheets::{Answer, Figures, gases_of, read_parameters, scattered_rows, work_abandoned};
+use crate::sheets::{Figures, gases_of, read_parameters, scattered_rows, work_abandoned};
 use crops::work_crops;
-use form::{Counts, Verdict};
+use form::{Counts, Refusal};
 use held::Checked;
 use ledger::{enter, work_conversion, work_stocks};
 use matter::work_matter;
@@ -22,7 +21,7 @@ use totals::sum_conversion;
 
 // The figures of bytes that were judged before, with the counts that the judge gave.
 pub fn work_out(bytes: &[u8], c: Counts) -> Figures
-    requires { verdict_of bytes.now ≡ Accepted c }
+    requires { verdict_of bytes.now ≡ Ok c }
     ensures { result ≡ figures_of (by_kind bytes.now) }
 {
     let p = read_parameters(bytes, c);
@@ -60,7 +59,7 @@ pub fn work_out(bytes: &[u8], c: Counts) -> Figures
 
 // The figures of a checked return.
 pub fn figures_of<'a>(c: Checked<'a>) -> Figures
-    requires { verdict_of c.bytes.now ≡ Accepted c.counts }
+    requires { verdict_of c.bytes.now ≡ Ok c.counts }
     ensures { result ≡ figures_of (by_kind c.entry.bytes.now) }
 {
     work_out(c.bytes, c.counts)
@@ -68,18 +67,16 @@ pub fn figures_of<'a>(c: Checked<'a>) -> Figures
 
 // Bytes that were judged, held with their counts as a checked return.
 fn figures_judged(bytes: &[u8], counts: Counts) -> Figures
-    requires { verdict_of bytes.now ≡ Accepted counts }
+    requires { verdict_of bytes.now ≡ Ok counts }
     ensures { result ≡ figures_of (by_kind bytes.now) }
 {
     figures_of(held::hold(bytes, counts))
 }
 
 // Any bytes of any length: they are judged once, and worked out where they are accepted.
-pub fn figures(bytes: &[u8]) -> Answer
+pub fn figures(bytes: &[u8]) -> Result<Figures, Refusal>
     ensures { result ≡ answered (outcome_of bytes.now) }
 {
-    match judge::judge(bytes) {
-        Verdict::Accepted(counts) => Answer::Figures(figures_judged(bytes, counts)),
-        Verdict::Refused { number, place } => Answer::Refused { number, place },
-    }
+    let counts = judge::judge(bytes)?;
+    Ok(figures_judged(bytes, counts))
 }

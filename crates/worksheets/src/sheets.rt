@@ -132,10 +132,3 @@ pub struct Figures {
     pub matter: Matter,
     pub crops: Crops,
 }
-
-// The figures, or a refusal's number and place.
-#[derive(Clone, Copy)]
-pub enum Answer {
-    Figures(Figures),
-    Refused { number: u8, place: u32 },
-}

@@ -1,4 +1,4 @@
-use Prim.Native.Nat.{◌-◌, ◌≤◌}
+use Prim.Native.Nat.{◌≤◌}
 use Rattle.form.specs.Sums.{uneven, type_of}
 use Rattle.areas.specs.Areas.{soils_in}
 use Rattle.areas.proofs.Lowly.{Lowly}
@@ -6,6 +6,3 @@ use Rattle.areas.proofs.first_uneven.Given as goal
 
 abbrev pub invariant-loop-j : goal.invariant-loop-j
 invariant-loop-j l = (l.j ≤ l.n) × Lowly (type_of (soils_in l.rows)) (uneven (soils_in l.rows)) l.n l.j l.best.soil l.best.row
-
-abbrev pub decreases-loop-j : goal.decreases-loop-j
-decreases-loop-j l = l.n - l.j

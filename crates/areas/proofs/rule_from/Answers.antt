@@ -9,5 +9,5 @@ use Rattle.areas.proofs.rule_from.Goals as goal
 pub overflow_add-result : goal.overflow_add-result
 overflow_add-result c =
     let r = c.args.rows.now in
-    let h = (first_at (λ i. lowest_uneven (soils_in r) (type_of (soils_in r) i)) (sym c.first_uneven.ensures ∙ c.in-At.is)).0 in
+    let h = (first_at (λ i. lowest_uneven (soils_in r) (type_of (soils_in r) i)) (sym c.first_uneven.ensures ∙ c.in-Some.is)).0 in
     record { fits = omega (arith, c.requires, h, soils-count r) }

@@ -1,4 +1,5 @@
-use Prim.Native.Nat.{◌-◌}
+use Rattle.std.proofs.Common.{◌≡◌, subst, length, arith}
+use Rattle.cells.specs.Cells.{EndAt}
 use Rattle.cells.proofs.Splits.{end_here, end-past, end_more}
 use Rattle.cells.proofs.end_of.Goals as goal
 
@@ -9,4 +10,6 @@ pub loop-k-preserved : goal.loop-k-preserved
 loop-k-preserved c = end_more _ _ _ _ c.loop-k.invariant c.loop-k-test.true c.if-text-k.false
 
 pub returns : goal.returns
-returns c = end-past _ _ _ _ c.loop-k.invariant c.loop-k-test.false
+returns c =
+    let at_end : c.loop-k.k ≡ length c.args.text.now = omega (arith, c.loop-k.invariant.inside, c.loop-k-test.false) in
+    subst (EndAt _ _ _) at_end (end-past _ _ _ _ c.loop-k.invariant c.loop-k-test.false)

@@ -1,5 +1,4 @@
 use Prim.Native.Nat.{◌-◌}
-use mathlib.Core.Path.{◌∙◌}
 use lib.ListN.{length}
 use Rattle.cells.proofs.FieldLaws.{Going}
 use Rattle.cells.proofs.found.Given as goal

@@ -1,5 +1,3 @@
-use Prim.Native.Nat.{◌-◌, ◌≤◌}
-use mathlib.Core.Path.{◌≡◌}
 use native.Mathlib.Omega.{arith}
 use Rattle.cells.proofs.WordLaws.{other_length, other_letter, same_letter, all_letters}
 use Rattle.cells.proofs.same_word.Goals as goal

@@ -1,4 +1,4 @@
-use Prim.Native.Nat.{◌-◌, ◌≤◌}
+use Prim.Native.Nat.{◌≤◌}
 use mathlib.Core.Path.{◌≡◌}
 use lib.ListN.{length, drop}
 use Rattle.cells.specs.Cells.{same_word}
@@ -7,6 +7,3 @@ use Rattle.cells.proofs.same_word.Given as goal
 -- Byte by byte, of two words of one length. Assumes nothing.
 abbrev pub invariant-loop-k : goal.invariant-loop-k
 invariant-loop-k l = (l.k ≤ length l.word) × (same_word (drop l.k l.word) (drop l.k l.field) ≡ same_word l.word l.field)
-
-abbrev pub decreases-loop-k : goal.decreases-loop-k
-decreases-loop-k l = length l.word - l.k

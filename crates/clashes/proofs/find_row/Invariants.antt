@@ -1,11 +1,6 @@
-use Prim.Native.Nat.{◌+◌, ◌-◌, ◌*◌, ◌≤◌, ◌<◌}
-use Rattle.form.specs.Layout.{kinds}
 use Rattle.form.proofs.EachKind.{KindsAre}
 use Rattle.clashes.proofs.Finding.{Finding}
 use Rattle.clashes.proofs.find_row.Given as goal
 
 abbrev pub invariant-loop-k : goal.invariant-loop-k
 invariant-loop-k l = KindsAre × Finding l.lengths l.area l.p l.from l.start l.before l.k
-
-abbrev pub decreases-loop-k : goal.decreases-loop-k
-decreases-loop-k l = kinds - l.k

@@ -1,4 +1,4 @@
-use Prim.Native.Nat.{◌+◌, ◌-◌, ◌*◌}
+use Prim.Native.Nat.{◌+◌, ◌*◌}
 use mathlib.Core.Path.{◌≡◌}
 use Rattle.form.specs.Layout.{numbers_of}
 use Rattle.filing.specs.Tables.{row_on}
@@ -7,6 +7,3 @@ use Rattle.decoding.proofs.decode_rows.Given as goal
 
 abbrev pub invariant-loop-i : goal.invariant-loop-i
 invariant-loop-i l = (Filling (row_on l.kind l.bytes) l.place l.n l.initial.room l.start l.room l.to l.i) × (l.to ≡ l.start + numbers_of l.kind * l.i)
-
-abbrev pub decreases-loop-i : goal.decreases-loop-i
-decreases-loop-i l = l.n - l.i

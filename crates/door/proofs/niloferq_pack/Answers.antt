@@ -1,4 +1,4 @@
-use mathlib.Core.Path.{sym, subst, ◌∙◌}
+use mathlib.Core.Path.{sym, subst}
 use Rattle.door.specs.Texts.{PackInPlace}
 use Rattle.door.proofs.Codes.{pack_in_place}
 use Rattle.door.proofs.niloferq_pack.Goals as goal

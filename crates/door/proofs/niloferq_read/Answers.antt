@@ -1,4 +1,4 @@
-use mathlib.Core.Path.{sym, subst, ◌∙◌}
+use mathlib.Core.Path.{sym, subst}
 use Rattle.door.specs.Door.{InPlace}
 use Rattle.door.proofs.Codes.{in_place, read-bounded}
 use Rattle.door.proofs.niloferq_read.Goals as goal

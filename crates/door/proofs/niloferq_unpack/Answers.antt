@@ -1,4 +1,4 @@
-use mathlib.Core.Path.{sym, subst, ◌∙◌}
+use mathlib.Core.Path.{sym, subst}
 use Rattle.door.specs.Door.{InPlace}
 use Rattle.door.proofs.Codes.{in_place, unpack_bounded}
 use Rattle.door.proofs.niloferq_unpack.Goals as goal

@@ -1,4 +1,3 @@
-use Prim.Native.Nat.{◌+◌, ◌-◌, ◌≤◌, ◌<◌}
 use Rattle.form.specs.Layout.{layout}
 use Rattle.form.proofs.Fields.{Looking}
 use Rattle.faults.specs.Faults.{zero_from}
@@ -6,6 +5,3 @@ use Rattle.faults.proofs.due_in_record.Given as goal
 
 abbrev pub invariant-loop-i : goal.invariant-loop-i
 invariant-loop-i here = Looking (λ a l. zero_from a l here.k) (layout here.kind) here.due here.at here.i
-
-abbrev pub decreases-loop-i : goal.decreases-loop-i
-decreases-loop-i l = l.n - l.i

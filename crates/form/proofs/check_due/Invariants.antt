@@ -3,6 +3,3 @@ use Rattle.form.proofs.check_due.Given as goal
 
 abbrev pub invariant-loop-offset : goal.invariant-loop-offset
 invariant-loop-offset l = Entered l.bytes l.b l.running l.total l.offset
-
-abbrev pub decreases-loop-offset : goal.decreases-loop-offset
-decreases-loop-offset l = l.offset

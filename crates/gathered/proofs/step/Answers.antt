@@ -9,5 +9,5 @@ use Rattle.gathered.proofs.step.Goals as goal
 pub add_ledgers-ledger-requires : goal.add_ledgers-ledger-requires
 add_ledgers-ledger-requires c =
     let n = c.args.bytes.now in
-    let g = subst Addable (sym c.ledger_in.ensures) (ledger_addable n _ (c.requires.1 ∙ c.in-Accepted.is)) in
+    let g = subst Addable (sym c.ledger_in.ensures) (ledger_addable n _ (c.requires.1 ∙ c.in-Ok.is)) in
     (at_most_addable c.requires.0.ledger (omega (arith, c.requires.0.count)), g)

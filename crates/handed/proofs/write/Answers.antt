@@ -1,5 +1,7 @@
+use Rattle.std.specs.Prelude.{Err}
 use mathlib.Core.Path.{sym, ap, ◌∙◌}
 use mathlib.Core.List.{[], ◌∷◌}
+use Rattle.std.proofs.lemmas.Result.{err_from_is_err_and}
 use Rattle.filing.proofs.Stores.{sets-front}
 use Rattle.handed.proofs.Few.{done-small}
 use Rattle.handed.proofs.Writing.{ruling_by, size_by, unsized_out, written_out}
@@ -12,14 +14,19 @@ returns-then-size-lt1 c =
 
 pub overflow_cast-size : goal.overflow_cast-size
 overflow_cast-size c =
-    omega (arith, done-small _ _ _ _ (sym c.write.ensures.value ∙ c.in-Done.is))
+    omega (arith, done-small _ _ _ _ (sym c.write.ensures.value ∙ c.in_ok-n.was))
 
-pub returns-in-Refused : goal.returns-in-Refused
-returns-in-Refused c =
+pub returns-in_err-n : goal.returns-in_err-n
+returns-in_err-n c =
     let a = c.args in
-    let e = c.in-Refused.is in let said = written_out a.edition a.rows.now a.lengths.now a.room.now a.size.now _ c.if-size-lt1.false c.write.ensures.value (ap ruling_by (sym e)) c.write.ensures.room_after (ap (size_by a.size.now) (sym e)) in record { value = said.0; room_after = said.1.0; size_after = said.1.1 }
+    let e = c.in_err-n.was in
+    let p = err_from_is_err_and c.from_residual.result c.from_residual.ensures.1 in
+    let said = written_out a.edition a.rows.now a.lengths.now a.room.now a.size.now _ c.if-size-lt1.false c.write.ensures.value (ap ruling_by (sym e)) c.write.ensures.room_after (ap (size_by a.size.now) (sym e)) in
+    record { value = p.1 ∙ ap Err p.2 ∙ said.0; room_after = said.1.0; size_after = said.1.1 }
 
-pub returns-in-Done : goal.returns-in-Done
-returns-in-Done c =
+pub returns : goal.returns
+returns c =
     let a = c.args in
-    let e = c.in-Done.is in let said = written_out a.edition a.rows.now a.lengths.now a.room.now a.size.now _ c.if-size-lt1.false c.write.ensures.value (ap ruling_by (sym e)) c.write.ensures.room_after (sets-front a.size.now (_ ∷ []) c.if-size-lt1.false ∙ ap (size_by a.size.now) (sym e)) in record { value = said.0; room_after = said.1.0; size_after = said.1.1 }
+    let e = c.in_ok-n.was in
+    let said = written_out a.edition a.rows.now a.lengths.now a.room.now a.size.now _ c.if-size-lt1.false c.write.ensures.value (ap ruling_by (sym e)) c.write.ensures.room_after (sets-front a.size.now (_ ∷ []) c.if-size-lt1.false ∙ ap (size_by a.size.now) (sym e)) in
+    record { value = said.0; room_after = said.1.0; size_after = said.1.1 }

@@ -1,6 +1,4 @@
 use mathlib.Core.Bool.{false≢true}
-use mathlib.Core.Path.{◌≡◌, ◌∙◌}
-use Prim.Native.Nat.{◌+◌, ◌-◌}
 use native.Mathlib.Omega.{arith}
 use Rattle.heads.proofs.HeadLaws.{short-word}
 use Rattle.heads.proofs.word_at.Goals as goal

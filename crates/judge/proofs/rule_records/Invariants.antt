@@ -1,4 +1,4 @@
-use Prim.Native.Nat.{◌-◌, ◌≤◌}
+use Prim.Native.Nat.{◌≤◌}
 use mathlib.Core.Path.{◌≡◌}
 use lib.ListN.{length, drop}
 use Rattle.form.specs.Ruling.{ruling}
@@ -8,6 +8,3 @@ use Rattle.judge.proofs.rule_records.Given as goal
 
 abbrev pub invariant-loop-i : goal.invariant-loop-i
 invariant-loop-i l = (l.i ≤ length record_numbers) × (ruling (record_rules (edition l.bytes 0) (filed l.bytes)) ≡ ruling (by_number (edition l.bytes 0) (filed l.bytes) (drop l.i record_numbers)))
-
-abbrev pub decreases-loop-i : goal.decreases-loop-i
-decreases-loop-i l = length record_numbers - l.i

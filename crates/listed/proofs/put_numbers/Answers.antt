@@ -1,26 +1,29 @@
-use Prim.Native.Nat.{◌*◌, ◌-◌, ◌≤◌, ◌<◌}
-use mathlib.Core.Path.{◌≡◌, refl}
+use Prim.Native.Nat.{◌<◌}
+use mathlib.Core.Path.{refl}
 use mathlib.Core.List.{flat_map}
+use lib.ListN.{length}
 use native.Mathlib.Omega.{arith}
-use borrow.Author.Rules.{rules}
-use Rattle.listed.specs.Listed.{listed, figure_count}
-use Rattle.listed.proofs.Laws.{counted, one_more, all_of, words_more, words_all}
+use Rattle.listed.specs.Listed.{listed}
+use Rattle.listed.proofs.Laws.{counted, one_more, all_of}
 use Rattle.listed.proofs.put_numbers.Goals as goal
 
-pub loop-i-init : goal.loop-i-init
+pub loop-value-init : goal.loop-value-init
 unfolding flat_map
-loop-i-init c = (search rules, refl, refl, λ v h. record { room = refl; place = refl }, λ i l. absurd (omega arith))
+loop-value-init c = (refl, refl, λ h. record { room = refl; place = refl })
 
-pub loop-i-preserved : goal.loop-i-preserved
-loop-i-preserved c =
-    let below : c.loop-i.i < figure_count = search rules in (
-      search rules,
-      omega (arith, c.put_three-at.ensures.1),
-      omega (arith, c.put_three-at.auto.room),
-      λ v h. one_more _ (listed v) c.loop-i.i h (omega (arith, counted v, below)) (c.loop-i.invariant.3 v h) c.put_three-at.ensures.0,
-      words_more c.list-values.result c.loop-i.i c.loop-i.invariant.4 c.put_three-at.ensures.2,
+pub loop-value-preserved : goal.loop-value-preserved
+loop-value-preserved c =
+    let f = c.args.f in
+    let below : c.loop-value.value-index < length (listed f) = omega (arith, counted f, c.loop-value-test.true) in (
+      omega (arith, c.put_three-at.ensures.1, c.loop-value.invariant.0),
+      omega (arith, c.put_three-at.auto.room, c.loop-value.invariant.1),
+      λ h. one_more _ (listed f) c.loop-value.value-index h below (c.loop-value.invariant.2 h) c.put_three-at.ensures.0,
     )
 
-pub returns : goal.returns
-returns c =
-    let v = c.args.f in record { written_at = all_of (listed v) c.loop-i.i (omega (arith, counted v)) (c.loop-i.invariant.3 v c.list-values.ensures); all_two_words = words_all c.list-values.result (listed v) c.loop-i.i c.list-values.ensures (omega (arith, counted v)) c.loop-i.invariant.4 }
+pub returns-clause-written_at : goal.returns-clause-written_at
+returns-clause-written_at c =
+    all_of (listed c.args.f) c.loop-value.value-index (omega (arith, counted c.args.f, c.loop-value-test.false, c.loop-value.auto.value-index-end)) (c.loop-value.invariant.2 c.list-values.ensures.value)
+
+pub put_three-at-requires : goal.put_three-at-requires
+put_three-at-requires c =
+    omega (arith, c.requires, c.loop-value.invariant.0, c.loop-value.invariant.1, c.loop-value-test.true)

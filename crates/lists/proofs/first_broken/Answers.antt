@@ -20,10 +20,10 @@ offset_bounds-area-from c = let i = (let inside' : let v = c.loop-k in let a = c
 pub slice_bounds-first_in-end : goal.slice_bounds-first_in-end
 slice_bounds-first_in-end c = let i = (let inside' : let v = c.loop-k in let a = c.args in (v.k < kinds) × (v.from + c.length_at-n.result ≤ length a.area.now) = let k : c.loop-k.k < kinds = search rules in (k, part_in c.args.area.now _ c.requires c.loop-k.invariant.1.at k c.length_at-n.ensures.0) in inside') in search rules
 
-pub returns-in-At : goal.returns-in-At
-returns-in-At c =
+pub returns-in-Some : goal.returns-in-Some
+returns-in-Some c =
     scan_found c.requires c.loop-k.invariant.1 (let inside' : let v = c.loop-k in let a = c.args in (v.k < kinds) × (v.from + c.length_at-n.result ≤ length a.area.now) = let k : c.loop-k.k < kinds = search rules in (k, part_in c.args.area.now _ c.requires c.loop-k.invariant.1.at k c.length_at-n.ensures.0) in inside').0 c.length_at-n.ensures.0
-    c.first_in.ensures c.in-At.is
+    c.first_in.ensures c.in-Some.is
 
 pub loop-k-preserved : goal.loop-k-preserved
 loop-k-preserved c =

@@ -1,4 +1,4 @@
-use Prim.Native.Nat.{◌-◌, ◌≤◌}
+use Prim.Native.Nat.{◌≤◌}
 use mathlib.Core.Path.{◌≡◌}
 use lib.ListN.{length, drop}
 use Rattle.form.specs.Ruling.{ruling}
@@ -10,6 +10,3 @@ abbrev pub invariant-loop-i : goal.invariant-loop-i
 invariant-loop-i l =
     let f = filed_lists (cut l.lengths l.area) in
     (l.i ≤ length record_numbers) × (ruling (record_rules l.edition f) ≡ ruling (by_number l.edition f (drop l.i record_numbers)))
-
-abbrev pub decreases-loop-i : goal.decreases-loop-i
-decreases-loop-i l = length record_numbers - l.i

@@ -1,3 +1,4 @@
+use mathlib.Core.Path.{refl}
 use mathlib.Core.List.{[], ◌∷◌}
 use Rattle.phrases.specs.Lines.{spaces}
 use Rattle.phrases.proofs.LineTexts.{as_text}
@@ -10,10 +11,10 @@ use Rattle.naming.proofs.put_soil.Goals as goal
 pub put_lines-requires : goal.put_lines-requires
 unfolding spaces
 put_lines-requires c =
-    (omega arith, omega (arith, c.requires, plain-short soil_names (c.args.soil ∷ c.args.current ∷ c.args.former ∷ []) (search rules, (search rules, (search rules, tt)))))
+    record { enough = omega arith; room = omega (arith, c.requires, plain-short soil_names (c.plain.result ∷ c.plain-2.result ∷ c.plain-3.result ∷ []) (c.args.soil ∷ c.args.current ∷ c.args.former ∷ []) (rw (c.plain.ensures.number, c.plain-2.ensures.number, c.plain-3.ensures.number) refl) (search rules, (search rules, (search rules, tt)))) }
 
 pub returns : goal.returns
 unfolding spaces
 returns c =
-    let v = plain-written soil_names (c.args.soil ∷ c.args.current ∷ c.args.former ∷ []) (search rules, (search rules, (search rules, tt))) 120 (omega arith) c.put_lines.ensures in
+    let v = plain-written soil_names (c.plain.result ∷ c.plain-2.result ∷ c.plain-3.result ∷ []) (c.args.soil ∷ c.args.current ∷ c.args.former ∷ []) (rw (c.plain.ensures.number, c.plain-2.ensures.number, c.plain-3.ensures.number) refl) (search rules, (search rules, (search rules, tt))) 120 (omega arith) c.put_lines.ensures in
     (as_text (soil-text c.args.soil c.args.current c.args.former) v.0, v.1)

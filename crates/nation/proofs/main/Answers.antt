@@ -3,5 +3,5 @@ use Rattle.std.proofs.Common.{arith}
 use Rattle.form.proofs.EachKind.{kinds_are}
 use Rattle.nation.proofs.main.Goals as goal
 
-pub run_input-read-requires : goal.run_input-read-requires
-run_input-read-requires c = (omega (arith, kinds_are), omega arith)
+pub run_input-requires : goal.run_input-requires
+run_input-requires c = (omega (arith, kinds_are), omega arith)

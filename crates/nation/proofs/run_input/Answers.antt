@@ -1,31 +1,27 @@
 -- A run begins with room for its first turn, each turn leaves room for the next, and the last comes to the end of the input's bytes. Assumes nothing.
-use Rattle.std.proofs.Common.{◌∙◌}
-use Rattle.national.proofs.Streaming.{ready_begin}
-use Rattle.nation.proofs.Filling.{is_whole, is_going}
+use Rattle.std.proofs.Common.{◌∙◌, refl}
+use Rattle.national.proofs.Streaming.{ready_begin, ready-after}
 use Rattle.nation.proofs.Running.{along_first, along_next, along_end}
 use Rattle.nation.proofs.run_input.Goals as goal
 
-pub turn-read-requires : goal.turn-read-requires
-turn-read-requires g c = (ready_begin c.begin.ensures.0 c.begin.ensures.1, c.requires.0, c.requires.1)
+pub loop-n-init : goal.loop-n-init
+loop-n-init g c =
+    let b = c.begin-run.ensures in
+    record { bytes_long = refl; out_long = refl; ready = ready_begin b.0 b.1; along = along_first _ _ _ b.0 b.1 }
 
-pub loop-read-init : goal.loop-read-init
-loop-read-init g c =
-    let t = c.turn-read in
-    let b = c.begin in
-    (t.auto.bytes, t.auto.out, t.ensures.onward.ready, t.ensures.going, λ w. along_first _ _ _ _ b.result _ b.ensures.0 b.ensures.1 (t.ensures.settled w))
+pub loop-n-preserved : goal.loop-n-preserved
+loop-n-preserved g c =
+    let l = c.loop-n in
+    let u = l.invariant in
+    record {
+      bytes_long = c.fill.auto.bytes ∙ u.bytes_long;
+      out_long = c.settle.auto.out ∙ u.out_long;
+      ready = ready-after l.run _ _ _ c.in-Ok.next u.ready c.in-Ok.ensures;
+      along = along_next _ _ _ _ _ _ _ l.run c.in-Ok.next u.along u.ready c.in_ok-n.ensures.wanted c.in-Ok.ensures;
+    }
 
-pub loop-read-preserved : goal.loop-read-preserved
-loop-read-preserved g c =
-    let l = c.loop-read in
-    let h = l.invariant in
-    let t = c.turn-read-in-loop-read in
-    let going = is_going _ c.loop-read-test.true in (
-      t.auto.bytes ∙ h.0,
-      t.auto.out ∙ h.1,
-      t.ensures.onward.ready,
-      t.ensures.going,
-      λ w. along_next _ _ _ _ _ _ l.read.turn _ (h.4 (h.3 going)) going h.2 (t.ensures.settled w),
-    )
-
-pub returns-clause-ends : goal.returns-clause-ends
-returns-clause-ends g c = λ w. along_end _ _ _ _ _ (c.loop-read.invariant.4 w) (is_whole _ c.loop-read-test.false) c.loop-read.invariant.2
+pub returns-in-Err-clause-ends : goal.returns-in-Err-clause-ends
+returns-in-Err-clause-ends g c =
+    let l = c.loop-n in
+    let u = l.invariant in
+    along_end _ _ _ _ _ _ _ l.run c.in-Err.stop u.along u.ready c.in_ok-n.ensures.wanted c.in-Err.ensures.0 c.in-Err.ensures.1

@@ -1,18 +1,17 @@
--- The run has room for its next turn, is as far as the input's bytes say, and each turn that is not its last counts one return more. Assumes nothing.
-use Rattle.std.proofs.Common.{◌≡◌, length, false, IsTrue}
+-- The run has room for its next turn, and is as far as the input's bytes say; each turn that is not its last counts one return more, and there are at most five hundred. Assumes nothing.
+use Rattle.std.proofs.Common.{◌≡◌, ◌-◌, length}
 use Rattle.gathered.specs.Gathered.{count_of}
 use Rattle.national.specs.Steps.{Ready}
-use Rattle.nation.proofs.Counting.{turns_left}
 use Rattle.nation.proofs.Running.{Along}
 use Rattle.nation.proofs.run_input.Given as goal
 
-abbrev pub invariant-loop-read : goal.invariant-loop-read
-invariant-loop-read g l =
-    (length l.bytes ≡ length l.fn.bytes)
-    × (length l.out ≡ length l.fn.out)
-    × Ready l.read.turn.run.tally l.read.turn.run.at
-    × (l.read.turn.over ≡ false → IsTrue l.read.whole)
-    × (IsTrue l.read.whole → Along (g.R.Read.remaining l.fn.input) (g.R.Read.remaining l.input) l.fn.out l.out l.read.turn)
+abbrev pub invariant-loop-n : goal.invariant-loop-n
+invariant-loop-n g l = record {
+  bytes_long : length l.bytes ≡ length l.fn.bytes;
+  out_long : length l.out ≡ length l.fn.out;
+  ready : Ready l.run.tally l.run.at;
+  along : Along (g.R.Read.remaining l.fn.input) (g.R.Read.remaining l.input) l.fn.out l.out l.run;
+}
 
-abbrev pub decreases-loop-read : goal.decreases-loop-read
-decreases-loop-read g l = turns_left l.read.turn.over (count_of l.read.turn.run.tally)
+abbrev pub decreases-loop-n : goal.decreases-loop-n
+decreases-loop-n g l = 501 - count_of l.run.tally

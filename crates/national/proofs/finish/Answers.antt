@@ -10,6 +10,6 @@ use Rattle.national.proofs.finish.Goals as goal
 pub returns : goal.returns
 returns c =
     let i = c.count_of.ensures in
-    let e = ap (λ (n : ℕ). stop_text n c.args.stop) (add-one _ ∙ ap suc i) in
+    let e = ap (λ (n : ℕ). stop_text n c.args.ended.stop) (add-one _ ∙ ap suc i) in
     let w = written-more (as_text e c.put_stop-next.ensures.0) c.put_totals.ensures.0 in
     (w, omega (arith, c.put_stop-next.ensures.1, c.put_totals.ensures.1))

@@ -1,5 +1,4 @@
-use Prim.Native.Nat.{◌-◌, ◌≤◌}
-use mathlib.Core.Path.{◌≡◌, sym, ◌∙◌}
+use mathlib.Core.Path.{sym, ◌∙◌}
 use borrow.Author.Tests.{not-true, not-false}
 use Rattle.numerals.proofs.Counting.{digits-next, digits-stop, digits-end, digit_above}
 use Rattle.numerals.proofs.Capped.{digit_added, all_added}

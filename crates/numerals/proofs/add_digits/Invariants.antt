@@ -1,5 +1,5 @@
-use Prim.Native.Nat.{◌-◌, ◌≤◌}
-use mathlib.Core.Path.{◌≡◌, ◌∙◌}
+use Prim.Native.Nat.{◌≤◌}
+use mathlib.Core.Path.{◌≡◌}
 use lib.ListN.{length, drop}
 use Rattle.numerals.specs.Numerals.{digits_in, with_digits, capped}
 use Rattle.numerals.proofs.add_digits.Given as goal
@@ -8,6 +8,3 @@ use Rattle.numerals.proofs.add_digits.Given as goal
 abbrev pub invariant-loop-k : goal.invariant-loop-k
 invariant-loop-k l =
     (l.k ≤ length l.text) × (l.value ≤ 4294967296) × (capped (with_digits l.value (digits_in (drop l.k l.text))) ≡ capped (with_digits l.n (digits_in l.text)))
-
-abbrev pub decreases-loop-k : goal.decreases-loop-k
-decreases-loop-k l = length l.text - l.k

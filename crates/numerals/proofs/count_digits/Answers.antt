@@ -1,25 +1,17 @@
-use Prim.Native.Nat.{◌+◌, ◌-◌, ◌≤◌}
-use mathlib.Core.Path.{◌≡◌, sym, ap, ◌∙◌}
-use lib.ListN.{length}
-use borrow.Author.Tests.{not-true, not-false}
-use Rattle.numerals.proofs.Counting.{digits-next, digits-stop, digits-end}
-use borrow.Author.Rules.{rules}
+use Rattle.std.proofs.Common.{rules, tests, ap, ◌∙◌, length}
 use native.Mathlib.Omega.{arith}
-use mathlib.Core.Bool.{not}
+use Rattle.std.proofs.lemmas.Iterator.{YieldsList-from_slice}
+use Rattle.std.proofs.lemmas.Iterator.Search.{YieldsList-from_take_while}
+use Rattle.std.proofs.lemmas.Iterator.Consumers.{count_from_yields_List}
+use Rattle.numerals.specs.Numerals.{is_digit}
+use Rattle.numerals.proofs.Fronts.{digits-taken, digits_few}
 use Rattle.numerals.proofs.count_digits.Goals as goal
-
-pub returns-then-not-is_digit : goal.returns-then-not-is_digit
-returns-then-not-is_digit c =
-    let none = sym c.is_digit.ensures ∙ not-true _ (ap not c.if-not-is_digit.true) in
-    let stop = digits-stop c.args.text.now c.loop-k.k (omega arith) none in
-    (omega (arith, c.loop-k.invariant.1, ap length stop), c.loop-k.invariant.0)
-
-pub loop-k-preserved : goal.loop-k-preserved
-loop-k-preserved c =
-    let one = sym c.is_digit.ensures ∙ not-false _ (ap not c.if-not-is_digit.false) in
-    let next = digits-next c.args.text.now c.loop-k.k (omega arith) one in
-    (search rules, omega (arith, c.loop-k.invariant.1, ap length next))
 
 pub returns : goal.returns
 returns c =
-    (omega (arith, c.loop-k.invariant.1, ap length (digits-end c.args.text.now c.loop-k.k (omega arith))), c.loop-k.invariant.0)
+    let text = c.args.text.now in
+    let taken =
+    count_from_yields_List c.take_while.result c.count.result c.count.ensures.ran
+    (YieldsList-from_take_while _ is_digit (YieldsList-from_slice text (cc)) c.take_while.ensures.closure c.take_while.ensures.done (λ x b q k. search (rules, tests))) in
+    let n = taken ∙ ap length (digits-taken text) in
+    (n, omega (arith, n, digits_few text))

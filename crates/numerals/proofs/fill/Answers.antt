@@ -1,5 +1,3 @@
-use Prim.Native.Nat.{◌-◌, ◌*◌, ◌^◌, ◌≤◌}
-use mathlib.Core.Path.{◌≡◌, ◌∙◌}
 use Rattle.numerals.proofs.Capped.{filled}
 use borrow.Author.Rules.{rules}
 use native.Mathlib.Omega.{arith}

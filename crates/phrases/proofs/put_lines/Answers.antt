@@ -1,42 +1,47 @@
-use Prim.Native.Nat.{◌+◌, ◌*◌, ◌≤◌, ◌<◌, ◌-◌}
-use mathlib.Core.Path.{◌≡◌, refl, ap}
+use Prim.Native.Nat.{◌<◌}
+use mathlib.Core.Path.{refl, ap, ◌∙◌}
 use native.Mathlib.Omega.{arith}
-use lib.ListN.{length}
 use lib.IntN.{ℤ}
-use borrow.Author.Rules.{rules}
-use Rattle.phrases.specs.Lines.{ended}
-use Rattle.phrases.specs.Threes.{of_threes}
+use lib.ListN.{length}
+use Rattle.phrases.specs.Lines.{amounts, ended}
 use Rattle.phrases.proofs.Filled.{as_left, all_written, letter_written, value_written, value_there, letter_fits, value-fits}
+use Rattle.phrases.proofs.Values.{amount_at}
 use Rattle.phrases.proofs.put_lines.Goals as goal
 use Rattle.phrases.proofs.put_lines.Goals.{then-b-eq32, else-b-eq32}
 
 pub put_byte-to-requires : goal.put_byte-to-requires
 put_byte-to-requires c =
-    letter_fits (of_threes c.args.threes.now) _ _ _ _ _ _ _ _ (omega arith) refl c.loop-k.invariant.2 c.requires.1
+    letter_fits (amounts c.args.values.now) _ _ _ _ _ _ _ _ c.loop-b-test.true refl c.loop-b.invariant.1 c.requires.room
 
-pub value_at-requires : goal.value_at-requires
-value_at-requires c = (let there' : 3 * c.loop-k.j + 2 < length c.args.threes.now = omega (arith, c.requires.0, value_there (of_threes c.args.threes.now) _ _ _ _ _ _ _ _ c.loop-k-test.true refl c.loop-k.invariant.2 c.if-b-eq32.true) in there')
+pub bounds-values-j : goal.bounds-values-j
+bounds-values-j c =
+    let there' : c.loop-b.j < length c.args.values.now = omega (arith, c.requires.enough, value_there (amounts c.args.values.now) _ _ _ _ _ _ _ _ c.loop-b-test.true refl c.loop-b.invariant.1 c.if-b-eq32.true) in there'
 
 pub put_value-to-requires : goal.put_value-to-requires
 put_value-to-requires c =
-    let h = c.value_at.ensures in
-    let n = value-fits (of_threes c.args.threes.now) _ _ _ _ _ _ _ _ (omega arith) refl c.loop-k.invariant.2 c.if-b-eq32.true c.requires.1 in
-    (h.form, omega (arith, ap (λ (z : ℤ). length (ended z)) h.number, n, c.put_byte-to.ensures.place, c.put_byte-to.auto.out))
+    let values = c.args.values.now in
+    let there' : c.loop-b.j < length values = omega (arith, c.requires.enough, value_there (amounts values) _ _ _ _ _ _ _ _ c.loop-b-test.true refl c.loop-b.invariant.1 c.if-b-eq32.true) in
+    let n = value-fits (amounts values) _ _ _ _ _ _ _ _ c.loop-b-test.true refl c.loop-b.invariant.1 c.if-b-eq32.true c.requires.room in
+    let same = c.with_sign.ensures.number ∙ amount_at values c.loop-b.j _ there' in
+    (c.with_sign.ensures.form, omega (arith, ap (λ (z : ℤ). length (ended z)) same, n, c.put_byte-to.ensures.place, c.put_byte-to.auto.out))
 
-pub loop-k-preserved : goal.loop-k-preserved
-loop-k-preserved c =
-    let v = of_threes c.args.threes.now in
+pub loop-b-preserved : goal.loop-b-preserved
+loop-b-preserved c =
+    let values = c.args.values.now in
+    let v = amounts values in
     let kept = c.put_byte-to.auto.out in (
-      search rules,
       elim c.if-b-eq32.branch [
         | then-b-eq32 w ↦ omega (arith, ap length w.out-is, w.put_value-to.auto.out, kept)
         | else-b-eq32 w ↦ omega (arith, ap length w.out-is, kept)
       ],
       elim c.if-b-eq32.branch [
-        | then-b-eq32 w ↦ as_left v _ _ _ _ w.out-is w.j-is w.to-is (value_written v _ _ _ _ _ _ _ _ (omega arith) refl c.loop-k.invariant.2 _ w.if-b-eq32.true w.value_at.ensures.number c.put_byte-to.ensures w.put_value-to.ensures)
-        | else-b-eq32 w ↦ as_left v _ _ _ _ w.out-is w.j-is w.to-is (letter_written v _ _ _ _ _ _ _ _ (omega arith) refl c.loop-k.invariant.2 w.if-b-eq32.false c.put_byte-to.ensures)
+        | then-b-eq32 w ↦
+            let there' : c.loop-b.j < length values = omega (arith, c.requires.enough, value_there v _ _ _ _ _ _ _ _ c.loop-b-test.true refl c.loop-b.invariant.1 w.if-b-eq32.true) in
+            let same = w.with_sign.ensures.number ∙ amount_at values c.loop-b.j _ there' in
+            as_left v _ _ _ _ w.out-is w.j-is w.to-is (value_written v _ _ _ _ _ _ _ _ c.loop-b-test.true refl c.loop-b.invariant.1 _ w.if-b-eq32.true same c.put_byte-to.ensures w.put_value-to.ensures)
+        | else-b-eq32 w ↦ as_left v _ _ _ _ w.out-is w.j-is w.to-is (letter_written v _ _ _ _ _ _ _ _ c.loop-b-test.true refl c.loop-b.invariant.1 w.if-b-eq32.false c.put_byte-to.ensures)
       ],
     )
 
 pub returns : goal.returns
-returns c = all_written _ _ _ _ _ _ _ _ (omega arith) c.loop-k.invariant.2
+returns c = all_written _ _ _ _ _ _ _ _ (omega arith) c.loop-b.invariant.1

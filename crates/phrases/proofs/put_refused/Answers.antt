@@ -1,12 +1,11 @@
 use Rattle.decimal.proofs.DigitLaws.{written-more}
 use Rattle.phrases.proofs.Room.{as_refused, ended-length, refused-length}
 use native.Mathlib.Omega.{arith}
-use borrow.Author.Rules.{rules}
 use Rattle.phrases.proofs.put_refused.Goals as goal
 
 pub put-a-requires : goal.put-a-requires
 put-a-requires c =
-    (search rules, omega (arith, c.requires, refused-length c.args.number c.args.place))
+    omega (arith, c.requires, refused-length c.args.number c.args.place)
 
 pub put_value-b-requires : goal.put_value-b-requires
 put_value-b-requires c =

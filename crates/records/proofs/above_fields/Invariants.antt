@@ -1,10 +1,6 @@
-use Prim.Native.Nat.{◌-◌}
 use Rattle.form.specs.Layout.{layout}
 use Rattle.form.proofs.Fields.{limiting, Looking}
 use Rattle.records.proofs.above_fields.Given as goal
 
 abbrev pub invariant-loop-i : goal.invariant-loop-i
 invariant-loop-i l = Looking (limiting l.bytes l.at) (layout l.kind) l.above l.k l.i
-
-abbrev pub decreases-loop-i : goal.decreases-loop-i
-decreases-loop-i l = l.n - l.i

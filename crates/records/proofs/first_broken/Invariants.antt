@@ -1,12 +1,9 @@
-use Prim.Native.Nat.{◌-◌, ◌*◌, ◌≤◌}
+use Prim.Native.Nat.{◌*◌, ◌≤◌}
 use mathlib.Core.Path.{◌≡◌}
-use Rattle.form.specs.declared.Spot.TheVariants.{Nowhere}
+use Rattle.std.specs.Prelude.{None}
 use Rattle.form.specs.First.{first}
 use Rattle.records.specs.Steps.{record_test}
 use Rattle.records.proofs.first_broken.Given as goal
 
 abbrev pub invariant-loop-b : goal.invariant-loop-b
-invariant-loop-b l = (l.b ≤ l.n) × (first (record_test l.number l.bytes) (12 * l.b) ≡ Nowhere)
-
-abbrev pub decreases-loop-b : goal.decreases-loop-b
-decreases-loop-b l = l.n - l.b
+invariant-loop-b l = (l.b ≤ l.n) × (first (record_test l.number l.bytes) (12 * l.b) ≡ None)

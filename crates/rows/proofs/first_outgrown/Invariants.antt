@@ -1,16 +1,13 @@
-use Prim.Native.Nat.{◌+◌, ◌-◌, ◌*◌, ◌≤◌}
+use Prim.Native.Nat.{◌+◌, ◌*◌, ◌≤◌}
 use mathlib.Core.Path.{◌≡◌}
 use lib.ListN.{length}
 use Rattle.form.specs.First.{first}
 use Rattle.form.specs.Layout.{kinds}
-use Rattle.form.specs.declared.Spot.TheVariants.{Nowhere}
+use Rattle.std.specs.Prelude.{None}
 use Rattle.form.proofs.EachKind.{KindsAre}
 use Rattle.rows.specs.Reading.{area_to, outgrown}
 use Rattle.rows.proofs.first_outgrown.Given as goal
 
 abbrev pub invariant-loop-k : goal.invariant-loop-k
 invariant-loop-k l =
-    KindsAre × (l.k ≤ kinds) × (l.need ≡ length (area_to l.bytes l.k)) × (l.need ≤ 512 * l.k) × (first (outgrown l.bytes l.m) (l.k + 1) ≡ Nowhere)
-
-abbrev pub decreases-loop-k : goal.decreases-loop-k
-decreases-loop-k l = kinds - l.k
+    KindsAre × (l.k ≤ kinds) × (l.need ≡ length (area_to l.bytes l.k)) × (l.need ≤ 512 * l.k) × (first (outgrown l.bytes l.m) (l.k + 1) ≡ None)

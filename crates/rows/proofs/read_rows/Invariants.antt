@@ -1,4 +1,4 @@
-use Prim.Native.Nat.{suc, ◌-◌}
+use Prim.Native.Nat.{suc}
 use mathlib.Core.Path.{◌≡◌}
 use lib.ListN.{length}
 use Rattle.form.specs.Layout.{kinds}
@@ -11,6 +11,3 @@ use Rattle.rows.proofs.read_rows.Given as goal
 abbrev pub invariant-loop-k : goal.invariant-loop-k
 invariant-loop-k l =
     KindsAre × Filling (rows_of l.bytes) 1 kinds l.initial.room 0 l.room l.to l.k × (l.to ≡ length (area_to l.bytes l.k)) × (l.first ≡ start_block (suc l.k) l.bytes)
-
-abbrev pub decreases-loop-k : goal.decreases-loop-k
-decreases-loop-k l = kinds - l.k

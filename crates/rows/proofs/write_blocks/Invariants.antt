@@ -1,11 +1,6 @@
-use Prim.Native.Nat.{◌-◌}
-use Rattle.form.specs.Layout.{kinds}
 use Rattle.form.proofs.EachKind.{KindsAre}
 use Rattle.rows.proofs.Return.{Storing}
 use Rattle.rows.proofs.write_blocks.Given as goal
 
 abbrev pub invariant-loop-k : goal.invariant-loop-k
 invariant-loop-k l = KindsAre × Storing l.edition l.n l.lengths l.rows l.initial.room l.room l.from l.start l.k
-
-abbrev pub decreases-loop-k : goal.decreases-loop-k
-decreases-loop-k l = kinds - l.k

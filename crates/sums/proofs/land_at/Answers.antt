@@ -1,14 +1,19 @@
-use mathlib.Core.Path.{◌∙◌}
-use Prim.Native.Nat.{◌+◌}
-use Rattle.sums.proofs.Parts.{both, growths}
-use native.Mathlib.Omega.{arith}
+use Rattle.std.proofs.Common.{ap, ◌∙◌, ◌+◌, arith}
+use Rattle.wide.specs.Numbers.{value}
+use Rattle.totals.specs.Laws.{amounts}
+use Rattle.totals.specs.Masses.{carbon}
+use Rattle.totals.specs.declared.Carbon.{Carbon}
+use Rattle.sums.proofs.Parts.{both}
 use Rattle.sums.proofs.land_at.Goals as goal
 
-pub overflow_add-result : goal.overflow_add-result
-overflow_add-result c =
-    let n = c.args.bytes.now in
-    record { fits = omega (arith, c.growth_at-young.ensures.0, c.growth_at-older.ensures.0, growths n c.args.at c.requires.at_value) }
+pub plus-requires : goal.plus-requires
+plus-requires c =
+    let young = ap (λ (m : Carbon). value m.0) c.from-young.ensures ∙ amounts c.growth_at.result.0 in
+    let older = ap (λ (m : Carbon). value m.0) c.from-older.ensures ∙ amounts c.growth_at-2.result.0 in
+    omega (arith, young, older, c.growth_at.ensures.1, c.growth_at-2.ensures.1)
 
 pub returns : goal.returns
 returns c =
-    (λ i. c.growth_at-young.ensures.0 i + c.growth_at-older.ensures.0 i) ∙ both c.args.bytes.now c.args.at
+    let young = ap (λ (m : Carbon). value m.0) c.from-young.ensures ∙ amounts c.growth_at.result.0 ∙ c.growth_at.ensures.0 in
+    let older = ap (λ (m : Carbon). value m.0) c.from-older.ensures ∙ amounts c.growth_at-2.result.0 ∙ c.growth_at-2.ensures.0 in
+    c.plus.ensures ∙ ap carbon ((λ i. young i + older i) ∙ both c.args.bytes.now c.args.at)

@@ -1,11 +1,24 @@
-use lib.Dec.{lit≤}
+use Rattle.std.proofs.Common.{rules, ◌≡◌, ◌∙◌, List, ℕ, ap, arith, lit≤}
+use Rattle.form.specs.Layout.{stock, row_at}
+use Rattle.form.specs.Verdict.{rows}
 use Rattle.form.proofs.EachKind.{kinds_are}
-use Rattle.wide.proofs.Laws.{words}
-use native.Mathlib.Omega.{arith}
+use Rattle.wide.specs.Numbers.{value}
+use Rattle.totals.specs.Laws.{amounts}
+use Rattle.totals.specs.Masses.{carbon}
+use Rattle.totals.specs.declared.Carbon.{Carbon}
+use Rattle.totals.specs.Columns.{stock_part}
+use Rattle.totals.proofs.Limits.{stock-below}
+use Rattle.totals.proofs.RowSums.{mass_of_sum}
 use Rattle.sums.proofs.sum_stocks.Goals as goal
 
-pub sum_parts-requires : goal.sum_parts-requires
-sum_parts-requires c = record { formed = c.requires; le_kind = (lit≤ tt, omega (arith, kinds_are)) }
+pub sum_rows-requires-clause-known : goal.sum_rows-requires-clause-known
+sum_rows-requires-clause-known c = (lit≤ tt, omega (arith, kinds_are))
+
+pub sum_rows-requires-clause-small : goal.sum_rows-requires-clause-small
+sum_rows-requires-clause-small c = λ at t w p.
+    let r = row_at stock c.args.bytes.now at in
+    let e : t ≡ carbon (stock_part r) = search rules in
+    omega (arith, ap (λ (m : Carbon). value m.0) e, amounts (stock_part r), stock-below r w.kept)
 
 pub returns : goal.returns
-returns c = λ i. record { 0 = words c.sum_parts.ensures i }
+returns c = c.sum_rows.ensures (λ (r : List ℕ). carbon (stock_part r)) (λ at t w p. search rules) ∙ mass_of_sum carbon (λ (m : Carbon). value m.0) amounts stock_part (rows 2 c.args.bytes.now)

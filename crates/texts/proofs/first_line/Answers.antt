@@ -1,5 +1,4 @@
 use mathlib.Core.Path.{sym, ◌∙◌}
-use Prim.Native.Nat.{◌-◌}
 use borrow.Author.Tests.{not-true, not-false}
 use Rattle.texts.proofs.Lines.{look-past, look_here, look-end}
 use native.Mathlib.Omega.{arith}
@@ -12,7 +11,7 @@ returns-then-not-is_passed c =
     let e = c.next_line-line.ensures in
     let h = c.loop-from.invariant in (
       look_here _ _ _ h _ e (sym c.is_passed.ensures ∙ not-true _ (ap not c.if-not-is_passed.true)),
-      record { ordered = e.ordered; inside = e.inside; within = e.within; counted = omega (arith, h.counted, e.onward) },
+      record { ordered = e.ordered; inside = e.inside; within = e.within; counted = omega (arith, h.counted, e.onward); some = omega arith },
     )
 
 pub loop-from-preserved : goal.loop-from-preserved
@@ -22,4 +21,4 @@ loop-from-preserved c =
 pub returns : goal.returns
 returns c =
     let h = c.loop-from.invariant in
-    (look-end _ _ _ h c.loop-from-test.false, record { ordered = omega arith; inside = omega arith; within = h.within; counted = omega arith })
+    (look-end _ _ _ h c.loop-from-test.false, tt)

@@ -1,5 +1,4 @@
 use mathlib.Core.Path.{sym, ◌∙◌}
-use Prim.Native.Nat.{◌-◌}
 use borrow.Author.Tests.{not-true, not-false}
 use Rattle.texts.proofs.Lines.{seek_past, seek_more, seek_here, seek_end}
 use mathlib.Core.Path.{ap}

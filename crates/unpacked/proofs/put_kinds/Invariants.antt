@@ -1,5 +1,5 @@
-use Prim.Native.Nat.{suc, ◌+◌, ◌-◌, ◌*◌, ◌≤◌, ◌<◌}
-use mathlib.Core.Path.{◌≡◌, ◌∙◌}
+use Prim.Native.Nat.{suc, ◌+◌, ◌≤◌}
+use mathlib.Core.Path.{◌≡◌}
 use lib.ListN.{length}
 use Rattle.form.specs.Layout.{kinds}
 use Rattle.form.specs.Standing.{start_block}
@@ -19,6 +19,3 @@ invariant-loop-k l =
     × (length l.out ≡ length l.initial.out)
     × WrittenAt (ended (lists_lines 1 (lists_from l.bytes 1 l.k))) l.initial.out l.out l.at l.to
     × (l.to ≤ l.at + kinds_room l.k)
-
-abbrev pub decreases-loop-k : goal.decreases-loop-k
-decreases-loop-k l = kinds - l.k

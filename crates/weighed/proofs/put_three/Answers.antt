@@ -1,14 +1,27 @@
 use mathlib.Core.Path.{refl}
-use Rattle.form.proofs.Order.{too_short_lem, long_enough}
+use lib.ListN.{length}
+use Rattle.std.proofs.lemmas.Result.{err_from_is_err_and}
+use Rattle.form.proofs.Order.{too_short_lem, long_enough, short_room, long_room}
 use Rattle.filing.proofs.Stores.{sets-front}
 use Rattle.weighed.specs.Heaviest.{three}
 use Rattle.weighed.proofs.put_three.Goals as goal
 
-pub returns-then-room-lt3 : goal.returns-then-room-lt3
-returns-then-room-lt3 c =
-    let room = c.args.room.now in record { value = rw (too_short_lem 3 room c.if-room-lt3.true) (refl); room_after = rw (too_short_lem 3 room c.if-room-lt3.true) (refl) }
+pub returns-in_err-room_for-clause-value : goal.returns-in_err-room_for-clause-value
+returns-in_err-room_for-clause-value c =
+    let short = short_room 3 (length c.args.room.now) c.room_for.ensures c.in_err-room_for.was in
+    let p = err_from_is_err_and c.from_residual.result c.from_residual.ensures.1 in
+    rw (p.1, p.2, short.1, too_short_lem 3 c.args.room.now short.0) refl
+
+pub returns-in_err-room_for-clause-room_after : goal.returns-in_err-room_for-clause-room_after
+returns-in_err-room_for-clause-room_after c =
+    let short = short_room 3 (length c.args.room.now) c.room_for.ensures c.in_err-room_for.was in
+    rw (too_short_lem 3 c.args.room.now short.0) refl
 
 pub returns : goal.returns
 returns c =
     let a = c.args in
-    let room = a.room.now in record { value = rw (long_enough 3 room c.if-room-lt3.false) (refl); room_after = rw (long_enough 3 room c.if-room-lt3.false) (sets-front room (three a.x a.y a.z) c.if-room-lt3.false) }
+    let long = long_room 3 (length a.room.now) c.room_for.ensures c.in_ok-room_for.was in
+    record {
+      value = rw (long_enough 3 a.room.now long) refl;
+      room_after = rw (long_enough 3 a.room.now long) (sets-front a.room.now (three a.x a.y a.z) long);
+    }

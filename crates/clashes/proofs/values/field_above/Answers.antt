@@ -1,5 +1,6 @@
 use Prim.Native.Nat.{◌-◌, ◌<◌}
-use mathlib.Core.Path.{ap}
+use mathlib.Core.Path.{◌≡◌, ap}
+use lib.ListN.{length}
 use Rattle.form.specs.Layout.{numbers_of}
 use Rattle.reasons.specs.Reasons.{limit_by}
 use Rattle.clashes.proofs.Told.{seeking_found, seeking_more, seeking_all}
@@ -16,4 +17,5 @@ loop-i-preserved c =
 
 pub returns : goal.returns
 returns c =
-    ap (limit_by c.args.row) (seeking_all c.loop-i.invariant (omega arith))
+    let all : c.loop-i.i ≡ length c.args.numbers.now = omega arith in
+    rw (← all) (ap (limit_by c.args.row) (seeking_all c.loop-i.invariant (omega arith)))

@@ -4,7 +4,7 @@ use mathlib.Core.List.{◌++◌}
 use lib.Dec.{lit≤}
 use Rattle.standing.proofs.Accepted.{formed}
 use Rattle.form.specs.Verdict.{verdict_of}
-use Rattle.form.specs.declared.Verdict.TheVariants.{Accepted, Refused}
+use Rattle.std.specs.Prelude.{Ok, Err}
 use Rattle.decimal.proofs.DigitLaws.{written-more}
 use Rattle.heaviest.specs.declared.Weights.{Weights}
 use Rattle.matter.specs.Matter.{MatterMost}
@@ -21,33 +21,33 @@ use native.Mathlib.Omega.{arith}
 use Rattle.explained.proofs.text.write_text.Goals as goal
 
 pub weigh_rows-requires : goal.weigh_rows-requires
-weigh_rows-requires c = formed _ _ (sym c.judge.ensures ∙ c.in-Accepted.is)
+weigh_rows-requires c = formed _ _ (sym c.judge.ensures ∙ c.in-Ok.is)
 
 pub work_matter-requires : goal.work_matter-requires
-work_matter-requires c = formed _ _ (sym c.judge.ensures ∙ c.in-Accepted.is)
+work_matter-requires c = formed _ _ (sym c.judge.ensures ∙ c.in-Ok.is)
 
 pub put_accepted-requires : goal.put_accepted-requires
 put_accepted-requires c =
-    let f = formed c.args.bytes.now _ (sym c.judge.ensures ∙ c.in-Accepted.is) in
+    let f = formed c.args.bytes.now _ (sym c.judge.ensures ∙ c.in-Ok.is) in
     (subst (MatterMost (2 ^ 80)) (sym c.work_matter.ensures) (most_le (return_most c.args.bytes.now _ f) (lit≤ tt)), omega (arith, c.requires))
 
 pub put_refused-next-requires : goal.put_refused-next-requires
 put_refused-next-requires c =
-    omega (arith, c.requires, refused-short c.args.bytes.now (sym c.judge.ensures ∙ c.in-Refused.is))
+    omega (arith, c.requires, refused-short c.args.bytes.now (sym c.judge.ensures ∙ c.in-Err.is))
 
 pub put_reason-requires : goal.put_reason-requires
 put_reason-requires c =
-    omega (arith, c.requires, refused-short c.args.bytes.now (sym c.judge.ensures ∙ c.in-Refused.is), c.put_refused-next.ensures.place, c.put_refused-next.auto.out)
+    omega (arith, c.requires, refused-short c.args.bytes.now (sym c.judge.ensures ∙ c.in-Err.is), c.put_refused-next.ensures.place, c.put_refused-next.auto.out)
 
-pub returns-in-Accepted : goal.returns-in-Accepted
-returns-in-Accepted c =
-    let e : verdict_of c.args.bytes.now ≡ Accepted c.in-Accepted.c = sym c.judge.ensures ∙ c.in-Accepted.is in
+pub returns-in-Ok : goal.returns-in-Ok
+returns-in-Ok c =
+    let e : verdict_of c.args.bytes.now ≡ Ok c.in-Ok.c = sym c.judge.ensures ∙ c.in-Ok.is in
     let t = ap₂ (λ (x : Weights) (y : Matter). lines_text (weights_lines x ++ matter_lines y)) c.weigh_rows.ensures c.work_matter.ensures in
     (as_text (t ∙ sym (ap explained_text (accepted-explained c.args.bytes.now e))) c.put_accepted.ensures.0, c.put_accepted.ensures.1)
 
-pub returns-in-Refused : goal.returns-in-Refused
-returns-in-Refused c =
-    let e : verdict_of c.args.bytes.now ≡ Refused c.in-Refused.number c.in-Refused.place = sym c.judge.ensures ∙ c.in-Refused.is in (
-      as_text (ap (λ (x : Reason). refused_line c.in-Refused.number c.in-Refused.place ++ lines_text (value_lines x)) c.reason_of.ensures ∙ sym (refused-text c.args.bytes.now e)) (written-more c.put_refused-next.ensures c.put_reason.ensures.0),
+pub returns-in-Err : goal.returns-in-Err
+returns-in-Err c =
+    let e : verdict_of c.args.bytes.now ≡ Err c.in-Err.r = sym c.judge.ensures ∙ c.in-Err.is in (
+      as_text (ap (λ (x : Reason). refused_line c.in-Err.r.number c.in-Err.r.place ++ lines_text (value_lines x)) c.reason_of.ensures ∙ sym (refused-text c.args.bytes.now e)) (written-more c.put_refused-next.ensures c.put_reason.ensures.0),
       omega (arith, refused-short c.args.bytes.now e, c.put_refused-next.ensures.place, c.put_reason.ensures.1),
     )

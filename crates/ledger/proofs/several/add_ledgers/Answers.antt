@@ -5,12 +5,12 @@ pub returns : goal.returns
 unfolding plus
 returns c =
     λ i. record {
-      e = c.both.ensures i;
-      k = c.both_masses.ensures i;
-      l = c.both_masses-2.ensures i;
+      e = c.plus.ensures i;
+      k = c.plus-2.ensures i;
+      l = c.plus-3.ensures i;
       o = c.both_removed.ensures i;
-      onsite = c.both-2.ensures i;
-      offsite = c.both-3.ensures i;
-      decay = c.both-4.ensures i;
-      matter = c.add_matter.ensures i;
+      onsite = c.plus-4.ensures i;
+      offsite = c.plus-5.ensures i;
+      decay = c.plus-6.ensures i;
+      matter = c.plus-7.ensures i;
     }

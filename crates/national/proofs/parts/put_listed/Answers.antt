@@ -2,12 +2,11 @@ use native.Mathlib.Omega.{arith}
 use Rattle.decimal.proofs.DigitLaws.{written-more}
 use Rattle.phrases.proofs.Room.{ended-length}
 use Rattle.national.proofs.Pieces.{as_listed, listed-length}
-use borrow.Author.Rules.{rules}
 use Rattle.national.proofs.parts.put_listed.Goals as goal
 
 pub put-a-requires : goal.put-a-requires
 put-a-requires c =
-    (search rules, omega (arith, c.requires, listed-length c.args.position c.args.number c.args.place))
+    omega (arith, c.requires, listed-length c.args.position c.args.number c.args.place)
 
 pub put_value-b-requires : goal.put_value-b-requires
 put_value-b-requires c =

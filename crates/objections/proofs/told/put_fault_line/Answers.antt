@@ -24,7 +24,7 @@ put_word-c-requires c =
       c.put_value-b.auto.out,
       ended-length 32 c.plain.ensures.number,
       number_fits c.args.f.line h,
-      fault-fits c.args.f.fault,
+      fault-fits c.number.result,
     )
 
 pub put_byte-requires : goal.put_byte-requires
@@ -41,14 +41,14 @@ put_byte-requires c =
       number_fits c.args.f.line h,
       c.put_word-c.ensures.place,
       c.put_word-c.auto.out,
-      fault-fits c.args.f.fault,
+      fault-fits c.number.result,
     )
 
 pub returns : goal.returns
 returns c =
     let f = c.args.f in
     let h : f.line < 2 ^ 32 = search rules in (
-      as_text (fault-text f _ c.plain.ensures.number) (written-more (written-more (written-more c.put-a.ensures c.put_value-b.ensures) c.put_word-c.ensures) c.put_byte.ensures),
+      as_text (fault-text f c.plain.ensures.number c.number.ensures) (written-more (written-more (written-more c.put-a.ensures c.put_value-b.ensures) c.put_word-c.ensures) c.put_byte.ensures),
       omega (
         arith,
         c.put-a.ensures.place,
@@ -56,7 +56,7 @@ returns c =
         ended-length 32 c.plain.ensures.number,
         number_fits f.line h,
         c.put_word-c.ensures.place,
-        fault-fits f.fault,
+        fault-fits c.number.result,
         c.put_byte.ensures.place,
       ),
     )

@@ -17,8 +17,8 @@ put_one-a-requires c = search rules
 pub returns : goal.returns
 unfolding spaces
 returns c =
-    let f = c.args.f in (
-      as_text (word-text (number_line (codes "field") f.field ∷ []) (codes "field_name") (field_name f.kind f.field))
-          (written-more (written-more (written-more (as_text (one_text (codes "field") f.field refl) c.put_one-a.ensures.0) c.put-b.ensures) c.put_field_name-c.ensures.0) c.put_byte.ensures),
+    let a = c.args in (
+      as_text (word-text (number_line (codes "field") a.field ∷ []) (codes "field_name") (field_name a.kind a.field))
+          (written-more (written-more (written-more (as_text (one_text (codes "field") a.field refl) c.put_one-a.ensures.0) c.put-b.ensures) c.put_field_name-c.ensures.0) c.put_byte.ensures),
       omega (arith, c.put_one-a.ensures.1, c.put-b.ensures.place, c.put_field_name-c.ensures.1, c.put_byte.ensures.place),
     )

@@ -1,4 +1,3 @@
-use mathlib.Core.List.{◌∷◌}
 use Rattle.decimal.proofs.DigitLaws.{written-more}
 use Rattle.phrases.proofs.text.put_value.Goals as goal
 

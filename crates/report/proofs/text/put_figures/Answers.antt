@@ -1,11 +1,9 @@
-use Prim.Native.Nat.{◌≤◌}
-use mathlib.Core.Path.{refl}
+use mathlib.Core.Path.{ap}
 use mathlib.Core.List.{flat_map}
 use lib.ListN.{length}
 use Rattle.listed.specs.Listed.{listed}
-use Rattle.listed.proofs.Laws.{full}
-use Rattle.report.specs.Lines.{lines_of, lines_room}
-use Rattle.report.proofs.Filled.{names_few, lines_fit, lines-written}
+use Rattle.phrases.proofs.LineTexts.{as_text}
+use Rattle.report.proofs.Filled.{names_few, as_lines}
 use Rattle.report.proofs.Short.{lines-short}
 use native.Mathlib.Omega.{arith}
 use Rattle.report.proofs.text.put_figures.Goals as goal
@@ -14,10 +12,11 @@ pub put_lines-requires : goal.put_lines-requires
 unfolding flat_map listed
 put_lines-requires c =
     let f = c.args.f in
-    let e = full f refl c.put_numbers.ensures.written_at in
-    (names_few f _ e, lines_fit f _ e (omega (arith, (let short' : length (lines_of c.args.f) ≤ lines_room = lines-short c.args.f c.put_numbers.ensures.all_two_words in short'), c.requires)))
+    let e = c.list-values.ensures.value in
+    record { enough = names_few f e; room = omega (arith, c.requires, lines-short f c.list-values.ensures.two_words, ap length (as_lines f e)) }
 
 pub returns : goal.returns
 unfolding flat_map listed
 returns c =
-    record { written_at = lines-written c.args.f _ (full c.args.f refl c.put_numbers.ensures.written_at) c.put_lines.ensures; f_len_bound = (let short' : length (lines_of c.args.f) ≤ lines_room = lines-short c.args.f c.put_numbers.ensures.all_two_words in short') }
+    let f = c.args.f in
+    record { written_at = as_text (as_lines f c.list-values.ensures.value) c.put_lines.ensures; f_len_bound = lines-short f c.list-values.ensures.two_words }

@@ -1,6 +1,5 @@
-use Prim.Native.Nat.{◌+◌, ◌-◌, ◌*◌, ◌≤◌}
+use Prim.Native.Nat.{◌+◌, ◌*◌, ◌≤◌}
 use mathlib.Core.Path.{◌≡◌}
-use mathlib.Core.List.{◌∷◌, ◌++◌}
 use lib.ListN.{length}
 use Rattle.cells.specs.Lines.{ended}
 use Rattle.decimal.specs.Digits.{WrittenAt}
@@ -11,6 +10,3 @@ use Rattle.unpacked.proofs.print.put_rows.Given as goal
 abbrev pub invariant-loop-i : goal.invariant-loop-i
 invariant-loop-i l =
     (l.i ≤ l.n) × (length l.out ≡ length l.initial.out) × WrittenAt (ended (row_lines_to l.kind l.rows l.i)) l.initial.out l.out l.at l.to × (l.to ≤ l.at + row_room l.kind * l.i)
-
-abbrev pub decreases-loop-i : goal.decreases-loop-i
-decreases-loop-i l = l.n - l.i
