@@ -1,14 +1,16 @@
 -- First lines that the checker reads. Assumes nothing.
 use Prim.Native.String.{String}
-use Rattle.std.specs.Prelude.{◌≡◌, refl, Result, Err}
+use Rattle.std.specs.Prelude.{ℕ, ◌≡◌, refl, Result, Err}
 use Rattle.phrases.specs.Ascii.{codes}
 use Rattle.cells.specs.Lines.{last_of}
 use Rattle.cells.specs.Cells.{fields_of, blank_in, front_off, end_off, quotes_off, up_to_last, small, same_word}
 use Rattle.numerals.specs.Numerals.{is_digit, is_mark, digits_in, with_digits, is_number, unless_large, read_parts, read_number}
-use Rattle.heads.specs.Heads.{fault, edition_by, behind_edition, separator_at, separator_in, head_of}
+use Rattle.heads.specs.Heads.{fault, fault_number, edition_by, behind_edition, separator_at, separator_in, head_of}
 use Rattle.heads.specs.declared.Head.{Head}
 use Rattle.heads.specs.declared.TextFault.{TextFault}
 use Rattle.heads.specs.declared.Fault.TheVariants as F
+use Rattle.rowtext.specs.declared.FieldFault.TheVariants as Field
+use Rattle.numerals.specs.declared.NumberFault.TheVariants.{NoNumber, ManyDecimals, Large}
 
 -- a line of ASCII as the first that counts, in line 7
 unfoldable read : String → Result Head TextFault
@@ -70,3 +72,16 @@ two_fields = refl
 empty_fields : read "edition,2,," ≡ edition_by 2 44
 unfolding read
 empty_fields = refl
+
+-- each fault by its number, in the order of the words: with these the examples of a row and of a text say the number of each fault too
+of_the_text : (fault_number F.Long ≡ 1) × (fault_number F.Edition ≡ 2)
+of_the_text = (refl, refl)
+
+of_a_line : (due found : ℕ) → (fault_number F.Kind ≡ 3) × (fault_number F.Order ≡ 4) × (fault_number F.Rows ≡ 5) × (fault_number (F.Fields due found) ≡ 6)
+of_a_line due found = (refl, refl, refl, refl)
+
+of_a_field : (kind field : ℕ) → (fault_number (F.Cell kind field Field.Unit) ≡ 7)
+    × (fault_number (F.Cell kind field (Field.Number NoNumber)) ≡ 8)
+    × (fault_number (F.Cell kind field (Field.Number ManyDecimals)) ≡ 9)
+    × (fault_number (F.Cell kind field (Field.Number Large)) ≡ 10)
+of_a_field kind field = (refl, refl, refl, refl)

@@ -1,4 +1,5 @@
 -- Text put into room, byte by byte and part by part. Assumes nothing.
+--     put_more             one byte more of a text
 --     as_refused           the parts of a refusal's line, one after the other, are the line; refused-length, ended-length: how long
 --     straight_out         a text that fits, written to the room itself: what `put_of` and `text_after` say
 --     short_out, put_out   a text that stands elsewhere: the room is too short, or it was put there; elsewhere_out, from room of our own
@@ -8,17 +9,26 @@ use mathlib.Core.Path.{◌≡◌, refl, sym, ap, subst, ◌∙◌}
 use mathlib.Core.Bool.{Bool, true, false, cond}
 use mathlib.Core.List.{List, [], ◌∷◌, ◌++◌, append_assoc}
 use native.Mathlib.Nat.{zero-add}
+use native.Mathlib.Numerals.{add-one}
 use native.Mathlib.Omega.{arith}
 use borrow.Author.Tests.{lt-ltb, le-ltb, ltb-false}
 use lib.Dec.{ltb}
-use lib.ListN.{length, take, drop, length-append}
-use lib.Seq.{sets, take_at, sets-eq}
+use lib.ListN.{length, take, drop, set, get_or, length-append}
+use lib.Seq.{sets, take-suc, take_at, length-take-le, sets-eq}
 use lib.IntN.{ℤ, pos}
 use Rattle.std.proofs.Common.{Option, Some, None}
 use Rattle.decimal.specs.Digits.{decimal, WrittenAt}
+use Rattle.decimal.proofs.DigitLaws.{sets_append}
 use Rattle.phrases.specs.Ascii.{codes}
 use Rattle.phrases.specs.Lines.{ended_by, refused_line}
 use Rattle.phrases.specs.Room.{put_of, text_after}
+
+pub put_more : (d text : List ℕ) (at i : ℕ) → i < length text → set (sets d at (take i text)) (at + i) (get_or text i 0) ≡ sets d at (take (i + 1) text)
+put_more d text at i l =
+    let n : length (take i text) ≡ i = length-take-le i text (omega arith) in
+    sym (ap (λ (x : List ℕ). sets d at x) (ap (λ (k : ℕ). take k text) (add-one i) ∙ take-suc text i 0 l)
+    ∙ sets_append d at (take i text) (get_or text i 0 ∷ [])
+    ∙ ap (λ (k : ℕ). set (sets d at (take i text)) (at + k) (get_or text i 0)) n)
 
 -- "refused ", the number, a space, the place and a line feed
 pub as_refused : (n p : ℕ) (y z : ℤ) {d e : List ℕ} {i j : ℕ} → y ≡ pos n → z ≡ pos p

@@ -72,7 +72,7 @@ pub fn put_word(words: &[&[u8]], i: usize, out: &mut [u8], at: usize) -> usize
 }
 
 // A text at the front of the room, and its length; or none, and the room as it was, where it is shorter.
-fn put_short(text: &[u8], room: &mut [u8]) -> Option<usize>
+pub fn put_short(text: &[u8], room: &mut [u8]) -> Option<usize>
     ensures value { result ≡ put_of text.now room.old }
     ensures room_after { room.new ≡ text_after text.now room.old result }
 {

@@ -1,6 +1,5 @@
 // Parts of a text, each to a place in room that is known to be long enough.
-ghost use Rattle.std.specs.Prelude.{◌≡◌, ◌+◌, ◌≤◌, ◌<◌, [], ◌∷◌, length, pos};
-ghost use Rattle.wide.specs.Numbers.{value};
+ghost use Rattle.std.specs.Prelude.{◌≡◌, ◌+◌, ◌≤◌, ◌<◌, false, [], ◌∷◌, length, pos};
 ghost use Rattle.wide.specs.Signs.{amount, Canonical, Holds};
 ghost use Rattle.decimal.specs.Digits.{WrittenAt};
 ghost use Rattle.phrases.specs.Lines.{ended_by};
@@ -14,9 +13,10 @@ pub fn put(text: &[u8], out: &mut [u8], at: usize) -> usize
     requires { at + length text.now ≤ length out.old }
     ensures { WrittenAt text.now out.old out.new at result }
 {
-    let next = at + text.len();
-    out[at..next].copy_from_slice(text);
-    next
+    for i in 0..text.len() {
+        out[at + i] = text[i];
+    }
+    at + text.len()
 }
 
 pub fn put_byte(b: u8, out: &mut [u8], at: usize) -> usize
@@ -38,7 +38,7 @@ pub fn put_value(z: Signed, end: u8, out: &mut [u8], at: usize) -> usize
 
 // A size, as a value that is not below zero.
 pub fn whole(size: Wide) -> Signed
-    ensures { amount result ≡ pos (value size) }
+    ensures { result ≡ record { below = false; size = size } }
 {
     Signed { below: false, size }
 }

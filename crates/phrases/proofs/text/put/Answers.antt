@@ -1,14 +1,15 @@
-use Prim.Native.Nat.{ℕ, ◌+◌, ◌≤◌}
-use mathlib.Core.Path.{◌≡◌, refl}
-use mathlib.Core.List.{List, append_assoc}
-use lib.ListN.{length}
-use lib.Seq.{sets, sets-eq, drop-drop}
+use Prim.Native.Nat.{ℕ, ◌+◌}
+use mathlib.Core.Path.{ap, ◌∙◌}
+use mathlib.Core.List.{List}
+use lib.ListN.{set, get_or, length-set}
+use Rattle.phrases.proofs.Room.{put_more}
 use native.Mathlib.Omega.{arith}
-use borrow.Rule.Slice.PartMut.{put_mid}
 use Rattle.phrases.proofs.text.put.Goals as goal
 
-mid_is : (d t ys : List ℕ) (at k : ℕ) → ys ≡ t → k ≡ length t → at + length t ≤ length d → put_mid at k d ys ≡ sets d at t
-mid_is d t ys at k e f l = rw (e, f, sets-eq t d at l, append_assoc, drop-drop) refl
-
-pub returns : goal.returns
-returns c = record { room = mid_is _ _ _ _ _ c.copy_from_slice.ensures.after (omega arith) c.requires; place = refl }
+pub loop-i-preserved : goal.loop-i-preserved
+loop-i-preserved c =
+    let l = c.loop-i in
+    let a = c.args in (
+      simp length-set l.invariant.0,
+      ap (λ (x : List ℕ). set x (a.at + l.i) (get_or a.text.now l.i 0)) l.invariant.1 ∙ put_more a.out.now a.text.now a.at l.i (omega arith),
+    )
